@@ -1,0 +1,67 @@
+//! Lists that contracts see as lists, whatever room they have.
+ghost use Rattle.std.specs.Prelude.{◌≡◌, []};
+
+use crate::{Moment, Text};
+use std::alloc::Global;
+use std::marker::Model;
+
+/// A list, seen by contracts as the list of its items: its room is no part of it.
+#[derive(Drop)]
+pub struct ListOf<T> {
+    items: Vec<T>,
+}
+
+impl<T> Model for ListOf<T> {
+    ghost use Rattle.std.specs.Prelude.{List};
+
+    ghost Value = { List T };
+
+    ghost view = { λ a. a.items.items };
+}
+
+impl<T> ListOf<T> {
+    /// The empty list, which takes no memory.
+    pub fn new(alloc: Global) -> Self
+        ensures { result ≡ [] }
+    {
+        ListOf {
+            items: Vec::new(alloc),
+        }
+    }
+
+    /// The list of these items; it takes no memory.
+    pub fn from_vec(items: Vec<T>) -> Self
+        ensures { result ≡ items.items }
+    {
+        ListOf { items }
+    }
+
+    /// The items back; it takes no memory.
+    pub fn into_vec(self) -> Vec<T>
+        ensures { result.items ≡ self }
+    {
+        self.items
+    }
+
+    /// The items.
+    pub fn as_slice(&self) -> &[T]
+        ensures { result.now ≡ self.now }
+    {
+        self.items.as_slice()
+    }
+}
+
+/// Bytes.
+pub type Bytes = ListOf<u8>;
+
+/// Texts.
+pub type TextList = ListOf<Text>;
+
+/// Numbers of jobs, reservations or other things.
+pub type IdList = ListOf<u64>;
+
+/// Places in an order, as those of calls that are to fail.
+pub type PlaceList = ListOf<u64>;
+
+/// Moments.
+pub type MomentList = ListOf<Moment>;
