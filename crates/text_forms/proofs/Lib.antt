@@ -1,0 +1,4 @@
+pub mod Units
+pub mod WordLemmas
+pub mod Spaced
+pub mod Lines

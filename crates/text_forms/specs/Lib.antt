@@ -1,0 +1,4 @@
+pub mod Lexical
+pub mod Reading
+pub mod Lexemes
+pub mod Names

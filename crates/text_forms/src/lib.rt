@@ -1,0 +1,11 @@
+//! The lexical rules that scripts and journals share, each stated once for reading and for printing.
+#![tactic(auto)]
+
+mod escapes;
+mod numbers;
+mod texts;
+mod words;
+
+pub use numbers::{is_name, number};
+pub use texts::text_at;
+pub use words::{Lexeme, lexemes, one_spelling};
