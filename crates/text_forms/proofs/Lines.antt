@@ -18,6 +18,13 @@ no_unit_quote a x more e = none-some _ (ap unit_at e ∙ unit_again x more)
 same_tail : (x y : ℕ) (xs ys : List ℕ) → x ∷ xs ≡ y ∷ ys → xs ≡ ys
 same_tail x y xs ys e = cc
 
+-- no text in its quotes is the beginning of another
+pub one_quoted : (t u a b : List ℕ) → quoted t ++ a ≡ quoted u ++ b → (t ≡ u) × (a ≡ b)
+one_quoted t u a b e =
+    let inside : (flat_map escaped t ++ 34 ∷ []) ++ a ≡ (flat_map escaped u ++ 34 ∷ []) ++ b = same_tail 34 34 _ _ e in
+    let same = one_text t u (34 ∷ a) b (sym (append_assoc (flat_map escaped t) (34 ∷ []) a) ∙ inside ∙ append_assoc (flat_map escaped u) (34 ∷ []) b) (no_unit_quote a) in
+    (same.0, same_tail 34 34 a b same.1)
+
 -- no lexeme is the beginning of another, up to such ends
 pub one_lexeme : (x y : Lexeme) (a b : List ℕ) → IsLexeme x → IsLexeme y → Ends x a → Ends y b → lexeme_text x ++ a ≡ lexeme_text y ++ b → (x ≡ y) × (a ≡ b)
 one_lexeme (Word w) (Word v) a b p q m n e =
@@ -29,10 +36,7 @@ one_lexeme (Word w) (Quoted t) a b p q m n e =
     absurd (true_false (sym (text_begins (w ++ a) t b (record { valid = q; text = e; ends = n })) ∙ word_begins (w ++ a) w a (record { valid = p; text = refl; ends = m })))
 one_lexeme (Quoted t) (Word v) a b p q m n e =
     absurd (true_false (sym (text_begins (quoted t ++ a) t a (record { valid = p; text = refl; ends = m })) ∙ word_begins (quoted t ++ a) v b (record { valid = q; text = e; ends = n })))
-one_lexeme (Quoted t) (Quoted u) a b p q m n e =
-    let inside : (flat_map escaped t ++ 34 ∷ []) ++ a ≡ (flat_map escaped u ++ 34 ∷ []) ++ b = same_tail 34 34 _ _ e in
-    let same = one_text t u (34 ∷ a) b (sym (append_assoc (flat_map escaped t) (34 ∷ []) a) ∙ inside ∙ append_assoc (flat_map escaped u) (34 ∷ []) b) (no_unit_quote a) in
-    (ap Quoted same.0, same_tail 34 34 a b same.1)
+one_lexeme (Quoted t) (Quoted u) a b p q m n e = let same = one_quoted t u a b e in (ap Quoted same.0, same.1)
 
 -- what stands behind the first lexeme of a line
 abbrev pub line_tail : List Lexeme → List ℕ

@@ -15,7 +15,7 @@ fn hex_value(digit: u8) -> Option<u8>
 }
 
 /// Whether a byte is a control character.
-fn is_control_byte(byte: u8) -> bool
+pub(crate) fn is_control_byte(byte: u8) -> bool
     ensures { result ≡ is_control byte }
 {
     byte < 32 || byte == 127
