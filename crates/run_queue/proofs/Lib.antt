@@ -1,0 +1,5 @@
+mod CountSearch
+mod CountPlaces
+mod InOrder
+mod ItemPlaces
+mod Firsts

@@ -1,0 +1,8 @@
+//! The machine's slots: which job holds how many of them, and how many are in use.
+#![tactic(auto)]
+
+mod pool;
+#[cfg(test)]
+mod tests;
+
+pub use pool::{Holding, Short, SlotPool};
