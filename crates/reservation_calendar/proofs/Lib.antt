@@ -1,0 +1,5 @@
+pub mod Ends
+pub mod LoadLaws
+pub mod Walks
+pub mod Keeping
+pub mod Edges
