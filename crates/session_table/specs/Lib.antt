@@ -1,0 +1,5 @@
+pub mod Sessions
+pub mod Tables
+pub mod NumberEntries
+pub mod NameEntries
+pub mod TableView

@@ -1,0 +1,12 @@
+//! The sessions of a scheduler: named sessions in order of their creation, and the session numbers
+//! that stand for them.
+#![tactic(auto)]
+
+mod kinds;
+mod names;
+mod numbers;
+mod table;
+#[cfg(test)]
+mod tests;
+
+pub use table::SessionTable;
