@@ -1,0 +1,5 @@
+use Rattle.turn_lock.specs.Tokens.{IsFree}
+use Rattle.turn_lock.proofs.tests.thousand.Given as goal
+
+abbrev pub invariant-loop-ask : goal.invariant-loop-ask
+invariant-loop-ask g l = IsFree l.lock l.pass
