@@ -1,0 +1,4 @@
+pub mod Priorities
+pub mod RowSteps
+pub mod Serving
+pub mod StepsMade
