@@ -1,0 +1,50 @@
+//! The program `drmaa`: plays a script of clients, and writes the journal of what they were answered.
+#![tactic(auto)]
+
+use byte_streams::{StdSink, StdSource};
+use drmaa_types::{Text, TextList};
+use std::alloc::{AllocError, Global};
+use std::process::ExitCode;
+use std::{env, io};
+
+mod commands;
+mod status;
+#[cfg(test)]
+mod tests;
+
+pub use commands::run;
+pub use status::Status;
+
+/// The words behind the program's name.
+fn words(rt: &HostRuntime) -> Result<TextList, io::Error> {
+    let mut words = Vec::new(rt.alloc());
+    for word in env::args(rt)?.skip(1) {
+        words.push(Text::from_string(word))?;
+    }
+    Ok(TextList::from_vec(words))
+}
+
+/// The status where the words could not be taken: one that is not UTF-8 is part of no command.
+fn word_status(error: &io::Error) -> Status {
+    if error.kind() == io::ErrorKind::OutOfMemory {
+        Status::Memory
+    } else {
+        Status::Words
+    }
+}
+
+fn main(rt: HostRuntime) -> ExitCode {
+    let status = match words(&rt) {
+        Ok(words) => {
+            let mut source = StdSource::new(rt.stdin());
+            let mut sink = StdSink::new(rt.stdout());
+            run(rt.alloc(), &words, &mut source, &mut sink)
+        }
+        Err(error) => word_status(&error),
+    };
+    if status != Status::Done {
+        // Where standard error takes nothing, the number alone has to tell.
+        let _ = eprintln!(rt; "drmaa: {status}");
+    }
+    ExitCode::from(status.number())
+}
