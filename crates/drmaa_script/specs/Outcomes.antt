@@ -1,5 +1,5 @@
 -- What a run of the program comes to: our profile.
-use Rattle.std.specs.Prelude.{◌≡◌, ℕ, List, [], ◌∷◌, codes, Option, Result, Ok, Err}
+use Rattle.std.specs.Prelude.{◌≡◌, ℕ, List, [], ◌∷◌, ◌++◌, codes, decimal, Option, Result, Ok, Err}
 use Rattle.std.specs.Io.KnownBytes.{Appends}
 use Rattle.byte_streams.specs.Streams.{AppendsFront}
 use Rattle.drmaa_model.specs.declared.configs.Config.{Config}
@@ -82,6 +82,15 @@ status_number Words = 2
 status_number ReadFault = 3
 status_number WriteFault = 4
 status_number Memory = 5
+
+-- what is said of a status
+abbrev pub status_text : Status → List ℕ
+status_text Done = codes "done"
+status_text (Text line) = codes "line " ++ decimal line ++ codes " is not in the grammar"
+status_text Words = codes "unknown words"
+status_text ReadFault = codes "reading failed"
+status_text WriteFault = codes "writing failed"
+status_text Memory = codes "out of memory"
 
 -- why a script was not read
 abbrev pub IsReadStatus : Status → Type 0

@@ -39,7 +39,12 @@ impl Status {
 }
 
 impl fmt::Display for Status {
-    fn fmt<W: fmt::Write>(&self, f: &mut fmt::Formatter<W>) -> fmt::Result {
+    ghost use Rattle.std.specs.Fmt.{WritesOnOk};
+    ghost use Rattle.drmaa_script.specs.Outcomes.{status_text};
+
+    fn fmt<W: fmt::Write>(&self, f: &mut fmt::Formatter<W>) -> fmt::Result
+        ensures { WritesOnOk W.write_str_gives f.old result (status_text self.now) f.new }
+    {
         match self {
             Status::Done => write!(f, "done"),
             Status::Text { line } => write!(f, "line {line} is not in the grammar"),
