@@ -27,13 +27,13 @@ IsScriptText bytes script = IsTextOf Spells byte_limit bytes script
 abbrev pub journal_of : Script → List ℕ
 journal_of script = journal_text script.config (serial_play script)
 
--- no other journal has the text of this script's play
+-- no other writable journal has the text of this script's play
 abbrev pub IsOneJournal : Script → Type 0
 IsOneJournal script =
     (config : Config) (entries : List Entry) → IsWritable config entries → journal_text config entries ≡ journal_of script →
     (config ≡ script.config) × (entries ≡ serial_play script)
 
--- The bytes spell a script, and the journal of its play was written. It can be read back, as this play alone.
+-- The bytes spell a script, and the journal of its play was written. It is writable, and no other writable journal has its text.
 pub record WritesJournal (bytes : List ℕ) (old new : Option (List ℕ)) : Type 0 where
   pub script : Script
   pub spelled : IsScriptText bytes script

@@ -37,7 +37,7 @@ fn is_serial(words: &TextList) -> bool
     }
 }
 
-/// The journal of a script's play. It can be read back, as this play alone.
+/// The journal of a script's play. It is writable, and no other writable journal has its text.
 fn play_journal(alloc: Global, script: Script) -> Result<Vec<u8>, AllocError>
     requires { IsScript script }
     ensures text { IfOk result (λ journal. journal.items ≡ journal_of script) }
