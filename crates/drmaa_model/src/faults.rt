@@ -6,8 +6,12 @@ use std::alloc::AllocError;
 pub enum NoEntry {
     /// Memory ran out.
     OutOfMemory,
-    /// There is no job to launch.
+    /// No listed job has reached the state, and the timeout is not over.
+    NotYet,
+    /// There is no job to launch, or no signal to send.
     Nothing,
+    /// The journal would have this size, which is above the greatest.
+    Journal { size: u64 },
 }
 
 impl From<AllocError> for NoEntry {

@@ -1,17 +1,8 @@
 //! What a machine answers.
-use drmaa_types::{JobId, JobState, Refusal, SessionId, TextList};
-
-/// The answer to a call. A refusal is an answer too, and stands in the history.
-#[derive(Drop)]
-pub enum Reply {
-    Session(SessionId),
-    Job(JobId),
-    Launch(Launch),
-    /// The call was served and has nothing to tell.
-    Unit,
-    State(JobState),
-    Refused(Refusal),
-}
+use drmaa_types::{
+    ArrayId, IdList, InfoList, JobId, JobInfo, JobState, MachineInfo, Refusal, ReservationInfo,
+    ReservationList, Reserved, SessionId, SignalKind, TextList,
+};
 
 /// A job that is to be started.
 #[derive(Drop)]
@@ -23,4 +14,53 @@ pub struct Launch {
     pub slots: u32,
     /// The words that start it.
     pub words: TextList,
+}
+
+/// A signal that is to be sent to the process of a job's last launch.
+#[derive(Clone, Copy, Debug, PartialEq, Eq)]
+pub struct Signal {
+    pub job: JobId,
+    pub attempt: u32,
+    pub kind: SignalKind,
+}
+
+/// What was submitted: one job, or the members of an array, whose numbers follow one another.
+#[derive(Clone, Copy, Debug, PartialEq, Eq)]
+pub struct Submitted {
+    pub array: Option<ArrayId>,
+    pub first: JobId,
+    pub count: u32,
+}
+
+/// The answer to a call. A refusal is an answer too, and stands in the history.
+#[derive(Drop)]
+pub enum Reply {
+    /// The call was served and has nothing to tell.
+    Unit,
+    Session(SessionId),
+    Names(TextList),
+    Job(JobId),
+    Array {
+        array: ArrayId,
+        first: JobId,
+        count: u32,
+    },
+    /// Jobs, by number.
+    Jobs(IdList),
+    State(JobState),
+    Info(JobInfo),
+    /// The first listed job that has reached the state.
+    Reached(JobId),
+    Reserved(Reserved),
+    Reservation(ReservationInfo),
+    /// Reservations, by number.
+    Reservations(IdList),
+    Infos(InfoList),
+    ReservationInfos(ReservationList),
+    Machine(MachineInfo),
+    /// The number of a callback, from 1.
+    Callback(u32),
+    Launch(Launch),
+    Signal(Signal),
+    Refused(Refusal),
 }

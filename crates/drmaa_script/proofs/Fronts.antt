@@ -3,13 +3,13 @@ use Rattle.std.proofs.Common.{◌≡◌, ℕ, ◌<◌, ◌≤◌, nat_le, Bool, 
 use Rattle.std.proofs.lemmas.Bool.Decides.{nat_tests}
 use Rattle.std.proofs.lemmas.List.{take_all}
 use Rattle.byte_streams.specs.Streams.{ReadsUpTo}
-use Rattle.script_text.specs.declared.faults.TextFault.{TextFault}
-use Rattle.script_text.specs.declared.faults.TextFault.TheVariants as fault
-use Rattle.script_text.specs.declared.scripts.Script.{Script}
+use Rattle.first_script.specs.declared.faults.TextFault.{TextFault}
+use Rattle.first_script.specs.declared.faults.TextFault.TheVariants as fault
+use Rattle.first_script.specs.declared.scripts.Script.{Script}
 use Rattle.drmaa_script.specs.declared.status.Status.{Status}
 use Rattle.drmaa_script.specs.declared.status.Status.TheVariants.{Text}
 use Rattle.drmaa_script.specs.Outcomes.{status_of, IsNoLine}
-use Rattle.script_text.specs.Grammar.{IsFront, byte_limit}
+use Rattle.first_script.specs.Grammar.{IsFront, byte_limit}
 
 is_within : (n limit : ℕ) → n ≤ limit → true ≡ nat_le n limit
 is_within n limit h = grind (arith, nat_tests)

@@ -7,29 +7,29 @@ use Rattle.std.proofs.lemmas.Bool.Decides.{nat_tests}
 use Rattle.drmaa_types.specs.declared.refusals.Refusal.{Refusal}
 use Rattle.drmaa_types.specs.declared.refusals.Refusal.TheVariants.{InvalidArgument, InvalidSession, InvalidState}
 use Rattle.drmaa_types.specs.declared.refusals.Which.TheVariants as which
-use Rattle.drmaa_model.specs.declared.calls.Call.{Call}
-use Rattle.drmaa_model.specs.declared.calls.Call.TheVariants.{CreateJobSession, RunJob, TakeLaunch, Exited, GetState}
-use Rattle.drmaa_model.specs.declared.replies.Reply.{Reply}
-use Rattle.drmaa_model.specs.declared.replies.Reply.TheVariants as reply
-use Rattle.drmaa_model.specs.Refusals.{first_refusal, refusal, is_job_session, is_at_home, home_of, may_exit, may_report}
-use Rattle.drmaa_model.specs.RowLaws.{all-push}
-use Rattle.drmaa_model.specs.Rows.{row_of, state_of}
-use Rattle.drmaa_model.specs.StepLaws.{refused-answer, kept-same}
-use Rattle.drmaa_model.specs.Steps.{StepAnswer, gives, nothing, not_yet, answer_now, answer, kept}
-use Rattle.drmaa_model.specs.Time.{advance}
-use Rattle.drmaa_model.specs.World.{World}
-use Rattle.journal_text.specs.Pieces.{IsSpelled}
-use Rattle.journal_text.specs.Journal.{journal_pieces}
-use Rattle.journal_text.specs.Writable.{refusal_stands, reply_stands, IsWritableEntry, IsWritable, greatest_journal}
-use Rattle.script_text.specs.declared.forms.Form.TheVariants.{Machine}
-use Rattle.script_text.specs.declared.plays.Asked.{Asked}
-use Rattle.script_text.specs.declared.plays.Crew.{Crew}
-use Rattle.script_text.specs.declared.scripts.Line.{Line}
-use Rattle.script_text.specs.declared.scripts.NamedTemplate.{NamedTemplate}
-use Rattle.script_text.specs.declared.scripts.Script.{Script}
-use Rattle.script_text.specs.Forms.{is_form, is_short_text}
-use Rattle.script_text.specs.Play.{Playing, after_answer, asks, play_line, play_lines, crew_of, play_blocks, opening, serial_play}
-use Rattle.script_text.specs.Scripts.{template_forms, block_forms, IsScript}
+use Rattle.first_model.specs.declared.calls.Call.{Call}
+use Rattle.first_model.specs.declared.calls.Call.TheVariants.{CreateJobSession, RunJob, TakeLaunch, Exited, GetState}
+use Rattle.first_model.specs.declared.replies.Reply.{Reply}
+use Rattle.first_model.specs.declared.replies.Reply.TheVariants as reply
+use Rattle.first_model.specs.Refusals.{first_refusal, refusal, is_job_session, is_at_home, home_of, may_exit, may_report}
+use Rattle.first_model.specs.RowLaws.{all-push}
+use Rattle.first_model.specs.Rows.{row_of, state_of}
+use Rattle.first_model.specs.StepLaws.{refused-answer, kept-same}
+use Rattle.first_model.specs.Steps.{StepAnswer, gives, nothing, not_yet, answer_now, answer, kept}
+use Rattle.first_model.specs.Time.{advance}
+use Rattle.first_model.specs.World.{World}
+use Rattle.first_journal.specs.Pieces.{IsSpelled}
+use Rattle.first_journal.specs.Journal.{journal_pieces}
+use Rattle.first_journal.specs.Writable.{refusal_stands, reply_stands, IsWritableEntry, IsWritable, greatest_journal}
+use Rattle.first_script.specs.declared.forms.Form.TheVariants.{Machine}
+use Rattle.first_script.specs.declared.plays.Asked.{Asked}
+use Rattle.first_script.specs.declared.plays.Crew.{Crew}
+use Rattle.first_script.specs.declared.scripts.Line.{Line}
+use Rattle.first_script.specs.declared.scripts.NamedTemplate.{NamedTemplate}
+use Rattle.first_script.specs.declared.scripts.Script.{Script}
+use Rattle.first_script.specs.Forms.{is_form, is_short_text}
+use Rattle.first_script.specs.Play.{Playing, after_answer, asks, play_line, play_lines, crew_of, play_blocks, opening, serial_play}
+use Rattle.first_script.specs.Scripts.{template_forms, block_forms, IsScript}
 
 -- where all refusals of a table may stand in a journal, the first one may
 first_stands : (rows : List (Bool × Refusal)) (why : Refusal) → list_all (λ (row : Bool × Refusal). refusal_stands row.1) rows ≡ true → first_refusal rows ≡ Some why → refusal_stands why ≡ true

@@ -2,16 +2,16 @@
 use Rattle.std.specs.Prelude.{◌≡◌, ℕ, List, [], ◌∷◌, ◌++◌, codes, decimal, Option, Result, Ok, Err}
 use Rattle.std.specs.Io.KnownBytes.{Appends}
 use Rattle.byte_streams.specs.Streams.{AppendsFront}
-use Rattle.drmaa_model.specs.declared.configs.Config.{Config}
-use Rattle.drmaa_model.specs.declared.entries.Entry.{Entry}
-use Rattle.journal_text.specs.Journal.{journal_text}
-use Rattle.journal_text.specs.Writable.{IsWritable}
-use Rattle.script_text.specs.declared.faults.TextFault.{TextFault}
-use Rattle.script_text.specs.declared.faults.TextFault.TheVariants as fault
-use Rattle.script_text.specs.declared.scripts.Script.{Script}
-use Rattle.script_text.specs.Grammar.{IsTextOf, byte_limit}
-use Rattle.script_text.specs.Play.{serial_play}
-use Rattle.script_text.specs.Scripts.{Spells}
+use Rattle.first_model.specs.declared.configs.Config.{Config}
+use Rattle.first_model.specs.declared.entries.Entry.{Entry}
+use Rattle.first_journal.specs.Journal.{first_journal}
+use Rattle.first_journal.specs.Writable.{IsWritable}
+use Rattle.first_script.specs.declared.faults.TextFault.{TextFault}
+use Rattle.first_script.specs.declared.faults.TextFault.TheVariants as fault
+use Rattle.first_script.specs.declared.scripts.Script.{Script}
+use Rattle.first_script.specs.Grammar.{IsTextOf, byte_limit}
+use Rattle.first_script.specs.Play.{serial_play}
+use Rattle.first_script.specs.Scripts.{Spells}
 use Rattle.drmaa_script.specs.declared.status.Status.{Status}
 use Rattle.drmaa_script.specs.declared.status.Status.TheVariants.{Done, Text, Words, ReadFault, WriteFault, Memory}
 
@@ -25,12 +25,12 @@ IsScriptText bytes script = IsTextOf Spells byte_limit bytes script
 
 -- the journal of a script's play
 abbrev pub journal_of : Script → List ℕ
-journal_of script = journal_text script.config (serial_play script)
+journal_of script = first_journal script.config (serial_play script)
 
 -- no other writable journal has the text of this script's play
 abbrev pub IsOneJournal : Script → Type 0
 IsOneJournal script =
-    (config : Config) (entries : List Entry) → IsWritable config entries → journal_text config entries ≡ journal_of script →
+    (config : Config) (entries : List Entry) → IsWritable config entries → first_journal config entries ≡ journal_of script →
     (config ≡ script.config) × (entries ≡ serial_play script)
 
 -- The bytes spell a script, and the journal of its play was written. It is writable, and no other writable journal has its text.

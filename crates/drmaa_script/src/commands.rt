@@ -2,19 +2,19 @@
 ghost use Rattle.std.specs.Prelude.{◌≡◌, ◌≢◌, ◌↔◌, ◌⊎◌, ℕ, List, take, IfSome, IfOk, IfErr, OnOk, IsTrue, Ok, Err, codes};
 ghost use Rattle.std.specs.Io.KnownBytes.{IsAtEnd};
 ghost use Rattle.byte_streams.specs.Streams.{Rose};
-ghost use Rattle.script_text.specs.Grammar.{IsFirstBad, byte_limit};
-ghost use Rattle.journal_text.specs.Writable.{IsWritable};
-ghost use Rattle.script_text.specs.Play.{serial_play};
-ghost use Rattle.script_text.specs.Scripts.{Spells, IsScript};
-ghost use Rattle.script_text.specs.declared.scripts.Script.{Script};
+ghost use Rattle.first_script.specs.Grammar.{IsFirstBad, byte_limit};
+ghost use Rattle.first_journal.specs.Writable.{IsWritable};
+ghost use Rattle.first_script.specs.Play.{serial_play};
+ghost use Rattle.first_script.specs.Scripts.{Spells, IsScript};
+ghost use Rattle.first_script.specs.declared.scripts.Script.{Script};
 ghost use Rattle.drmaa_script.specs.Outcomes.{serial_words, IsScriptText, journal_of, IsOneJournal, WritesJournal, WritesFront, IsQuiet, IsDone, IsRefused, IsReadStatus, IsReadAs, status_of};
 
 use crate::status::Status;
 use byte_streams::{Input, ReadError, Sink, Source, read_all, write_all};
 use drmaa_types::{Text, TextList};
-use journal_text::{journal_bytes, one_journal};
-use script_play::play;
-use script_text::{Mode, Script, TextFault, read_first};
+use first_journal::{journal_bytes, one_journal};
+use first_play::play;
+use first_script::{Mode, Script, TextFault, read_first};
 use std::alloc::{AllocError, Global};
 
 /// The greatest number of bytes of a script.

@@ -1,7 +1,7 @@
 //! The numbers that name a job, an array of jobs, a reservation, a session and a caller.
 
 /// The number of a job, from 1 in order of submission, never used again.
-#[derive(Clone, Copy, Debug, PartialEq, Eq, PartialOrd, Ord)]
+#[derive(Clone, Copy, Debug, Default, PartialEq, Eq, PartialOrd, Ord)]
 pub struct JobId(pub u64);
 
 /// The number of an array of jobs, from 1 in order of submission, never used again.

@@ -1,10 +1,13 @@
-//! The plain data that every crate above speaks of: identifiers, moments, texts, job states,
-//! refusals, clocks, and the trait of a value that keeps a history.
+//! The plain data that every crate above speaks of: identifiers, moments, texts, job states, infos,
+//! filters, refusals, clocks, and the trait of a value that keeps a history.
 #![tactic(auto)]
 
+mod capabilities;
 mod changes;
 mod chronicles;
+mod filters;
 mod identifiers;
+mod infos;
 mod lists;
 mod moments;
 mod readings;
@@ -15,10 +18,13 @@ mod states;
 mod tests;
 mod texts;
 
-pub use changes::{Change, Failed};
+pub use capabilities::{Capability, supports};
+pub use changes::{Change, ChangeBatch, Failed, Notification};
 pub use chronicles::{Chronicle, ChronicleEntry};
+pub use filters::JobFilter;
 pub use identifiers::{ArrayId, CallerId, JobId, ReservationId, SessionId};
-pub use lists::{Bytes, IdList, ListOf, MomentList, PlaceList, TextList};
+pub use infos::{InfoList, JobInfo, MachineInfo, ReservationInfo, ReservationList, Reserved};
+pub use lists::{AttributeList, Bytes, IdList, ListOf, MomentList, PlaceList, TextList};
 pub use moments::{End, Moment, Timeout};
 pub use readings::{Clock, Clocks, ListClock, StepClock};
 pub use refusals::{Attribute, Limit, Refusal, Which};

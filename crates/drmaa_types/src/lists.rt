@@ -1,7 +1,7 @@
 //! Lists that contracts see as lists, whatever room they have.
 ghost use Rattle.std.specs.Prelude.{◌≡◌, []};
 
-use crate::{Moment, Text};
+use crate::{Attribute, Moment, Text};
 use std::alloc::Global;
 use std::marker::Model;
 
@@ -62,6 +62,9 @@ pub type IdList = ListOf<u64>;
 
 /// Places in an order, as those of calls that are to fail.
 pub type PlaceList = ListOf<u64>;
+
+/// Attributes.
+pub type AttributeList = ListOf<Attribute>;
 
 /// Moments.
 pub type MomentList = ListOf<Moment>;

@@ -14,6 +14,12 @@ pub enum JobState {
     Failed,
 }
 
+impl Default for JobState {
+    fn default() -> JobState {
+        JobState::Undetermined
+    }
+}
+
 /// How a job ended: by its own exit code, or by a signal.
 #[derive(Clone, Copy, Debug, PartialEq, Eq)]
 pub enum Exit {

@@ -1,10 +1,9 @@
-//! What a job is submitted with, and the words that start it.
+//! What a job and a reservation are asked for with: their templates, what is wrong with one, and the words
+//! that start a job.
 #![tactic(auto)]
 
 mod templates;
-#[cfg(test)]
-mod tests;
-mod words;
 
-pub use templates::JobTemplate;
-pub use words::launch_words;
+pub use templates::{
+    Frame, JobTemplate, LimitList, Pair, PairList, ReservationTemplate, ResourceLimit, Start,
+};

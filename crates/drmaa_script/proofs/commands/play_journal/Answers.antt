@@ -1,10 +1,10 @@
 use Rattle.std.proofs.Common.{◌≡◌, ap, ◌∙◌, subst}
 use Rattle.std.proofs.lemmas.Result.{on_ok_weaker}
-use Rattle.drmaa_model.specs.History.{Ledger}
-use Rattle.journal_text.specs.Pieces.{IsSpelled}
-use Rattle.journal_text.specs.Journal.{journal_pieces}
-use Rattle.journal_text.specs.Writable.{IsWritable}
-use Rattle.script_text.specs.Play.{serial_play}
+use Rattle.first_model.specs.History.{Ledger}
+use Rattle.first_journal.specs.Pieces.{IsSpelled}
+use Rattle.first_journal.specs.Journal.{journal_pieces}
+use Rattle.first_journal.specs.Writable.{IsWritable}
+use Rattle.first_script.specs.Play.{serial_play}
 use Rattle.drmaa_script.proofs.Written.{play_is_writable}
 use Rattle.drmaa_script.proofs.commands.play_journal.Goals as goal
 

@@ -1,7 +1,7 @@
 use Rattle.std.proofs.Common.{◌≡◌, List, ℕ, Bool, sym, subst}
 use Rattle.std.proofs.lemmas.Option.{IfSome_then}
 use Rattle.byte_streams.specs.Streams.{ReadsUpTo}
-use Rattle.script_text.specs.Grammar.{IsFront, byte_limit}
+use Rattle.first_script.specs.Grammar.{IsFront, byte_limit}
 use Rattle.drmaa_script.proofs.Fronts.{front_of, read_as, no_line, refused_at}
 use Rattle.drmaa_script.proofs.commands.read_source.Goals as goal
 

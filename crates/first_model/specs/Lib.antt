@@ -1,0 +1,16 @@
+pub mod World
+pub mod Courses
+pub mod Rows
+pub mod Time
+pub mod Order
+pub mod Size
+pub mod Refusals
+pub mod Effects
+pub mod Steps
+pub mod History
+pub mod Consistent
+pub mod Examples
+pub mod RowLaws
+pub mod OrderLaws
+pub mod StepLaws
+pub mod HistoryLaws
