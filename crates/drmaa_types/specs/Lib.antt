@@ -4,4 +4,5 @@ pub mod Filters
 pub mod Moments
 pub mod Notifications
 pub mod Readings
+pub mod Refusals
 pub mod States

@@ -8,6 +8,7 @@ use Rattle.drmaa_types.specs.declared.sessions.SessionKind.{SessionKind}
 use Rattle.drmaa_types.specs.declared.sessions.SessionKind.TheVariants.{Jobs, Reservations, Monitoring}
 use Rattle.drmaa_types.specs.declared.refusals.Refusal.{Refusal}
 use Rattle.drmaa_types.specs.declared.refusals.Refusal.TheVariants.{InvalidArgument, InvalidSession, OutOfResource, OutOfMemory}
+use Rattle.drmaa_types.specs.Refusals.{first_refusal}
 use Rattle.drmaa_types.specs.declared.refusals.Which.TheVariants.{SessionName}
 use Rattle.drmaa_types.specs.declared.refusals.Limit.TheVariants.{Sessions as named_limit, OpenSessions as open_limit}
 
@@ -110,11 +111,6 @@ most_sessions = 1_000
 -- the most bytes of a name
 abbrev pub most_bytes : ℕ
 most_bytes = 255
-
--- the refusal of the first test that holds
-abbrev pub first_refusal : List (Bool × Refusal) → Option Refusal
-first_refusal [] = None
-first_refusal (t ∷ ts) = if t.0 then Some t.1 else first_refusal ts
 
 -- no session can be created under the name: it is empty, too long, or in use in its kind
 abbrev pub is_bad_name : SessionKind → Option (List ℕ) → List NamedSession → Bool

@@ -1,0 +1,55 @@
+-- What is wrong with a job template, in order: our profile.
+use Rattle.std.specs.Prelude.{ℕ, Bool, false, not, ◌&&◌, ◌||◌, ◌==◌, nat_le, nat_lt, List, [], ◌∷◌, ◌++◌, Option, is_some}
+use Rattle.std.specs.Option.{option_map_or}
+use Rattle.std.specs.List.{list_any}
+use Rattle.drmaa_types.specs.declared.refusals.Refusal.{Refusal}
+use Rattle.drmaa_types.specs.declared.refusals.Refusal.TheVariants.{InvalidArgument, OutOfResource, UnsupportedAttribute}
+use Rattle.drmaa_types.specs.declared.refusals.Which.TheVariants as which
+use Rattle.drmaa_types.specs.declared.refusals.Limit.TheVariants as resource
+use Rattle.drmaa_types.specs.declared.refusals.Attribute.TheVariants as attribute
+use Rattle.job_template.specs.declared.templates.JobTemplate.{JobTemplate}
+use Rattle.job_template.specs.declared.templates.ResourceLimit.{ResourceLimit}
+use Rattle.job_template.specs.Texts.{most_text, text_length, has_nul, is_bad_command, is_bad_path, is_bad_name, is_bad_environment}
+use Rattle.job_template.specs.Unsupported.{other_tests, other_limit}
+use Rattle.job_template.specs.Wants.{is_wallclock, min_slots, max_slots}
+
+-- what is run
+abbrev pub command_tests : JobTemplate → List (Bool × Refusal)
+command_tests t =
+    (nat_lt most_text (text_length t), OutOfResource resource.TemplateText) ∷
+    (is_bad_command t.remote_command, InvalidArgument which.RemoteCommand) ∷
+    (list_any has_nul t.args, InvalidArgument which.Args) ∷
+    (is_bad_environment t.job_environment, InvalidArgument which.JobEnvironment) ∷ []
+
+-- where it is run, and its name
+abbrev pub path_tests : JobTemplate → List (Bool × Refusal)
+path_tests t =
+    (is_bad_path t.working_directory, InvalidArgument which.WorkingDirectory) ∷
+    (is_bad_name t.job_name, InvalidArgument which.JobName) ∷
+    (is_bad_path t.input_path, InvalidArgument which.InputPath) ∷
+    (is_bad_path t.output_path, InvalidArgument which.OutputPath) ∷
+    (is_bad_path t.error_path, InvalidArgument which.ErrorPath) ∷
+    (is_some t.queue_name, UnsupportedAttribute attribute.QueueName) ∷ []
+
+-- a deadline is set, and is not after now, or not after the start
+abbrev pub is_bad_deadline : ℕ → JobTemplate → Bool
+is_bad_deadline now t =
+    option_map_or (λ (deadline : ℕ). nat_le deadline now || option_map_or (nat_le deadline) t.start_time false) t.deadline_time false
+
+-- on how many slots, and until when
+abbrev pub slot_tests : ℕ → ℕ → JobTemplate → List (Bool × Refusal)
+slot_tests slots now t =
+    ((min_slots t == 0) || nat_lt slots (min_slots t), InvalidArgument which.MinSlots) ∷
+    (nat_lt (max_slots t) (min_slots t), InvalidArgument which.MaxSlots) ∷
+    (is_bad_deadline now t, InvalidArgument which.DeadlineTime) ∷ []
+
+-- A limit is refused where it is not WALLCLOCK_TIME, and where it is one of 0 seconds or one that stands already in the list.
+abbrev pub limit_tests : Bool → List ResourceLimit → List (Bool × Refusal)
+limit_tests stands [] = []
+limit_tests stands (l ∷ ls) =
+    (not (is_wallclock l), other_limit l.name) ∷
+    ((l.value == 0) || stands, InvalidArgument which.ResourceLimits) ∷ limit_tests (stands || is_wallclock l) ls
+
+abbrev pub job_tests : ℕ → ℕ → JobTemplate → List (Bool × Refusal)
+job_tests slots now t =
+    command_tests t ++ path_tests t ++ slot_tests slots now t ++ limit_tests false t.resource_limits ++ other_tests t.others
