@@ -1,5 +1,5 @@
 -- What a member of an array is run with (GFD.231, runBulkJobs): its index stands for the placeholder.
-use Rattle.std.specs.Prelude.{ℕ, zero, suc, ◌-◌, Bool, List, [], ◌∷◌, ◌++◌, length, map, codes, decimal, nat_eq, Option, if◌then◌else◌}
+use Rattle.std.specs.Prelude.{ℕ, zero, suc, ◌-◌, List, [], ◌∷◌, ◌++◌, length, map, codes, decimal, nat_eq, Option, if◌then◌else◌}
 use Rattle.std.specs.Option.{option_map}
 use Rattle.std.specs.List.{starts_with}
 use Rattle.job_template.specs.declared.templates.JobTemplate.{JobTemplate}

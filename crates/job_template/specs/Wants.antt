@@ -1,5 +1,5 @@
 -- What a template asks for where it leaves an attribute unset (GFD.231, JobTemplate): our profile.
-use Rattle.std.specs.Prelude.{ℕ, ℤ, pos, Bool, List, find, codes, Option, unwrap_or}
+use Rattle.std.specs.Prelude.{ℕ, ℤ, pos, Bool, find, codes, Option, unwrap_or}
 use Rattle.std.specs.Option.{option_map}
 use Rattle.std.specs.Str.{bytes_eq}
 use Rattle.job_template.specs.declared.templates.JobTemplate.{JobTemplate}
