@@ -1,0 +1,4 @@
+pub mod Lines
+pub mod Splitting
+pub mod SplitLaws
+pub mod Automata
