@@ -2,7 +2,7 @@
 use Rattle.std.proofs.Common.{◌≡◌, ℕ, ◌+◌, ◌<◌, ◌≤◌, List, [], ◌∷◌, ◌++◌, length, take, Option, Some, refl, sym, ap, subst, ◌∙◌, arith, append_assoc, append-nil, length-append}
 use Rattle.std.proofs.Math.Seq.{take-append_seam, take-append-add}
 use Rattle.std.proofs.lemmas.List.{take_all}
-use Rattle.text_lines.specs.Lines.{whole_lines, first_lines, ended, IsTextOf, Begins, IsFirstBad}
+use Rattle.text_lines.specs.Lines.{whole_lines, first_lines, ended, IsTextOf, Begins, GoesOn, IsFirstBad}
 
 -- the lines lead from one state to another
 abbrev pub Runs : {S : Type 0} → (S → List ℕ → S → Type 0) → S → List (List ℕ) → S → Type 0
@@ -29,7 +29,7 @@ runs_split Goes s u (l ∷ ls) ms r =
 pub record Reads {S Q : Type 0} (Goes : S → List ℕ → S → Type 0) (start : S) (ends : S → Option Q) (Spells : List (List ℕ) → Q → Type 0) : Type 0 where
   pub sound : (ls : List (List ℕ)) (t : S) (q : Q) → Runs Goes start ls t → ends t ≡ Some q → Spells ls q
   pub complete : (ls : List (List ℕ)) (q : Q) → Spells ls q → (t : S) × Runs Goes start ls t × (ends t ≡ Some q)
-  pub goes_on : (ls : List (List ℕ)) (t : S) → Runs Goes start ls t → Begins Spells ls
+  pub goes_on : (ls : List (List ℕ)) (t : S) → Runs Goes start ls t → GoesOn Spells ls
 
 -- the automaton has read the front, reached this state and no other
 pub record Reached {S : Type 0} (Goes : S → List ℕ → S → Type 0) (start : S) (front : List (List ℕ)) (state : S) : Type 0 where
@@ -68,6 +68,9 @@ stuck Goes start ends Spells reads limit bytes front (l ∷ ls) state reached st
     let same = reached.only parts.mid parts.first in
     stops parts.second.0 (subst (λ s. Goes s l parts.second.0) same parts.second.1)
 
+begins : {Q : Type 0} {Spells : List (List ℕ) → Q → Type 0} {lines : List (List ℕ)} → GoesOn Spells lines → Begins Spells lines
+begins g = record { more = g.more; text = g.text; spelled = g.spelled }
+
 -- the line behind those that were read is the first bad one
 pub first_bad : {S Q : Type 0} (Goes : S → List ℕ → S → Type 0) (start : S) (ends : S → Option Q) (Spells : List (List ℕ) → Q → Type 0) → Reads Goes start ends Spells
     → (limit : ℕ) (bytes : List ℕ) (front more : List (List ℕ)) (state : S) → first_lines limit bytes ≡ front ++ more → Reached Goes start front state → Stops Goes ends limit bytes more state
@@ -76,7 +79,7 @@ first_bad Goes start ends Spells reads limit bytes front more state lines reache
     let P : List (List ℕ) → Type 0 = λ all. (length front ≤ length all) × Begins Spells (take (length front) all) × (length front < length all → Begins Spells (take (length front + 1) all) → ⊥) in
     let whole : P (front ++ more) = (
       omega (arith, length-append front more),
-      subst (Begins Spells) (sym (take-append_seam front more)) (reads.goes_on front state reached.run),
+      subst (Begins Spells) (sym (take-append_seam front more)) (begins (reads.goes_on front state reached.run)),
       stuck Goes start ends Spells reads limit bytes front more state reached stops,
     ) in
     let facts : P (first_lines limit bytes) = subst P (sym lines) whole in

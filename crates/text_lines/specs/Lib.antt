@@ -2,3 +2,5 @@ pub mod Lines
 pub mod Splitting
 pub mod SplitLaws
 pub mod Automata
+pub mod Skipping
+pub mod SkippingLaws

@@ -1,5 +1,5 @@
 -- Texts of whole lines, and the first line after which no text can go on: our profile.
-use Rattle.std.specs.Prelude.{◌≡◌, ℕ, ◌+◌, ◌<◌, ◌≤◌, ◌==◌, Bool, nat_le, List, [], ◌∷◌, ◌++◌, length, take, if◌then◌else◌}
+use Rattle.std.specs.Prelude.{◌≡◌, ℕ, ◌+◌, ◌<◌, ◌≤◌, ◌==◌, Bool, true, not, filter, nat_le, List, [], ◌∷◌, ◌++◌, length, take, if◌then◌else◌}
 use Rattle.std.specs.List.{flat_map}
 
 -- a byte in front of the first line
@@ -16,6 +16,15 @@ whole_lines (b ∷ bs) = if b == 10 then [] ∷ whole_lines bs else onto_first b
 abbrev pub ended : List (List ℕ) → List ℕ
 ended lines = flat_map (λ l. l ++ 10 ∷ []) lines
 
+-- a line that a reader may skip: an empty one, or one that begins with #
+abbrev pub is_skipped : List ℕ → Bool
+is_skipped [] = true
+is_skipped (b ∷ bs) = b == 35
+
+-- the lines that are not skipped
+abbrev pub kept : List (List ℕ) → List (List ℕ)
+kept lines = filter (λ l. not (is_skipped l)) lines
+
 -- the bytes, of which there are at most so many, are the whole lines of a text
 pub record IsTextOf {Q : Type 0} (Spells : List (List ℕ) → Q → Type 0) (limit : ℕ) (bytes : List ℕ) (q : Q) : Type 0 where
   pub within : length bytes ≤ limit
@@ -27,6 +36,13 @@ pub record Begins {Q : Type 0} (Spells : List (List ℕ) → Q → Type 0) (line
   pub more : List (List ℕ)
   pub text : Q
   pub spelled : Spells (lines ++ more) text
+
+-- the same, where the lines that follow are not skipped by a reader that skips
+pub record GoesOn {Q : Type 0} (Spells : List (List ℕ) → Q → Type 0) (lines : List (List ℕ)) : Type 0 where
+  pub more : List (List ℕ)
+  pub text : Q
+  pub spelled : Spells (lines ++ more) text
+  pub unskipped : kept more ≡ more
 
 -- the whole lines within the limit
 abbrev pub first_lines : ℕ → List ℕ → List (List ℕ)

@@ -2,6 +2,8 @@
 #![tactic(auto)]
 
 mod reading;
+mod skipping;
 mod splitting;
 
 pub use reading::{LineReader, TextFault, read_lines, read_text};
+pub use skipping::Skipping;
