@@ -1,0 +1,13 @@
+pub mod Lexical
+pub mod Units
+pub mod Formats
+pub mod Quotes
+pub mod Fields
+pub mod Sums
+pub mod StepLaws
+pub mod UnitLaws
+pub mod CleanLaws
+pub mod FormatLaws
+pub mod FieldLaws
+pub mod BaseLaws
+pub mod SumLaws

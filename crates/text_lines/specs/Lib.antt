@@ -1,0 +1,6 @@
+pub mod Lines
+pub mod Splitting
+pub mod SplitLaws
+pub mod Automata
+pub mod Skipping
+pub mod SkippingLaws
