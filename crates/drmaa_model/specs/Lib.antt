@@ -1,3 +1,4 @@
+pub mod AnswerLaws
 pub mod Controlling
 pub mod Courses
 pub mod Effects
@@ -5,7 +6,9 @@ pub mod Fit
 pub mod FitLaws
 pub mod Heard
 pub mod History
+pub mod HistoryLaws
 pub mod Homes
+pub mod Honoured
 pub mod Infos
 pub mod KeptCalls
 pub mod Launching
@@ -17,6 +20,7 @@ pub mod OrderLaws
 pub mod Plan
 pub mod ReadyLaws
 pub mod Refusals
+pub mod ReplyKinds
 pub mod Reporting
 pub mod Requests
 pub mod RowLaws
@@ -28,5 +32,6 @@ pub mod SumLaws
 pub mod Targets
 pub mod Time
 pub mod TimeLaws
+pub mod WaitLaws
 pub mod Waiting
 pub mod World

@@ -1,0 +1,191 @@
+-- Laws of answers: a refusal is the first of its table, and the reply to a call is of the call's own kind.
+use Rattle.std.proofs.Common.{◌≡◌, ℕ, ◌+◌, Bool, true, false, cond, eqb, not, ◌||◌, ◌&&◌, ◌⊎◌, inl, inr, List, [], ◌∷◌, filter, find, Option, Some, None, refl, sym, ◌∙◌, ap, subst}
+use Rattle.std.specs.Prelude.{is_some}
+use Rattle.std.specs.List.{list_any}
+use Rattle.std.specs.Option.{option_map, option_map_or}
+use Rattle.drmaa_types.specs.Refusals.{first_refusal}
+use Rattle.drmaa_types.specs.declared.identifiers.JobId.{JobId}
+use Rattle.drmaa_types.specs.declared.identifiers.ReservationId.{ReservationId}
+use Rattle.drmaa_types.specs.declared.identifiers.SessionId.{SessionId}
+use Rattle.drmaa_types.specs.declared.infos.ReservationInfo.{ReservationInfo}
+use Rattle.drmaa_types.specs.declared.refusals.Refusal.{Refusal}
+use Rattle.drmaa_types.specs.declared.refusals.Refusal.TheVariants.{InvalidArgument}
+use Rattle.drmaa_types.specs.declared.refusals.Which.TheVariants as which
+use Rattle.drmaa_types.specs.declared.moments.Timeout.{Timeout}
+use Rattle.drmaa_types.specs.declared.states.WaitKind.{WaitKind}
+use Rattle.drmaa_model.specs.Waiting.{first_reached, is_timed_out}
+use Rattle.drmaa_types.specs.declared.sessions.SessionKind.TheVariants.{Jobs, Reservations, Monitoring}
+use Rattle.drmaa_model.specs.declared.calls.Call.{Call}
+use Rattle.drmaa_model.specs.declared.calls.Call.TheVariants as call
+use Rattle.drmaa_model.specs.declared.replies.Launch.{Launch}
+use Rattle.drmaa_model.specs.declared.replies.Reply.{Reply}
+use Rattle.drmaa_model.specs.declared.replies.Reply.TheVariants as reply
+use Rattle.drmaa_model.specs.declared.replies.Signal.{Signal}
+use Rattle.drmaa_model.specs.declared.reservations.Accepted.{Accepted}
+use Rattle.drmaa_model.specs.declared.rows.Row.{Row}
+use Rattle.drmaa_model.specs.Effects.{StepAnswer, gives, nothing, not_yet, makes, effect, through_some, info_reply, reservation_reply, wait_answer}
+use Rattle.drmaa_model.specs.Homes.{is_monitor, session_test, seen_test, reservation_test, own_rows, own_reservations, is_own, is_own_reservation}
+use Rattle.drmaa_model.specs.Infos.{info, reservation_info}
+use Rattle.drmaa_model.specs.Launching.{launch, signal}
+use Rattle.drmaa_model.specs.Load.{reservation_of}
+use Rattle.drmaa_model.specs.Operation.{Operation}
+use Rattle.drmaa_model.specs.Plan.{Plan}
+use Rattle.drmaa_model.specs.Refusals.{refusal}
+use Rattle.drmaa_model.specs.ReplyKinds.{ReplyKind, kind_of_reply, kind_of_call, nothing_told, a_session, texts, a_job, an_array, jobs, a_state, an_info, a_reached_job, a_reserved, a_reservation, reservations, infos, reservation_infos, a_machine, a_callback, a_launch, a_signal, a_refusal, IsReplyOf}
+use Rattle.drmaa_model.specs.Rows.{is_of, row_of}
+use Rattle.drmaa_model.specs.Steps.{answer, answer_now}
+use Rattle.drmaa_model.specs.Time.{advance}
+use Rattle.drmaa_model.specs.World.{World, counted}
+
+-- ---- a call comes to its refusal, or to its effect
+
+pub refused-gives : (at : ℕ) (w : World) (c : Call) (why : Refusal) → refusal w c ≡ Some why → answer_now at w c ≡ makes (reply.Refused why) w
+refused-gives at w c why is = ap (λ (o : Option Refusal). option_map_or (λ (r : Refusal). makes (reply.Refused r) w) o (effect at w c)) is
+
+pub served-gives : (at : ℕ) (w : World) (c : Call) → refusal w c ≡ None → answer_now at w c ≡ effect at w c
+served-gives at w c is = ap (λ (o : Option Refusal). option_map_or (λ (r : Refusal). makes (reply.Refused r) w) o (effect at w c)) is
+
+-- what is true of a refusal and of an effect that is not refused is true of the answer
+pub answer-cases : (at : ℕ) (w : World) (c : Call) (P : StepAnswer → Type 0) → ((why : Refusal) → refusal w c ≡ Some why → P (makes (reply.Refused why) w))
+    → (refusal w c ≡ None → P (effect at w c)) → P (answer_now at w c)
+answer-cases at w c P refused served =
+    (elim (refusal w c) as (λ o. refusal w c ≡ o → P (option_map_or (λ (r : Refusal). makes (reply.Refused r) w) o (effect at w c))) [
+      | None ↦ λ is. served is
+      | Some why ↦ λ is. refused why is
+    ]) refl
+
+-- ---- the kinds of replies
+
+-- where an answer makes an entry, its reply is of the call's own kind, or a refusal
+Tells : Call → StepAnswer → Type 0
+Tells c (gives r next) = IsReplyOf c r
+Tells c nothing = Unit {0}
+Tells c not_yet = Unit {0}
+
+tells-some : {A : Type 0} (c : Call) (tell : A → Reply) (op : Operation (Option A)) (w : World) → ((told : A) → kind_of_reply (tell told) ≡ kind_of_call c) → Tells c (through_some tell op w)
+unfolding Tells
+tells-some c tell op w each =
+    elim (op.told w.plan) as (λ o. Tells c (option_map_or (λ told. makes (tell told) (record w { plan = op.effect (w.entries + 1) w.plan })) o nothing)) [
+      | None ↦ tt
+      | Some told ↦ inr (each told)
+    ]
+
+tells-wait : (session : SessionId) (listed : List ℕ) (kind : WaitKind) (begun : ℕ) (timeout : Timeout) (first : Option ℕ) (over : Bool) (w : World)
+    → Tells (call.Wait session listed kind begun timeout) (wait_answer first over w)
+unfolding Tells
+tells-wait session listed kind begun timeout None true w = inl refl
+tells-wait session listed kind begun timeout None false w = tt
+tells-wait session listed kind begun timeout (Some job) over w = inr refl
+
+-- neither of two tests refuses
+second-free : (first second : Bool × Refusal) → first_refusal (first ∷ second ∷ []) ≡ None → second.0 ≡ false
+second-free first second none =
+    (elim first.0 as (λ b. cond b (Some first.1) (cond second.0 (Some second.1) None) ≡ None → second.0 ≡ false) [
+      | true ↦ λ e. absurd (cc)
+      | false ↦ (elim second.0 as (λ b. cond b (Some second.1) None ≡ None → b ≡ false) [ true ↦ λ e. absurd (cc) | false ↦ λ e. refl ])
+    ]) none
+
+not-false : (b : Bool) → not b ≡ false → b ≡ true
+not-false true e = refl
+not-false false e = absurd (cc)
+
+-- one that is there is found
+any-found : {X : Type 0} (test : X → Bool) (xs : List X) → list_any test xs ≡ true → is_some (find test xs) ≡ true
+any-found test [] h = absurd (cc)
+any-found test (x ∷ xs) h =
+    (elim (test x) as (λ b. (b || list_any test xs) ≡ true → is_some (cond b (Some x) (find test xs)) ≡ true) [
+      | true ↦ λ e. refl
+      | false ↦ λ e. any-found test xs e
+    ]) h
+
+-- one that is there beside others is there
+any-filter : {X : Type 0} (test keep : X → Bool) (xs : List X) → list_any test (filter keep xs) ≡ true → list_any test xs ≡ true
+any-filter test keep [] h = absurd (cc)
+any-filter test keep (x ∷ xs) h =
+    (elim (keep x) as (λ b. list_any test (cond b (x ∷ filter keep xs) (filter keep xs)) ≡ true → (test x || list_any test xs) ≡ true) [
+      | true ↦
+          (elim (test x) as (λ t. (t || list_any test (filter keep xs)) ≡ true → (t || list_any test xs) ≡ true) [
+            | true ↦ λ e. refl
+            | false ↦ λ e. any-filter test keep xs e
+          ])
+      | false ↦ λ e.
+          (elim (test x) as (λ t. (t || list_any test xs) ≡ true) [
+            | true ↦ refl
+            | false ↦ any-filter test keep xs e
+          ])
+    ]) h
+
+-- a job that may be seen is kept
+seen-kept : (session : SessionId) (job : JobId) (w : World) → (seen_test session job w).0 ≡ false → is_some (row_of job w.plan.rows) ≡ true
+seen-kept session job w free =
+    (elim (is_monitor session w) as (λ b. cond b (not (list_any (is_of job) w.plan.rows)) (not (list_any (is_of job) (own_rows session w))) ≡ false → is_some (row_of job w.plan.rows) ≡ true) [
+      | true ↦ λ e. any-found (is_of job) w.plan.rows (not-false (list_any (is_of job) w.plan.rows) e)
+      | false ↦ λ e. any-found (is_of job) w.plan.rows (any-filter (is_of job) (is_own session w) w.plan.rows (not-false (list_any (is_of job) (own_rows session w)) e))
+    ]) free
+
+tells-info : (w : World) (job : JobId) → is_some (row_of job w.plan.rows) ≡ true → kind_of_reply (info_reply w job) ≡ an_info
+tells-info w job there =
+    (elim (row_of job w.plan.rows) as (λ o. is_some o ≡ true → kind_of_reply (option_map_or (λ (row : Row). reply.Info (info w row)) o reply.Unit) ≡ an_info) [
+      | None ↦ λ e. absurd (cc)
+      | Some row ↦ λ e. refl
+    ]) there
+
+tells-reservation : (w : World) (number : ReservationId) → is_some (reservation_of number w.plan.reservations) ≡ true → kind_of_reply (reservation_reply w number) ≡ a_reservation
+tells-reservation w number there =
+    (elim (reservation_of number w.plan.reservations) as (λ o. is_some o ≡ true → kind_of_reply (option_map_or (λ (a : Accepted). reply.Reservation (reservation_info w a)) o reply.Unit) ≡ a_reservation) [
+      | None ↦ λ e. absurd (cc)
+      | Some a ↦ λ e. refl
+    ]) there
+
+own-accepted : (session : SessionId) (number : ReservationId) (w : World) → (reservation_test session number w).0 ≡ false → is_some (reservation_of number w.plan.reservations) ≡ true
+own-accepted session number w free =
+    let test : Accepted → Bool = λ a. eqb a.reservation.0 number.0 in
+    any-found test w.plan.reservations (any-filter test (is_own_reservation session w) w.plan.reservations (not-false (list_any test (own_reservations session w)) free))
+
+effect-tells : (at : ℕ) (w : World) (c : Call) → refusal w c ≡ None → Tells c (effect at w c)
+unfolding Tells
+effect-tells at w (call.CreateJobSession name) free = inr refl
+effect-tells at w (call.CreateReservationSession name) free = inr refl
+effect-tells at w (call.OpenJobSession name) free = inr refl
+effect-tells at w (call.OpenReservationSession name) free = inr refl
+effect-tells at w (call.DestroyJobSession name) free = inr refl
+effect-tells at w (call.DestroyReservationSession name) free = inr refl
+effect-tells at w call.JobSessionNames free = inr refl
+effect-tells at w call.ReservationSessionNames free = inr refl
+effect-tells at w call.OpenMonitoring free = inr refl
+effect-tells at w (call.CloseSession session) free = inr refl
+effect-tells at w (call.RunJob session t) free = inr refl
+effect-tells at w (call.RunBulk session t indices) free = inr refl
+effect-tells at w (call.GetJobs session f) free = inr refl
+effect-tells at w (call.GetJobArray session array) free = inr refl
+effect-tells at w (call.Control session meant what) free = inr refl
+effect-tells at w (call.Reap session meant) free = inr refl
+effect-tells at w (call.GetState session job) free = inr refl
+effect-tells at w (call.GetInfo session job) free =
+    inr (tells-info w job (seen-kept session job w (second-free (session_test (Jobs ∷ Monitoring ∷ []) session w) (seen_test session job w) free)))
+effect-tells at w (call.Wait session listed kind begun timeout) free = tells-wait session listed kind begun timeout (first_reached kind w.plan.rows listed) (is_timed_out at begun timeout) w
+effect-tells at w (call.RequestReservation session t) free = inr refl
+effect-tells at w (call.GetReservation session number) free =
+    inr (tells-reservation w number (own-accepted session number w (second-free (session_test (Reservations ∷ []) session w) (reservation_test session number w) free)))
+effect-tells at w (call.GetReservations session) free = inr refl
+effect-tells at w (call.EndReservation session number) free = inr refl
+effect-tells at w (call.AllJobs session f) free = inr refl
+effect-tells at w (call.AllReservations session) free = inr refl
+effect-tells at w (call.AllQueues session) free = inr refl
+effect-tells at w (call.AllMachines session) free = inr refl
+effect-tells at w call.Register free = inr refl
+effect-tells at w call.TakeLaunch free = tells-some call.TakeLaunch reply.Launch launch w (λ told. refl)
+effect-tells at w (call.Started job attempt) free = inr refl
+effect-tells at w (call.StartFailed job attempt) free = inr refl
+effect-tells at w (call.Exited job attempt exit) free = inr refl
+effect-tells at w (call.ExitUnknown job attempt) free = inr refl
+effect-tells at w call.TakeSignal free = tells-some call.TakeSignal reply.Signal signal w (λ told. refl)
+effect-tells at w (call.SignalDone job attempt kind) free = inr refl
+effect-tells at w (call.SignalFailed job attempt kind) free = inr refl
+
+-- the reply to a call is of the call's own kind, or a refusal
+pub reply-kind : (w : World) (at : ℕ) (c : Call) (r : Reply) (next : World) → answer w at c ≡ gives r next → IsReplyOf c r
+unfolding Tells
+reply-kind w at c r next is =
+    let tells : Tells c (answer w at c) = answer-cases at (advance w at) c (Tells c) (λ why e. inl refl) (effect-tells at (advance w at) c) in
+    subst (Tells c) is tells
