@@ -1,16 +1,13 @@
 -- Laws of answers: a refusal is the first of its table, and the reply to a call is of the call's own kind.
-use Rattle.std.proofs.Common.{◌≡◌, ℕ, ◌+◌, Bool, true, false, cond, eqb, not, ◌||◌, ◌&&◌, ◌⊎◌, inl, inr, List, [], ◌∷◌, filter, find, Option, Some, None, refl, sym, ◌∙◌, ap, subst}
+use Rattle.std.proofs.Common.{◌≡◌, ℕ, ◌+◌, Bool, true, false, cond, eqb, not, ◌||◌, inl, inr, List, [], ◌∷◌, ◌++◌, filter, find, Option, Some, None, refl, sym, ap, subst}
 use Rattle.std.specs.Prelude.{is_some}
 use Rattle.std.specs.List.{list_any}
-use Rattle.std.specs.Option.{option_map, option_map_or}
+use Rattle.std.specs.Option.{option_map_or}
 use Rattle.drmaa_types.specs.Refusals.{first_refusal}
 use Rattle.drmaa_types.specs.declared.identifiers.JobId.{JobId}
 use Rattle.drmaa_types.specs.declared.identifiers.ReservationId.{ReservationId}
 use Rattle.drmaa_types.specs.declared.identifiers.SessionId.{SessionId}
-use Rattle.drmaa_types.specs.declared.infos.ReservationInfo.{ReservationInfo}
 use Rattle.drmaa_types.specs.declared.refusals.Refusal.{Refusal}
-use Rattle.drmaa_types.specs.declared.refusals.Refusal.TheVariants.{InvalidArgument}
-use Rattle.drmaa_types.specs.declared.refusals.Which.TheVariants as which
 use Rattle.drmaa_types.specs.declared.moments.Timeout.{Timeout}
 use Rattle.drmaa_types.specs.declared.states.WaitKind.{WaitKind}
 use Rattle.drmaa_model.specs.Waiting.{first_reached, is_timed_out}
@@ -29,13 +26,12 @@ use Rattle.drmaa_model.specs.Infos.{info, reservation_info}
 use Rattle.drmaa_model.specs.Launching.{launch, signal}
 use Rattle.drmaa_model.specs.Load.{reservation_of}
 use Rattle.drmaa_model.specs.Operation.{Operation}
-use Rattle.drmaa_model.specs.Plan.{Plan}
 use Rattle.drmaa_model.specs.Refusals.{refusal}
-use Rattle.drmaa_model.specs.ReplyKinds.{ReplyKind, kind_of_reply, kind_of_call, nothing_told, a_session, texts, a_job, an_array, jobs, a_state, an_info, a_reached_job, a_reserved, a_reservation, reservations, infos, reservation_infos, a_machine, a_callback, a_launch, a_signal, a_refusal, IsReplyOf}
+use Rattle.drmaa_model.specs.ReplyKinds.{kind_of_reply, kind_of_call, an_info, a_reservation, a_launch, a_signal, IsReplyOf}
 use Rattle.drmaa_model.specs.Rows.{is_of, row_of}
 use Rattle.drmaa_model.specs.Steps.{answer, answer_now}
 use Rattle.drmaa_model.specs.Time.{advance}
-use Rattle.drmaa_model.specs.World.{World, counted}
+use Rattle.drmaa_model.specs.World.{World}
 
 -- ---- a call comes to its refusal, or to its effect
 
@@ -189,3 +185,119 @@ unfolding Tells
 reply-kind w at c r next is =
     let tells : Tells c (answer w at c) = answer-cases at (advance w at) c (Tells c) (λ why e. inl refl) (effect-tells at (advance w at) c) in
     subst (Tells c) is tells
+
+-- ---- the first refusal of a table
+
+-- A refusal stands in the table at a test that holds, and no test before it holds.
+pub record IsFirstOf (tests : List (Bool × Refusal)) (why : Refusal) : Type 0 where
+  pub before : List (Bool × Refusal)
+  pub after : List (Bool × Refusal)
+  pub split : tests ≡ before ++ (true, why) ∷ after
+  pub quiet : list_any (λ (t : Bool × Refusal). t.0) before ≡ false
+
+pub first-of : (tests : List (Bool × Refusal)) (why : Refusal) → first_refusal tests ≡ Some why → IsFirstOf tests why
+first-of [] why is = absurd (cc)
+first-of ((b, r) ∷ ts) why is =
+    (elim b as (λ c. cond c (Some r) (first_refusal ts) ≡ Some why → IsFirstOf ((c, r) ∷ ts) why) [
+      | true ↦ λ e.
+          (let same : r ≡ why = cc in
+          record { before = []; after = ts; split = ap (λ (x : Refusal). (true, x) ∷ ts) same; quiet = refl })
+      | false ↦ λ e.
+          (let rest = first-of ts why e in
+          record { before = (false, r) ∷ rest.before; after = rest.after; split = ap (λ (x : List (Bool × Refusal)). (false, r) ∷ x) rest.split; quiet = rest.quiet })
+    ]) is
+
+-- where no refusal comes, no test holds
+pub none-holds : (tests : List (Bool × Refusal)) → first_refusal tests ≡ None → list_any (λ (t : Bool × Refusal). t.0) tests ≡ false
+none-holds [] is = refl
+none-holds ((b, r) ∷ ts) is =
+    (elim b as (λ c. cond c (Some r) (first_refusal ts) ≡ None → (c || list_any (λ (t : Bool × Refusal). t.0) ts) ≡ false) [
+      | true ↦ λ e. absurd (cc)
+      | false ↦ λ e. none-holds ts e
+    ]) is
+
+-- ---- who is handed what
+
+only-launch : (c : Call) → kind_of_call c ≡ a_launch → c ≡ call.TakeLaunch
+only-launch (call.CreateJobSession name) is = absurd (cc)
+only-launch (call.CreateReservationSession name) is = absurd (cc)
+only-launch (call.OpenJobSession name) is = absurd (cc)
+only-launch (call.OpenReservationSession name) is = absurd (cc)
+only-launch (call.DestroyJobSession name) is = absurd (cc)
+only-launch (call.DestroyReservationSession name) is = absurd (cc)
+only-launch call.JobSessionNames is = absurd (cc)
+only-launch call.ReservationSessionNames is = absurd (cc)
+only-launch call.OpenMonitoring is = absurd (cc)
+only-launch (call.CloseSession session) is = absurd (cc)
+only-launch (call.RunJob session t) is = absurd (cc)
+only-launch (call.RunBulk session t indices) is = absurd (cc)
+only-launch (call.GetJobs session filter) is = absurd (cc)
+only-launch (call.GetJobArray session array) is = absurd (cc)
+only-launch (call.Control session meant what) is = absurd (cc)
+only-launch (call.Reap session meant) is = absurd (cc)
+only-launch (call.GetState session job) is = absurd (cc)
+only-launch (call.GetInfo session job) is = absurd (cc)
+only-launch (call.Wait session listed kind begun timeout) is = absurd (cc)
+only-launch (call.RequestReservation session t) is = absurd (cc)
+only-launch (call.GetReservation session number) is = absurd (cc)
+only-launch (call.GetReservations session) is = absurd (cc)
+only-launch (call.EndReservation session number) is = absurd (cc)
+only-launch (call.AllJobs session filter) is = absurd (cc)
+only-launch (call.AllReservations session) is = absurd (cc)
+only-launch (call.AllQueues session) is = absurd (cc)
+only-launch (call.AllMachines session) is = absurd (cc)
+only-launch call.Register is = absurd (cc)
+only-launch call.TakeLaunch is = refl
+only-launch (call.Started job attempt) is = absurd (cc)
+only-launch (call.StartFailed job attempt) is = absurd (cc)
+only-launch (call.Exited job attempt exit) is = absurd (cc)
+only-launch (call.ExitUnknown job attempt) is = absurd (cc)
+only-launch call.TakeSignal is = absurd (cc)
+only-launch (call.SignalDone job attempt kind) is = absurd (cc)
+only-launch (call.SignalFailed job attempt kind) is = absurd (cc)
+
+only-signal : (c : Call) → kind_of_call c ≡ a_signal → c ≡ call.TakeSignal
+only-signal (call.CreateJobSession name) is = absurd (cc)
+only-signal (call.CreateReservationSession name) is = absurd (cc)
+only-signal (call.OpenJobSession name) is = absurd (cc)
+only-signal (call.OpenReservationSession name) is = absurd (cc)
+only-signal (call.DestroyJobSession name) is = absurd (cc)
+only-signal (call.DestroyReservationSession name) is = absurd (cc)
+only-signal call.JobSessionNames is = absurd (cc)
+only-signal call.ReservationSessionNames is = absurd (cc)
+only-signal call.OpenMonitoring is = absurd (cc)
+only-signal (call.CloseSession session) is = absurd (cc)
+only-signal (call.RunJob session t) is = absurd (cc)
+only-signal (call.RunBulk session t indices) is = absurd (cc)
+only-signal (call.GetJobs session filter) is = absurd (cc)
+only-signal (call.GetJobArray session array) is = absurd (cc)
+only-signal (call.Control session meant what) is = absurd (cc)
+only-signal (call.Reap session meant) is = absurd (cc)
+only-signal (call.GetState session job) is = absurd (cc)
+only-signal (call.GetInfo session job) is = absurd (cc)
+only-signal (call.Wait session listed kind begun timeout) is = absurd (cc)
+only-signal (call.RequestReservation session t) is = absurd (cc)
+only-signal (call.GetReservation session number) is = absurd (cc)
+only-signal (call.GetReservations session) is = absurd (cc)
+only-signal (call.EndReservation session number) is = absurd (cc)
+only-signal (call.AllJobs session filter) is = absurd (cc)
+only-signal (call.AllReservations session) is = absurd (cc)
+only-signal (call.AllQueues session) is = absurd (cc)
+only-signal (call.AllMachines session) is = absurd (cc)
+only-signal call.Register is = absurd (cc)
+only-signal call.TakeLaunch is = absurd (cc)
+only-signal (call.Started job attempt) is = absurd (cc)
+only-signal (call.StartFailed job attempt) is = absurd (cc)
+only-signal (call.Exited job attempt exit) is = absurd (cc)
+only-signal (call.ExitUnknown job attempt) is = absurd (cc)
+only-signal call.TakeSignal is = refl
+only-signal (call.SignalDone job attempt kind) is = absurd (cc)
+only-signal (call.SignalFailed job attempt kind) is = absurd (cc)
+
+-- only TakeLaunch is answered a launch
+pub launch-of-launch : (c : Call) (l : Launch) → IsReplyOf c (reply.Launch l) → c ≡ call.TakeLaunch
+launch-of-launch c l is = elim is [ inl e ↦ absurd (cc) | inr e ↦ only-launch c (sym e) ]
+
+-- only TakeSignal is answered a signal
+pub signal-of-signal : (c : Call) (s : Signal) → IsReplyOf c (reply.Signal s) → c ≡ call.TakeSignal
+signal-of-signal c s is = elim is [ inl e ↦ absurd (cc) | inr e ↦ only-signal c (sym e) ]

@@ -1,25 +1,21 @@
 -- Laws of the calls that may find nothing: launches, signals and waits.
-use Rattle.std.proofs.Common.{◌≡◌, ℕ, ◌+◌, ◌≤◌, Bool, true, false, cond, leb, min, ◌⊎◌, inl, inr, List, [], ◌∷◌, Option, Some, None, refl, sym, ◌∙◌, ap, subst, arith}
+use Rattle.std.proofs.Common.{◌≡◌, ℕ, ◌+◌, true, false, List, Option, Some, None, refl, sym, ◌∙◌, ap}
 use Rattle.std.specs.Option.{option_map, option_map_or}
 use Rattle.drmaa_types.specs.declared.identifiers.SessionId.{SessionId}
 use Rattle.drmaa_types.specs.declared.moments.Timeout.{Timeout}
-use Rattle.drmaa_types.specs.declared.refusals.Refusal.{Refusal}
 use Rattle.drmaa_types.specs.declared.refusals.Refusal.TheVariants as why
 use Rattle.drmaa_types.specs.declared.states.WaitKind.{WaitKind}
-use Rattle.drmaa_model.specs.declared.calls.Call.{Call}
 use Rattle.drmaa_model.specs.declared.calls.Call.TheVariants as call
 use Rattle.drmaa_model.specs.declared.courses.Order.{Order}
 use Rattle.drmaa_model.specs.declared.replies.Reply.{Reply}
 use Rattle.drmaa_model.specs.declared.replies.Reply.TheVariants as reply
 use Rattle.drmaa_model.specs.declared.rows.Row.{Row}
-use Rattle.drmaa_model.specs.AnswerLaws.{refused-gives, served-gives}
-use Rattle.drmaa_model.specs.Effects.{StepAnswer, gives, nothing, not_yet, makes, effect, through_some, wait_answer}
-use Rattle.drmaa_model.specs.Launching.{launch, launch_of, launch_row, signal, signal_of, next_signal, take_first, is_due_now}
+use Rattle.drmaa_model.specs.AnswerLaws.{served-gives}
+use Rattle.drmaa_model.specs.Effects.{gives, nothing, not_yet, makes, wait_answer}
+use Rattle.drmaa_model.specs.Launching.{launch_of, launch_row, signal_of, next_signal, take_first, is_due_now}
 use Rattle.drmaa_model.specs.Order.{next_launch}
-use Rattle.drmaa_model.specs.Plan.{Plan}
 use Rattle.drmaa_model.specs.Refusals.{refusal}
-use Rattle.drmaa_model.specs.Steps.{answer, answer_now}
-use Rattle.drmaa_model.specs.Time.{advance}
+use Rattle.drmaa_model.specs.Steps.{answer_now}
 use Rattle.drmaa_model.specs.Waiting.{first_reached, is_timed_out}
 use Rattle.drmaa_model.specs.World.{World, counted}
 

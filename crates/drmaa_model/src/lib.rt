@@ -1,21 +1,28 @@
 //! The data of the scheduler's machine and, in `specs/`, the definitions that every contract cites.
 #![tactic(auto)]
 
+mod answers;
 mod calls;
 mod configs;
 mod courses;
 mod entries;
 mod faults;
+mod histories;
 mod looks;
 mod replies;
 mod reservations;
 mod rows;
 
+pub use answers::{
+    a_launch_is_the_next, a_refusal_changes_nothing_but_time, a_refusal_is_the_first_that_holds,
+    a_reply_is_of_its_call, a_signal_is_the_first_order, a_wait_answers_what_is_reached,
+};
 pub use calls::{Call, Indices, Report, Target};
 pub use configs::Config;
 pub use courses::{Course, Kill, Order, Phase};
 pub use entries::{Entry, EntryList};
 pub use faults::NoEntry;
+pub use histories::{a_step_goes_on, each_prefix_is_legal};
 pub use looks::{Answer, Question};
 pub use replies::{Launch, Reply, Signal, Submitted};
 pub use reservations::Accepted;
