@@ -11,6 +11,7 @@ pub mod Homes
 pub mod Honoured
 pub mod Infos
 pub mod KeptCalls
+pub mod LaunchLaws
 pub mod Launching
 pub mod Load
 pub mod MomentLaws
@@ -25,6 +26,8 @@ pub mod Reporting
 pub mod Requests
 pub mod RowLaws
 pub mod Rows
+pub mod RunLaws
+pub mod Runs
 pub mod Size
 pub mod Steps
 pub mod Submitting
