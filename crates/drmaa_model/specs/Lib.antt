@@ -1,4 +1,5 @@
 pub mod AnswerLaws
+pub mod BoundaryLaws
 pub mod Controlling
 pub mod Courses
 pub mod Effects
@@ -28,6 +29,7 @@ pub mod RowLaws
 pub mod Rows
 pub mod RunLaws
 pub mod Runs
+pub mod SettledLaws
 pub mod Size
 pub mod Steps
 pub mod Submitting
