@@ -5,11 +5,11 @@ ghost use Rattle.first_journal.specs.Pieces.{IsSpelled};
 ghost use Rattle.first_journal.specs.Calls.{call_text, call_pieces, template_text, template_pieces};
 
 use crate::spellings::{push_exit, push_numbers};
-use first_model::Call;
 use drmaa_types::{Exit, JobId, SessionId, Text};
+use first_forms::{push_number, push_quoted};
+use first_model::Call;
 use first_template::JobTemplate;
 use std::alloc::AllocError;
-use first_forms::{push_number, push_quoted};
 
 fn push_create_named(out: &mut Vec<u8>, name: &Text) -> Result<(), AllocError>
     ensures text { OnOk result (out.new.items ≡ out.old.items ++ call_text (Call.CreateJobSession (Some name.now))) }

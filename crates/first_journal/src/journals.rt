@@ -6,10 +6,10 @@ ghost use Rattle.first_journal.specs.Journal.{title, suspend_end, header, stamp,
 
 use crate::spellings::push_numbers;
 use crate::{push_call, push_reply};
-use first_model::{Config, Entry};
 use drmaa_types::{ListOf, Refusal, Text};
-use std::alloc::{AllocError, Global};
 use first_forms::{push_number, push_quoted, quoted_is_utf8};
+use first_model::{Config, Entry};
+use std::alloc::{AllocError, Global};
 
 /// Entries, in order.
 pub type EntryList = ListOf<Entry>;

@@ -7,10 +7,10 @@ ghost use Rattle.first_journal.specs.Pieces.{IsSpelled, is_word, pieces_text, te
 ghost use Rattle.first_journal.specs.Replies.{refusal_pieces, launch_pieces, reply_text, reply_pieces};
 
 use crate::spellings::{attribute_word, limit_word, push_numbers, state_word, which_word};
-use first_model::{Launch, Reply};
 use drmaa_types::{JobState, Moment, Refusal, Text};
-use std::alloc::AllocError;
 use first_forms::{push_number, push_quoted};
+use first_model::{Launch, Reply};
+use std::alloc::AllocError;
 
 /// Prints texts, each behind a space.
 fn push_behind_spaces(out: &mut Vec<u8>, texts: &[Text]) -> Result<(), AllocError>

@@ -5,8 +5,8 @@ ghost use Rattle.first_journal.specs.Pieces.{pieces_text, is_word, spaced, IsSpe
 ghost use Rattle.first_journal.specs.Spellings as spelling;
 
 use drmaa_types::{Attribute, Exit, JobState, Limit, Which};
-use std::alloc::AllocError;
 use first_forms::push_number;
+use std::alloc::AllocError;
 
 /// The word for a state.
 pub(crate) fn state_word(state: JobState) -> &'static str

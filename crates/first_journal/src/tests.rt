@@ -1,9 +1,9 @@
 use crate::{EntryList, Journal, journal_bytes, print_journal, push_call, push_entry, push_reply};
-use first_model::{Call, Config, Entry, Launch, Reply};
 use drmaa_types::{
     Attribute, CallerId, Exit, JobId, JobState, Limit, Moment, Refusal, SessionId, Text, TextList,
     Which,
 };
+use first_model::{Call, Config, Entry, Launch, Reply};
 use first_template::JobTemplate;
 use std::alloc::Global;
 use std::test::Fail;

@@ -3,8 +3,8 @@ ghost use Rattle.std.specs.Prelude.{◌≡◌, ◌+◌, ◌^◌, ◌<◌, if◌t
 ghost use Rattle.drmaa_types.specs.States.{after_exit, has_terminated};
 ghost use Rattle.first_model.specs.Courses.{planned_end, launched, exited, is_asked, wants_of, submitted_course, end_after, lesser_end};
 
-use first_model::{Course, Kill, Phase, Wants};
 use drmaa_types::{End, Exit, JobState, Moment, Note};
+use first_model::{Course, Kill, Phase, Wants};
 use first_template::JobTemplate;
 
 /// What a template asks for.

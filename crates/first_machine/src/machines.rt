@@ -11,8 +11,8 @@ ghost use Rattle.first_model.specs.World.{counted};
 ghost use Rattle.first_machine.specs.Conditions.{is_create, HasName, HasCommand};
 
 use crate::store::Store;
-use first_model::{Call, Config, Entry, NoEntry, Reply};
 use drmaa_types::{CallerId, Moment, Refusal};
+use first_model::{Call, Config, Entry, NoEntry, Reply};
 use std::alloc::Global;
 use std::marker::Model;
 

@@ -2,8 +2,8 @@
 ghost use Rattle.std.specs.Prelude.{◌≡◌};
 ghost use Rattle.first_machine.specs.Facts.{AreBoth};
 
-use first_model::{Launch, Reply};
 use drmaa_types::{JobId, JobState, Refusal, SessionId, TextList};
+use first_model::{Launch, Reply};
 
 /// A reply, made twice before anything changes, since a reply may take memory.
 #[derive(Drop)]

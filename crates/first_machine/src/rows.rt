@@ -10,8 +10,8 @@ ghost use Rattle.first_model.specs.Refusals.{is_same_home};
 ghost use Rattle.first_machine.specs.Facts.{facts_of};
 
 use crate::states::is_queued;
-use first_model::{Course, Row};
 use drmaa_types::{JobId, JobState, Moment};
+use first_model::{Course, Row};
 
 /// What of a row a report needs.
 #[derive(Clone, Copy)]

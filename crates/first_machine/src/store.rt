@@ -20,10 +20,10 @@ use crate::courses::{exited, launched, planned_end, submitted, wants_of};
 use crate::replies::Replies;
 use crate::rows::{facts_of, first_ready, held, is_at_home, put_course, state_of};
 use crate::states::is_state;
-use first_model::{Call, Config, Course, NamedSession, OpenSession, Phase, Reply, Row};
 use drmaa_types::{
     Change, Exit, JobId, JobState, Moment, Refusal, SessionId, SessionKind, Text, TextList, Which,
 };
+use first_model::{Call, Config, Course, NamedSession, OpenSession, Phase, Reply, Row};
 use first_template::{JobTemplate, launch_words};
 use std::alloc::{AllocError, Global};
 

@@ -4,8 +4,8 @@ ghost use Rattle.first_script.specs.Forms.{ref_name};
 ghost use Rattle.first_script.specs.Play as play;
 
 use crate::lookups::{last_attempt, number_bound, template_named};
-use first_model::{Call, Entry};
 use drmaa_types::{Exit, JobId, SessionId, Text};
+use first_model::{Call, Entry};
 use first_script::{Asked, Binding, Crew, Line, NamedTemplate, Ref};
 use std::alloc::AllocError;
 

@@ -2,10 +2,10 @@
 ghost use Rattle.std.specs.Prelude.{◌≡◌, option_copied};
 ghost use Rattle.first_script.specs.Play as play;
 
-use first_model::{Entry, Reply};
 use drmaa_types::{JobId, Text};
-use first_template::JobTemplate;
+use first_model::{Entry, Reply};
 use first_script::{Binding, NamedTemplate};
+use first_template::JobTemplate;
 
 /// The number that a name is bound to.
 pub fn number_bound(name: &Text, names: &[Binding]) -> Option<u64>

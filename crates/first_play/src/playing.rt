@@ -7,8 +7,8 @@ ghost use Rattle.first_script.specs.Play as play;
 ghost use Rattle.first_play.specs.Playing.{playing, CanPlay, CanPlayBlock};
 
 use crate::asking::asks;
-use first_machine::{Machine, NoEntry, Reply};
 use drmaa_types::{Moment, Text};
+use first_machine::{Machine, NoEntry, Reply};
 use first_script::{Asked, Binding, Crew, Line, NamedTemplate};
 use std::alloc::AllocError;
 

@@ -4,8 +4,8 @@ ghost use Rattle.first_script.specs.Play.{serial_play};
 ghost use Rattle.first_script.specs.Scripts.{IsScript};
 
 use crate::playing::play_lines;
-use first_machine::Machine;
 use drmaa_types::CallerId;
+use first_machine::Machine;
 use first_script::{Crew, Script};
 use std::alloc::{AllocError, Global};
 

@@ -5,8 +5,8 @@ ghost use Rattle.first_script.specs.Scripts as scripts;
 
 use crate::bindings::may_follow;
 use crate::{Block, Form, NamedTemplate, Script};
-use first_model::Config;
 use drmaa_types::{ListOf, Text};
+use first_model::Config;
 use first_template::JobTemplate;
 use std::alloc::{AllocError, Global};
 

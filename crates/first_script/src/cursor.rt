@@ -3,9 +3,9 @@ ghost use Rattle.std.specs.Prelude.{◌≡◌};
 ghost use Rattle.first_script.specs.Taking as taking;
 
 use drmaa_types::Text;
+use first_forms::Lexeme;
 use std::marker::Model;
 use std::vec::IntoIter;
-use first_forms::Lexeme;
 
 /// The lexemes of a line that were not taken yet.
 #[derive(Drop)]

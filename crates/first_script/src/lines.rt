@@ -9,8 +9,8 @@ use crate::cursor::Cursor;
 use crate::fields::fields_at;
 use crate::keywords::keyword_of;
 use crate::ranges::is_form;
-use std::alloc::{AllocError, Global};
 use first_forms::lexemes;
+use std::alloc::{AllocError, Global};
 
 /// The form of these lexemes.
 #[tactic(auto, unfolding(crate::specs::Reading::form_at))]

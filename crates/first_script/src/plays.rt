@@ -1,6 +1,6 @@
 //! What the play of a script speaks of.
-use first_model::Call;
 use drmaa_types::{CallerId, Text};
+use first_model::Call;
 
 /// A name, and the number that a reply has bound it to.
 #[derive(Drop)]

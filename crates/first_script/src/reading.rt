@@ -11,8 +11,8 @@ ghost use Rattle.first_script.specs.declared.scripts.Script.{Script};
 use crate::automaton::Reader;
 use crate::lines::read_form;
 use crate::{Mode, Script, TextFault};
-use std::alloc::{AllocError, Global};
 use first_forms::one_spelling;
+use std::alloc::{AllocError, Global};
 
 /// The greatest number of bytes of a script.
 const BYTE_LIMIT: usize = 16_777_216;

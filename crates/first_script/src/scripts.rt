@@ -1,6 +1,6 @@
 //! What a script says.
-use first_model::Config;
 use drmaa_types::{ListOf, Text};
+use first_model::Config;
 use first_template::JobTemplate;
 
 /// For which command a script is read.
