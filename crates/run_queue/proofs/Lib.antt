@@ -1,5 +1,4 @@
-mod CountSearch
-mod CountPlaces
 mod InOrder
-mod ItemPlaces
 mod Firsts
+mod Placed
+mod Tied
