@@ -1,7 +1,7 @@
 -- The first item that meets a test.
 use Rattle.std.proofs.Common.{◌≡◌, Bool, true, false, List, [], ◌∷◌, ◌++◌, Some, None, suc, refl, sym, ap, subst, ◌∙◌, arith}
 use denote.Ref.{Bor}
-use Rattle.std.specs.List.{find, All}
+use Rattle.std.specs.List.{find}
 use Rattle.std.proofs.lemmas.List.{append_assoc, append-nil}
 use Rattle.std.proofs.lemmas.List.Elements.{All-push}
 use Rattle.drmaa_types.specs.declared.identifiers.JobId.{JobId}

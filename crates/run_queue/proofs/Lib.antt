@@ -2,3 +2,4 @@ mod InOrder
 mod Firsts
 mod Placed
 mod Tied
+mod CountTies

@@ -1,12 +1,12 @@
 -- The ordered map of the items and what its values are after an edit.
-use Rattle.std.proofs.Common.{◌≡◌, ◌≢◌, ℕ, ℤ, zero, suc, ◌<◌, ◌+◌, Bool, true, false, not, cond, if◌then◌else◌, ◌==◌, IsTrue, List, [], ◌∷◌, length, get_or, Option, Some, None, refl, sym, ap, ◌∙◌, arith}
-use Rattle.std.specs.List.{find, filter, All, AllPairs}
+use Rattle.std.proofs.Common.{◌≡◌, ◌≢◌, zero, suc, Bool, true, false, not, if◌then◌else◌, ◌==◌, IsTrue, List, [], ◌∷◌, get_or, Some, None, refl, sym, ap, ◌∙◌, arith}
+use Rattle.std.specs.List.{filter, All, AllPairs}
 use Rattle.std.specs.Option.{option_map}
 use Rattle.std.specs.Map.{lookup, remove_entry, values_of}
 use Rattle.std.specs.BTreeMap.{insert_entry, is_at}
 use Rattle.std.specs.Ordering.{nat_cmp, int_cmp, on, flip_args, then_cmp}
 use Rattle.std.specs.declared.cmp.Ordering.{Ordering}
-use Rattle.std.specs.declared.cmp.Ordering.TheVariants.{Less, Equal, Greater}
+use Rattle.std.specs.declared.cmp.Ordering.TheVariants.{Less, Greater}
 use Rattle.std.proofs.lemmas.Bool.Decides.{nat_tests}
 use Rattle.std.proofs.lemmas.Int.{ints}
 use Rattle.std.proofs.lemmas.List.Elements.{All-cons}
@@ -51,8 +51,8 @@ All-with_item : (P : QueueItem → Type 0) (item : QueueItem) (l : List QueueIte
 All-with_item P item [] here others = All-cons P item [] here others
 All-with_item P item (x ∷ l) here others =
     either (All P) (precedes item x) _ _
-        (λ first. All-cons P item (x ∷ l) here others)
-        (λ later. All-cons P x (with_item item l) (others 0 x (omega arith)) (All-with_item P item l here (λ k d in_range. others (suc k) d (omega arith))))
+    (λ first. All-cons P item (x ∷ l) here others)
+    (λ later. All-cons P x (with_item item l) (others 0 x (omega arith)) (All-with_item P item l here (λ k d in_range. others (suc k) d (omega arith))))
 
 module _ (item : QueueItem) where
   ordered_with : (l : List QueueItem) → Lacks item.job l → AllPairs (λ (a b : QueueItem). IsTrue (precedes a b)) l → AllPairs (λ (a b : QueueItem). IsTrue (precedes a b)) (with_item item l)
@@ -61,8 +61,8 @@ module _ (item : QueueItem) where
       let R = λ (a b : QueueItem). IsTrue (precedes a b) in
       let others : All (R x) l = AllPairs-head R x l pairs in
       either (AllPairs R) (precedes item x) _ _
-          (λ first. AllPairs-cons R item (x ∷ l) (All-cons (R item) x l first (λ k d in_range. precedes_trans item x (get_or l k d) first (others k d in_range))) pairs)
-          (λ later. AllPairs-cons R x (with_item item l) (All-with_item (R x) item l (precedes_total item x (lacks 0 x (omega arith)) later) others) (ordered_with l (λ k d in_range. lacks (suc k) d (omega arith)) (AllPairs-tail R x l pairs)))
+      (λ first. AllPairs-cons R item (x ∷ l) (All-cons (R item) x l first (λ k d in_range. precedes_trans item x (get_or l k d) first (others k d in_range))) pairs)
+      (λ later. AllPairs-cons R x (with_item item l) (All-with_item (R x) item l (precedes_total item x (lacks 0 x (omega arith)) later) others) (ordered_with l (λ k d in_range. lacks (suc k) d (omega arith)) (AllPairs-tail R x l pairs)))
 
   differs_from : (x : QueueItem) → is_of item.job x ≡ false → x.job.0 ≢ item.job.0
   differs_from x differs same = grind (arith, nat_tests, differs, same)
@@ -72,8 +72,8 @@ module _ (item : QueueItem) where
   once_with (x ∷ l) lacks pairs =
       let R = λ (a b : QueueItem). a.job.0 ≢ b.job.0 in
       either (AllPairs R) (precedes item x) _ _
-          (λ first. AllPairs-cons R item (x ∷ l) (λ k d in_range same. differs_from (get_or (x ∷ l) k d) (lacks k d in_range) (sym same)) pairs)
-          (λ later. AllPairs-cons R x (with_item item l) (All-with_item (R x) item l (differs_from x (lacks 0 x (omega arith))) (AllPairs-head R x l pairs)) (once_with l (λ k d in_range. lacks (suc k) d (omega arith)) (AllPairs-tail R x l pairs)))
+      (λ first. AllPairs-cons R item (x ∷ l) (λ k d in_range same. differs_from (get_or (x ∷ l) k d) (lacks k d in_range) (sym same)) pairs)
+      (λ later. AllPairs-cons R x (with_item item l) (All-with_item (R x) item l (differs_from x (lacks 0 x (omega arith))) (AllPairs-head R x l pairs)) (once_with l (λ k d in_range. lacks (suc k) d (omega arith)) (AllPairs-tail R x l pairs)))
 
   pub queue_with : (l : List QueueItem) → Lacks item.job l → IsQueue l → IsQueue (with_item item l)
   queue_with l lacks queue = record { in_order = ordered_with l lacks queue.in_order; each_once = once_with l lacks queue.each_once }

@@ -1,5 +1,5 @@
 -- What an edit of both maps keeps.
-use Rattle.std.proofs.Common.{◌≡◌, ℕ, ℤ, Bool, true, false, cond, if◌then◌else◌, ◌==◌, List, Option, Some, None, refl, sym, ap, ◌∙◌, arith}
+use Rattle.std.proofs.Common.{◌≡◌, ℕ, Bool, true, false, cond, List, Option, Some, None, refl, sym, ap, ◌∙◌, arith}
 use Rattle.std.specs.Option.{option_map}
 use Rattle.std.specs.Map.{lookup, remove_entry, values_of}
 use Rattle.std.specs.BTreeMap.{BTreeMap, get, get_by, insert_entry, is_at, values}
@@ -10,7 +10,7 @@ use Rattle.run_queue.specs.declared.places.Place.{Place}
 use Rattle.run_queue.specs.Order.{is_of, item_of, with_item, without_job}
 use Rattle.run_queue.specs.Ties.{IsTied, place_of, entries_of, job_cmp}
 use Rattle.run_queue.proofs.InOrder.{keeps_all}
-use Rattle.run_queue.proofs.Placed.{place_cmp, Lacks, TakenOut, put, queue_with, item_of_with, values_of_entries, none_of, take_out, item_of_without, queue_without}
+use Rattle.run_queue.proofs.Placed.{place_cmp, TakenOut, put, queue_with, item_of_with, values_of_entries, none_of, take_out, item_of_without, queue_without}
 
 -- the place of an item, if there is one
 abbrev place_if : Option QueueItem → Option Place

@@ -8,8 +8,8 @@ use std::alloc::Global;
 use std::collections::BTreeMap;
 use std::marker::Model;
 
-/// An array and how many of its members hold slots.
-#[derive(Clone, Copy, Debug, PartialEq, Eq)]
+/// An array and how many of its members hold slots, as contracts list it.
+#[derive(Clone, Copy)]
 pub struct ArrayCount {
     pub array: ArrayId,
     pub members: u32,
@@ -75,10 +75,11 @@ impl ArrayCounts {
         requires { 0 < members_of array self.old }
         ensures { ChangesOnly self.old self.new array (members_of array self.old - 1) }
     {
-        if self.members(array) == 1 {
+        let members = self.members(array);
+        if members == 1 {
             self.counts.remove(&array);
-        } else if let Some(members) = self.counts.get_mut(&array) {
-            *members -= 1;
+        } else if let Some(count) = self.counts.get_mut(&array) {
+            *count = members - 1;
         }
     }
 }

@@ -8,7 +8,7 @@ use drmaa_types::JobId;
 use std::cmp::Ordering;
 
 /// A place in the order: a greater priority comes first, then a lesser job number.
-#[derive(Clone, Copy, Debug, PartialEq, Eq)]
+#[derive(Clone, Copy, PartialEq, Eq)]
 pub struct Place {
     pub priority: i32,
     pub job: JobId,
@@ -24,10 +24,8 @@ impl Ord for Place {
     ghost matches_eq = { Prim.search (comparing, rules) };
 
     fn cmp(&self, other: &Place) -> Ordering {
-        other
-            .priority
-            .cmp(&self.priority)
-            .then(self.job.0.cmp(&other.job.0))
+        let by_priority = other.priority.cmp(&self.priority);
+        by_priority.then(self.job.0.cmp(&other.job.0))
     }
 }
 

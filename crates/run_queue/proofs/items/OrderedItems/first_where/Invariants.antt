@@ -1,4 +1,3 @@
-use Rattle.std.specs.BTreeMap.{values}
 use Rattle.run_queue.proofs.Firsts.{Walked}
 use Rattle.run_queue.proofs.items.OrderedItems.first_where.Given as goal
 
