@@ -1,40 +1,46 @@
 -- The first item that meets a test.
-use Rattle.std.proofs.Common.{◌≡◌, ℕ, zero, suc, ◌+◌, ◌<◌, ◌≤◌, Bool, true, false, List, [], ◌∷◌, ◌++◌, Some, None, length, get_or, take, drop, refl, sym, ap, subst, arith}
+use Rattle.std.proofs.Common.{◌≡◌, Bool, true, false, List, [], ◌∷◌, ◌++◌, Some, None, suc, refl, sym, ap, subst, ◌∙◌, arith}
 use denote.Ref.{Bor}
 use Rattle.std.specs.List.{find}
+use Rattle.std.proofs.lemmas.List.{append_assoc, append-nil}
+use Rattle.std.proofs.lemmas.List.Elements.{All-push}
 use Rattle.drmaa_types.specs.declared.identifiers.JobId.{JobId}
-use Rattle.std.proofs.lemmas.List.{take_all}
-use Rattle.std.proofs.lemmas.List.Elements.{All-more}
 use Rattle.run_queue.specs.declared.items.QueueItem.{QueueItem}
 use Rattle.run_queue.specs.Order.{Answers, AnswersBy, NoneMeets, IsFirst, first_job}
 use Rattle.run_queue.proofs.InOrder.{find_none}
 
--- a list is what stands before a place, the element there and what stands after it
-around : (l : List QueueItem) (i : ℕ) (item : QueueItem) → i < length l → item ≡ get_or l i item → l ≡ take i l ++ item ∷ drop (suc i) l
-around [] i item in_range read = absurd (omega arith)
-around (x ∷ l) zero item in_range read = ap (λ (y : QueueItem). y ∷ l) (sym read)
-around (x ∷ l) (suc i) item in_range read = ap (λ (rest : List QueueItem). x ∷ rest) (around l i item (omega arith) read)
+-- of these items some were walked through, of each of which the test answered no, and the others are left
+pub record Walked (says : Bor QueueItem → Bool → Type 0) (items left : List QueueItem) : Type 0 where
+  pub done : List QueueItem
+  pub parts : items ≡ done ++ left
+  pub none : NoneMeets says done
 
-module _ (says : Bor QueueItem → Bool → Type 0) (l : List QueueItem) (i : ℕ) where
-  -- the test answered yes at place i, and no before it
-  pub first : (item : QueueItem) → i < length l → item ≡ get_or l i item → NoneMeets says (take i l) → Answers says item true → IsFirst says l item.job
-  first item in_range read none meets = record {
-    before = take i l;
+module _ (says : Bor QueueItem → Bool → Type 0) (items : List QueueItem) where
+  -- the test answered yes of the next item
+  pub first : (item : QueueItem) (left rest : List QueueItem) → left ≡ item ∷ rest → Walked says items left → Answers says item true → IsFirst says items item.job
+  first item left rest next walked meets = record {
+    before = walked.done;
     item = item;
-    after = drop (suc i) l;
-    parts = around l i item in_range read;
+    after = rest;
+    parts = rw (← next) walked.parts;
     its_job = refl;
     meets = meets;
-    none_before = none;
+    none_before = walked.none;
   }
 
-  -- it answered no at place i too
-  pub none_more : (item : QueueItem) → i < length l → item ≡ get_or l i item → NoneMeets says (take i l) → Answers says item false → NoneMeets says (take (i + 1) l)
-  none_more item in_range read none fails = All-more (λ (x : QueueItem). Answers says x false) l i item in_range none (rw (← read) fails)
+  -- it answered no of the next item too
+  pub one_more : (item : QueueItem) (left rest : List QueueItem) → left ≡ item ∷ rest → Walked says items left → Answers says item false → Walked says items rest
+  one_more item left rest next walked fails = record {
+    done = walked.done ++ item ∷ [];
+    parts = walked.parts ∙ ap (λ (l : List QueueItem). walked.done ++ l) next ∙ sym (append_assoc walked.done (item ∷ []) rest);
+    none = All-push (λ (x : QueueItem). Answers says x false) walked.done item walked.none fails;
+  }
 
-  -- it answered no at every place
-  pub none_at_all : length l ≤ i → NoneMeets says (take i l) → NoneMeets says l
-  none_at_all past none = rw take_all at none
+  -- no item is left
+  pub none_left : (left : List QueueItem) → left ≡ [] → Walked says items left → NoneMeets says items
+  none_left left end walked =
+      let all : items ≡ walked.done = walked.parts ∙ rw (end, append-nil walked.done) refl in
+      rw all walked.none
 
 -- where the test answers by a function, the first item of which it answered yes is what `find` gives
 module _ (says : Bor QueueItem → Bool → Type 0) (meets : QueueItem → Bool) where

@@ -1,5 +1,5 @@
-mod CountSearch
-mod CountPlaces
 mod InOrder
-mod ItemPlaces
 mod Firsts
+mod Placed
+mod Tied
+mod CountTies

@@ -1,5 +1,5 @@
 -- How many members of each array hold slots: our profile.
-use Rattle.std.specs.Prelude.{◌≡◌, ◌≢◌, ℕ, ◌<◌, ◌≤◌, ◌==◌, List, [], ◌∷◌, length, slice_index_or, All, AllPairs, if◌then◌else◌}
+use Rattle.std.specs.Prelude.{◌≡◌, ◌≢◌, ℕ, ◌<◌, ◌==◌, List, [], ◌∷◌, All, AllPairs, if◌then◌else◌}
 use Rattle.drmaa_types.specs.declared.identifiers.ArrayId.{ArrayId}
 use Rattle.run_queue.specs.declared.counts.ArrayCount.{ArrayCount}
 
@@ -17,18 +17,3 @@ pub record IsSound (counts : List ArrayCount) : Type 0 where
 pub record ChangesOnly (old new : List ArrayCount) (array : ArrayId) (members : ℕ) : Type 0 where
   pub this_array : members_of array new ≡ members
   pub others : (other : ArrayId) → other.0 ≢ array.0 → members_of other new ≡ members_of other old
-
--- the number of the array whose count is at place i
-abbrev pub array_at : List ArrayCount → ℕ → ℕ
-array_at counts i = (slice_index_or counts i (record { array = record { 0 = 0 }; members = 0 })).array.0
-
--- the count at place i is that of the array with this number
-pub record IsAt (counts : List ArrayCount) (array i : ℕ) : Type 0 where
-  pub in_range : i < length counts
-  pub has_array : array_at counts i ≡ array
-
--- the array with this number would stand at place i: lesser numbers before it, and greater ones from it on
-pub record IsGapFor (counts : List ArrayCount) (array i : ℕ) : Type 0 where
-  pub in_range : i ≤ length counts
-  pub lesser_before : (k : ℕ) → k < i → array_at counts k < array
-  pub greater_after : (k : ℕ) → i ≤ k → k < length counts → array < array_at counts k

@@ -1,35 +1,37 @@
-//! How many members of each array hold slots, in a vector in order of array number.
-ghost use Rattle.std.specs.Prelude.{◌≡◌, ◌+◌, ◌-◌, ◌<◌, [], IfOk, IfErr, OnOk, OnErr};
-ghost use Rattle.run_queue.specs.Counts.{ChangesOnly, IsSound, IsAt, IsGapFor, members_of};
+//! How many members of each array hold slots, by array.
+ghost use Rattle.std.specs.Prelude.{◌≡◌, ◌+◌, ◌-◌, ◌<◌, [], IfErr, OnOk, OnErr};
+ghost use Rattle.run_queue.specs.Counts.{ChangesOnly, IsSound, members_of};
 ghost use Rattle.drmaa_types.specs.declared.refusals.Refusal.TheVariants.{OutOfMemory};
 
 use drmaa_types::{ArrayId, Refusal};
 use std::alloc::Global;
+use std::collections::BTreeMap;
 use std::marker::Model;
 
-/// An array and how many of its members hold slots.
-#[derive(Clone, Copy, Debug, PartialEq, Eq)]
+/// An array and how many of its members hold slots, as contracts list it.
+#[derive(Clone, Copy)]
 pub struct ArrayCount {
     pub array: ArrayId,
     pub members: u32,
 }
 
-/// The counts; contracts see the list of those above 0.
+/// The counts; contracts see the list of those above 0, in order of array number.
 #[derive(Drop)]
 pub struct ArrayCounts {
-    counts: Vec<ArrayCount>,
+    counts: BTreeMap<ArrayId, u32>,
 }
 
 impl Model for ArrayCounts {
     ghost use Rattle.std.specs.Prelude.{List};
     ghost use Rattle.run_queue.specs.declared.counts.ArrayCount.{ArrayCount};
     ghost use Rattle.run_queue.specs.Counts.{IsSound};
+    ghost use Rattle.run_queue.specs.Ties.{counts_of};
 
     ghost Value = { List ArrayCount };
 
-    ghost view = { λ a. a.counts.items };
+    ghost view = { λ a. counts_of a.counts.entries };
 
-    ghost invariant = { λ a. IsSound a.counts.items };
+    ghost invariant = { λ a. IsSound (counts_of a.counts.entries) };
 }
 
 impl ArrayCounts {
@@ -38,7 +40,7 @@ impl ArrayCounts {
         ensures { result ≡ [] }
     {
         ArrayCounts {
-            counts: Vec::new(alloc),
+            counts: BTreeMap::new(alloc),
         }
     }
 
@@ -47,9 +49,9 @@ impl ArrayCounts {
         ensures count { result ≡ members_of array self.now }
         ensures sound { IsSound self.now }
     {
-        match self.search(array) {
-            Ok(place) => self.counts[place].members,
-            Err(_) => 0,
+        match self.counts.get(&array) {
+            Some(members) => *members,
+            None => 0,
         }
     }
 
@@ -59,18 +61,12 @@ impl ArrayCounts {
         ensures err { IfErr result (λ refusal. refusal ≡ OutOfMemory) }
         ensures unchanged { OnErr result (self.new ≡ self.old) }
     {
-        match self.search(array) {
-            Ok(place) => {
-                let Some(members) = self.counts[place].members.checked_add(1) else {
-                    return Err(Refusal::OutOfMemory);
-                };
-                self.counts[place] = ArrayCount { array, members };
-                Ok(())
-            }
-            Err(place) => match self.counts.insert(place, ArrayCount { array, members: 1 }) {
-                Ok(()) => Ok(()),
-                Err(_) => Err(Refusal::OutOfMemory),
-            },
+        let Some(members) = self.members(array).checked_add(1) else {
+            return Err(Refusal::OutOfMemory);
+        };
+        match self.counts.insert(array, members) {
+            Ok(_) => Ok(()),
+            Err(_) => Err(Refusal::OutOfMemory),
         }
     }
 
@@ -79,26 +75,11 @@ impl ArrayCounts {
         requires { 0 < members_of array self.old }
         ensures { ChangesOnly self.old self.new array (members_of array self.old - 1) }
     {
-        let Ok(place) = self.search(array) else {
-            unreachable!()
-        };
-        let members = self.counts[place].members;
+        let members = self.members(array);
         if members == 1 {
-            self.counts.remove(place);
-        } else {
-            self.counts[place] = ArrayCount {
-                array,
-                members: members - 1,
-            };
+            self.counts.remove(&array);
+        } else if let Some(count) = self.counts.get_mut(&array) {
+            *count = members - 1;
         }
-    }
-
-    // Where an array's count is, or where it would go.
-    fn search(&self, array: ArrayId) -> Result<usize, usize>
-        ensures found { IfOk result (IsAt self.now array.0) }
-        ensures absent { IfErr result (IsGapFor self.now array.0) }
-    {
-        self.counts
-            .binary_search_by_key(&array.0, |count| count.array.0)
     }
 }

@@ -1,11 +1,14 @@
-//! The waiting jobs, in a vector that is kept in order.
-ghost use Rattle.std.specs.Prelude.{◌≡◌, [], None, OnOk, OnErr, IfErr, IfSome, IfNone, Bool, position};
-ghost use Rattle.run_queue.specs.Order.{IsQueue, IsFirst, NoneMeets, MayTest, AnswersBy, first_job, precedes, is_of, item_of, with_item, without_job};
+//! The waiting jobs in order, and where each of them stands.
+ghost use Rattle.std.specs.Prelude.{◌≡◌, [], None, OnOk, OnErr, IfErr, IfSome, IfNone, Bool};
+ghost use Rattle.run_queue.specs.Order.{IsQueue, IsFirst, NoneMeets, MayTest, AnswersBy, first_job, item_of, with_item, without_job};
+ghost use Rattle.run_queue.specs.Ties.{place_of};
 ghost use Rattle.run_queue.specs.declared.items.QueueItem.{QueueItem};
 ghost use Rattle.drmaa_types.specs.declared.refusals.Refusal.TheVariants.{OutOfMemory};
 
+use crate::places::Place;
 use drmaa_types::{ArrayId, JobId, Moment, Refusal};
 use std::alloc::Global;
+use std::collections::BTreeMap;
 use std::marker::Model;
 
 /// A job that waits to be launched, and what it waits for.
@@ -26,31 +29,36 @@ pub struct QueueItem {
 }
 
 impl QueueItem {
-    // Whether this item comes before the other: a greater priority, then a lesser job number.
-    fn precedes(&self, other: &QueueItem) -> bool
-        ensures { result ≡ precedes self.now other.now }
+    // Where the item stands in the order.
+    fn place(&self) -> Place
+        ensures { result ≡ place_of self.now }
     {
-        other.priority < self.priority
-            || (self.priority == other.priority && self.job.0 < other.job.0)
+        Place {
+            priority: self.priority,
+            job: self.job,
+        }
     }
 }
 
-/// The items in order; contracts see the list.
+/// The items in order; contracts see the list. Beside them the place of each job is kept, so that
+/// its item is found without a walk.
 #[derive(Drop)]
 pub struct OrderedItems {
-    items: Vec<QueueItem>,
+    order: BTreeMap<Place, QueueItem>,
+    places: BTreeMap<JobId, Place>,
 }
 
 impl Model for OrderedItems {
     ghost use Rattle.std.specs.Prelude.{List};
+    ghost use Rattle.std.specs.BTreeMap.{values};
     ghost use Rattle.run_queue.specs.declared.items.QueueItem.{QueueItem};
-    ghost use Rattle.run_queue.specs.Order.{IsQueue};
+    ghost use Rattle.run_queue.specs.Ties.{IsTied};
 
     ghost Value = { List QueueItem };
 
-    ghost view = { λ a. a.items.items };
+    ghost view = { λ a. values a.order };
 
-    ghost invariant = { λ a. IsQueue a.items.items };
+    ghost invariant = { λ a. IsTied a.order a.places };
 }
 
 impl OrderedItems {
@@ -59,7 +67,8 @@ impl OrderedItems {
         ensures { result ≡ [] }
     {
         OrderedItems {
-            items: Vec::new(alloc),
+            order: BTreeMap::new(alloc),
+            places: BTreeMap::new(alloc),
         }
     }
 
@@ -70,10 +79,16 @@ impl OrderedItems {
         ensures err { IfErr result (λ refusal. refusal ≡ OutOfMemory) }
         ensures unchanged { OnErr result (self.new ≡ self.old) }
     {
-        let place = self.items.partition_point(|other| !item.precedes(other));
-        match self.items.insert(place, item) {
-            Ok(()) => Ok(()),
-            Err(_) => Err(Refusal::OutOfMemory),
+        let place = item.place();
+        let Ok(_) = self.places.insert(item.job, place) else {
+            return Err(Refusal::OutOfMemory);
+        };
+        match self.order.insert(place, item) {
+            Ok(_) => Ok(()),
+            Err(_) => {
+                self.places.remove(&item.job);
+                Err(Refusal::OutOfMemory)
+            }
         }
     }
 
@@ -82,15 +97,8 @@ impl OrderedItems {
         ensures item { result ≡ item_of job self.old }
         ensures items { self.new ≡ without_job job self.old }
     {
-        let place = self.place_of(job)?;
-        Some(self.items.remove(place))
-    }
-
-    // Where a job's item stands.
-    fn place_of(&self, job: JobId) -> Option<usize>
-        ensures { result ≡ position (is_of job) self.now }
-    {
-        self.items.iter().position(|item| item.job.0 == job.0)
+        let place = self.places.remove(&job)?;
+        self.order.remove(&place)
     }
 
     /// The job of the first item in order that meets the test. None exactly where none does.
@@ -103,7 +111,7 @@ impl OrderedItems {
         ensures by_function { (meets : QueueItem → Bool) → AnswersBy (F.post test) meets self.now → result ≡ first_job meets self.now }
         ensures in_order { IsQueue self.now }
     {
-        for item in &self.items {
+        for item in self.order.values() {
             if test(item) {
                 return Some(item.job);
             }

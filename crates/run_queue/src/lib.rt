@@ -3,6 +3,7 @@
 
 mod counts;
 mod items;
+mod places;
 mod queue;
 #[cfg(test)]
 mod tests;

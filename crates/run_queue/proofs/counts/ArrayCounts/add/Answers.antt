@@ -1,26 +1,21 @@
-use Rattle.std.proofs.Common.{◌+◌, List, subst, arith}
-use Rattle.run_queue.specs.declared.counts.ArrayCount.{ArrayCount}
-use Rattle.run_queue.specs.Counts.{IsSound, ChangesOnly, IsAt, IsGapFor, members_of}
-use Rattle.run_queue.proofs.CountPlaces.{sound_insert, begins_absent, begins_listed, either}
+use Rattle.std.proofs.Common.{◌+◌, ℕ, Some, subst, sym, ap, ◌∙◌, arith}
+use Rattle.run_queue.specs.Counts.{IsSound}
+use Rattle.run_queue.specs.Ties.{counts_of}
+use Rattle.run_queue.proofs.CountTies.{changes, sound_put}
 use Rattle.run_queue.proofs.counts.ArrayCounts.add.Goals as goal
-use Rattle.run_queue.proofs.counts.ArrayCounts.add.Goals.{in-Ok-insert, in-Err-insert}
+use Rattle.run_queue.proofs.counts.ArrayCounts.add.Goals.{in-Ok, in-Err}
 
--- the array is listed from now on, or memory ran out
-pub invariant_of-self-in-Err : goal.invariant_of-self-in-Err
-invariant_of-self-in-Err c =
-    let gap : IsGapFor c.self.inside.counts.items c.args.array.0 c.in-Err.place = rw c.self.view_is c.in-Err.ensures.absent in
-    rw c.insert.ensures.items (either IsSound _ _ _ (sound_insert _ c.args.array _ gap 1 (omega arith) c.self.invariant) c.self.invariant)
-
-pub returns-after-insert-clause-ok : goal.returns-after-insert-clause-ok
-returns-after-insert-clause-ok c =
-    let gap : IsGapFor c.self.inside.counts.items c.args.array.0 c.in-Err.place = rw c.self.view_is c.in-Err.ensures.absent in
+-- the array has one more, or memory ran out
+pub invariant_of-self : goal.invariant_of-self
+invariant_of-self c =
     elim c.match-insert.branch [
-      | in-Ok-insert w ↦ rw w.result-is (subst (λ (l : List ArrayCount). ChangesOnly l c.insert.new.self.items c.args.array (members_of c.args.array l + 1)) c.self.view_is (begins_absent _ c.args.array _ gap _ w.in-Ok-insert.ensures.items))
-      | in-Err-insert w ↦ rw w.result-is tt
+      | in-Ok w ↦ sound_put c.self.inside.counts c.self.invariant c.insert.new.self c.insert.ensures.ordered c.args.array c.in-Some.members (omega (arith, c.in-Some.ensures.1)) w.in-Ok.ensures.entries
+      | in-Err w ↦ subst (λ es. IsSound (counts_of es)) (sym w.in-Err.ensures.err) c.self.invariant
     ]
 
--- the array is listed
-pub returns-in-Some-clause-ok : goal.returns-in-Some-clause-ok
-returns-in-Some-clause-ok c =
-    let at : IsAt c.self.inside.counts.items c.args.array.0 c.in-Ok.place = rw c.self.view_is c.in-Ok.ensures.found in
-    rw (← c.self.view_is) (begins_listed _ c.args.array _ c.self.invariant at _ c.index.ensures _ c.in-Some.ensures.1)
+pub returns-clause-ok : goal.returns-clause-ok
+returns-clause-ok c =
+    elim c.match-insert.branch [
+      | in-Ok w ↦ rw (w.result-is, ← c.self.view_is) (changes c.self.inside.counts c.insert.new.self c.args.array (Some c.in-Some.members) _ (rw c.self.view_is (c.in-Some.ensures.1 ∙ ap (λ (n : ℕ). n + 1) c.members.ensures.count)) w.in-Ok.ensures.updates.0)
+      | in-Err w ↦ rw w.result-is tt
+    ]

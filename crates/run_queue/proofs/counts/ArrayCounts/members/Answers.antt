@@ -1,14 +1,17 @@
-use Rattle.std.proofs.Common.{sym}
-use Rattle.run_queue.specs.Counts.{IsAt}
-use Rattle.run_queue.proofs.CountPlaces.{members_read, members_absent, absent_in_gap}
+use Rattle.std.proofs.Common.{ℕ, Option, sym, ap, ◌∙◌}
+use Rattle.std.specs.Option.{unwrap_or, option_copied}
+use denote.Ref.{Bor}
+use Rattle.run_queue.proofs.CountTies.{members_got}
 use Rattle.run_queue.proofs.counts.ArrayCounts.members.Goals as goal
 
 -- the array is listed
-pub returns-in-Ok-clause-count : goal.returns-in-Ok-clause-count
-returns-in-Ok-clause-count c =
-    let at : IsAt c.self.inside.counts.items c.args.array.0 c.in-Ok.place = rw c.self.view_is c.in-Ok.ensures.found in
-    rw (← c.self.view_is) (members_read _ c.args.array _ c.self.invariant at _ c.index.ensures)
+pub returns-in-Some-clause-count : goal.returns-in-Some-clause-count
+returns-in-Some-clause-count c =
+    let read = ap (λ (found : Option (Bor ℕ)). unwrap_or (option_copied found) 0) (sym c.in-Some.is) in
+    rw (← c.self.view_is) (read ∙ ap (λ (found : Option ℕ). unwrap_or found 0) c.get.ensures.value ∙ sym (members_got c.args.array c.self.inside.counts.entries))
 
 -- it is not
-pub returns-in-Err-clause-count : goal.returns-in-Err-clause-count
-returns-in-Err-clause-count c = sym (members_absent _ c.args.array (absent_in_gap _ _ _ c.in-Err.ensures.absent))
+pub returns-in-None-clause-count : goal.returns-in-None-clause-count
+returns-in-None-clause-count c =
+    let read = ap (λ (found : Option (Bor ℕ)). unwrap_or (option_copied found) 0) (sym c.in-None.is) in
+    rw (← c.self.view_is) (read ∙ ap (λ (found : Option ℕ). unwrap_or found 0) c.get.ensures.value ∙ sym (members_got c.args.array c.self.inside.counts.entries))

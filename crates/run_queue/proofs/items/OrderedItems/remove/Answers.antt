@@ -1,25 +1,32 @@
-use Rattle.std.proofs.Common.{◌≡◌, sym, Some, ◌∙◌}
-use Rattle.std.specs.List.{position}
-use Rattle.run_queue.specs.Order.{is_of}
-use Rattle.run_queue.proofs.ItemPlaces.{removed, not_there, stays}
+use Rattle.std.proofs.Common.{◌≡◌, sym, None, Some, ◌∙◌}
+use Rattle.std.specs.BTreeMap.{get}
+use Rattle.run_queue.specs.Ties.{job_cmp}
+use Rattle.run_queue.proofs.Tied.{none_there, stays, found_there, taken_out, tied_without}
 use Rattle.run_queue.proofs.items.OrderedItems.remove.Goals as goal
 
 -- the job is not there
 pub returns-in_err-place-clause-item : goal.returns-in_err-place-clause-item
-returns-in_err-place-clause-item c = c.from_residual.ensures ∙ sym (not_there c.args.job _ (sym (c.in_err-place.ensures)))
+returns-in_err-place-clause-item c =
+    let unknown : get job_cmp c.self.inside.places c.args.job ≡ None = sym c.remove.ensures.value ∙ c.in_err-place.was in
+    rw (← c.self.view_is) (c.from_residual.ensures ∙ sym (none_there _ _ c.self.invariant c.args.job unknown))
 
 pub returns-in_err-place-clause-items : goal.returns-in_err-place-clause-items
-returns-in_err-place-clause-items c = sym (stays c.args.job _ (sym (c.in_err-place.ensures)))
+returns-in_err-place-clause-items c =
+    let unknown : get job_cmp c.self.inside.places c.args.job ≡ None = sym c.remove.ensures.value ∙ c.in_err-place.was in
+    rw (← c.self.view_is) (stays _ _ c.self.invariant c.args.job unknown)
 
 -- its item is taken out
+pub invariant_of-self-2 : goal.invariant_of-self-2
+invariant_of-self-2 c =
+    let known : get job_cmp c.self.inside.places c.args.job ≡ Some c.in_ok-place.place = sym c.remove.ensures.value ∙ c.in_ok-place.was in
+    tied_without _ _ c.self.invariant c.args.job _ known c.remove-2.new.self c.remove-2.ensures.entries c.remove.new.self c.remove.ensures.updates.0
+
 pub returns-clause-item : goal.returns-clause-item
 returns-clause-item c =
-    let at : position (is_of c.args.job) c.self.inside.items.items ≡ Some c.in_ok-place.place = rw c.self.view_is (sym c.in_ok-place.ensures) in
-    let done = removed _ _ c.args.job _ _ c.self.invariant at c.remove.ensures.value c.remove.ensures.items in
-    rw (← c.self.view_is) (sym done.found)
+    let known : get job_cmp c.self.inside.places c.args.job ≡ Some c.in_ok-place.place = sym c.remove.ensures.value ∙ c.in_ok-place.was in
+    rw (← c.self.view_is) (c.remove-2.ensures.value ∙ found_there _ _ c.self.invariant c.args.job _ known)
 
 pub returns-clause-items : goal.returns-clause-items
 returns-clause-items c =
-    let at : position (is_of c.args.job) c.self.inside.items.items ≡ Some c.in_ok-place.place = rw c.self.view_is (sym c.in_ok-place.ensures) in
-    let done = removed _ _ c.args.job _ _ c.self.invariant at c.remove.ensures.value c.remove.ensures.items in
-    rw (← c.self.view_is) done.kept
+    let known : get job_cmp c.self.inside.places c.args.job ≡ Some c.in_ok-place.place = sym c.remove.ensures.value ∙ c.in_ok-place.was in
+    rw (← c.self.view_is) (taken_out _ _ c.self.invariant c.args.job _ known c.remove-2.new.self c.remove-2.ensures.entries)
