@@ -96,7 +96,14 @@ where
         }) }
         ensures twin { IfOk result (λ child. H.told child.host ≡ H.told self.new.host) }
     {
-        match launch(self.alloc, &mut self.host, self.folder.as_str(), job, attempt, words) {
+        match launch(
+            self.alloc,
+            &mut self.host,
+            self.folder.as_str(),
+            job,
+            attempt,
+            words,
+        ) {
             Ok(child) => Ok(child),
             Err(_) => {
                 self.faults = counted_on(self.faults);
@@ -242,7 +249,9 @@ impl<H: Host> Child for LocalChild<H> {
         } }
     {
         let number = self.process.id();
-        if self.ended.is_none() && deliver(self.alloc, &mut self.host, self.file.as_str(), number, kind) {
+        if self.ended.is_none()
+            && deliver(self.alloc, &mut self.host, self.file.as_str(), number, kind)
+        {
             return Ok(());
         }
         self.faults = counted_on(self.faults);

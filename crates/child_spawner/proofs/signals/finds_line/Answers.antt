@@ -8,12 +8,12 @@ loop-init g c = no_look c.args.file.now c.args.line.now (g.H.Host.told c.args.ho
 pub returns-then-shows_line-clause-found : goal.returns-then-shows_line-clause-found
 returns-then-shows_line-clause-found g c = λ shown.
     shown_after c.args.file.now c.args.line.now c.loop.counter (g.H.Host.told c.args.host.now) (g.H.Host.told c.loop.host) (g.H.Host.told c.shows_line.new.host)
-      c.loop-test.true c.loop.invariant (c.if-shows_line.ensures.found refl)
+    c.loop-test.true c.loop.invariant (c.if-shows_line.ensures.found refl)
 
 pub loop-preserved : goal.loop-preserved
 loop-preserved g c =
     one_more c.args.file.now c.args.line.now c.loop.counter (g.H.Host.told c.args.host.now) (g.H.Host.told c.loop.host) (g.H.Host.told c.shows_line.new.host) (g.H.Host.told c.rest.new.self)
-      c.loop.invariant (c.if-shows_line.ensures.missed refl) c.rest.ensures
+    c.loop.invariant (c.if-shows_line.ensures.missed refl) c.rest.ensures
 
 pub returns-clause-missed : goal.returns-clause-missed
 returns-clause-missed g c = λ missed.
