@@ -2,7 +2,7 @@
 ghost use Rattle.std.specs.Prelude.{◌≡◌, true, false, ◌+◌, ◌-◌, ◌<◌, ◌≤◌, ◌↔◌, ◌⊎◌, [], ◌++◌, length, min, take, drop, vec_len, vec_capacity, Contains, IsTrue, IsErr, IfOk, OnOk, OnErr, IsOkUnless};
 ghost use Rattle.std.specs.Io.KnownBytes.{Keeps, Appends, Consumes, IsAtEnd};
 ghost use Rattle.drmaa_types.specs.Readings.{counted_on};
-ghost use Rattle.byte_streams.specs.Streams.{Rose};
+ghost use Rattle.drmaa_types.specs.Counts.{Rose};
 ghost use Rattle.byte_streams.specs.Memory.{moved_length};
 
 use crate::{Sink, Source};

@@ -2,7 +2,7 @@
 ghost use Rattle.std.specs.Prelude.{◌≡◌, true, false, ◌<◌, ◌≤◌, length, take, IfOk, OnOk, OnErr};
 ghost use Rattle.std.specs.Io.KnownBytes.{Keeps, Appends, Consumes, IsAtEnd};
 ghost use Rattle.drmaa_types.specs.Readings.{counted_on};
-ghost use Rattle.byte_streams.specs.Streams.{Rose};
+ghost use Rattle.drmaa_types.specs.Counts.{Rose};
 
 use crate::{Sink, Source};
 use drmaa_types::Failed;

@@ -1,7 +1,7 @@
 //! What a source and a sink are. Each counts its faults, and may tell contracts its bytes.
 ghost use Rattle.std.specs.Prelude.{◌≡◌, ℕ, ◌<◌, ◌≤◌, List, length, take, Option, IfOk, OnOk, OnErr};
 ghost use Rattle.std.specs.Io.KnownBytes.{Keeps, Appends, Consumes, IsAtEnd};
-ghost use Rattle.byte_streams.specs.Streams.{Rose};
+ghost use Rattle.drmaa_types.specs.Counts.{Rose};
 
 use drmaa_types::Failed;
 

@@ -1,5 +1,4 @@
 pub mod Children
-pub mod Counts
 pub mod Deeds
 pub mod Launch
 pub mod Memory

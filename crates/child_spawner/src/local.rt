@@ -1,7 +1,7 @@
 //! The spawner of real processes.
 ghost use Rattle.std.specs.Prelude.{◌≡◌, ℕ, ◌≤◌, [], ◌++◌, length, Option, None, Some, Ok, OnOk, OnErr, IfOk, IfSome, IfNone, IsErr, IsSome, is_ok, IsTrue, IsFalse, string_bytes, if◌then◌else◌};
 ghost use Rattle.drmaa_types.specs.Readings.{counted_on};
-ghost use Rattle.child_spawner.specs.Counts.{Rose};
+ghost use Rattle.drmaa_types.specs.Counts.{Rose};
 ghost use Rattle.child_spawner.specs.Deeds.{Launches, Fails, Clears, Sends, Withholds};
 ghost use Rattle.child_spawner.specs.Launch.{number_file};
 ghost use Rattle.child_spawner.specs.Spawners.{plain_fate};

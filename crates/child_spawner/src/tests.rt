@@ -1,6 +1,9 @@
-use crate::{Child, Fate, FateList, LocalChild, LocalSpawner, MemorySpawner, Spawner};
+use crate::{
+    Child, Fate, FateList, Host, LocalChild, LocalSpawner, MemorySpawner, Spawner, SystemHost,
+};
 use drmaa_types::{Exit, Failed, JobId, PlaceList, SignalKind, Text, TextList};
 use std::alloc::{AllocError, Global};
+use std::process::Command;
 use std::test::Fail;
 use std::time::Duration;
 use std::{env, fs, process, thread};
@@ -132,6 +135,31 @@ fn echo_writes_into_a_file(rt: HostRuntime) -> Result<(), Fail> {
     let written = take_file(rt, folder.as_str(), "output")?;
     let wanted = format!(in rt.alloc(); "hello  there, world a  b \n{folder}\n")?;
     assert_eq!(rt; written.as_str(), wanted.as_str());
+    fs::remove_dir(&rt, folder.as_str())?;
+    Ok(())
+}
+
+#[test]
+fn a_host_tells_what_went_well(rt: HostRuntime) -> Result<(), Fail> {
+    let folder = new_folder(rt, "host")?;
+    let mut host = SystemHost::new(rt);
+    for (text, succeeds) in [
+        ("exit 0", true),
+        ("exit 1", false),
+        ("kill -KILL $$", false),
+    ] {
+        let mut command = Command::new(rt.alloc(), "/bin/sh")?;
+        command.arg("-c")?.arg(text)?;
+        assert_eq!(rt; host.run(command), succeeds, "{text}");
+    }
+    let file = format!(in rt.alloc(); "{folder}/file")?;
+    fs::write(&rt, file.as_str(), "text")?;
+    assert_eq!(rt; host.read(file.as_str())?.as_str(), "text");
+    assert!(rt; host.remove(file.as_str()).is_ok());
+    assert!(rt; host.read(file.as_str()).is_err());
+    // What is not there is gone; a folder is no file.
+    assert!(rt; host.remove(file.as_str()).is_ok());
+    assert!(rt; host.remove(folder.as_str()).is_err());
     fs::remove_dir(&rt, folder.as_str())?;
     Ok(())
 }
