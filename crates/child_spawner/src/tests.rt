@@ -201,25 +201,18 @@ fn input_output_and_error_are_files(rt: HostRuntime) -> Result<(), Fail> {
     let input = format!(in rt.alloc(); "{folder}/input")?;
     fs::write(&rt, input.as_str(), "given\n")?;
 
-    // Relative paths are taken from the job's directory.
-    let exit = run_with_files(rt, folder, ["input", "output", "error"], "apart")?;
-    assert_eq!(rt; exit, Some(Exit::Code(3)));
-    let wanted = format!(in rt.alloc(); "given\nhello  there\n{folder}\n")?;
-    assert_eq!(rt; take_file(rt, folder, "output")?.as_str(), wanted.as_str());
+    // Relative paths are taken from the job's directory. Joined, the error path is not used.
+    for (join, joined) in [("apart", ""), ("join", "trouble\n")] {
+        let exit = run_with_files(rt, folder, ["input", "output", "error"], join)?;
+        assert_eq!(rt; exit, Some(Exit::Code(3)));
+        let wanted = format!(in rt.alloc(); "given\nhello  there\n{joined}{folder}\n")?;
+        assert_eq!(rt; take_file(rt, folder, "output")?.as_str(), wanted.as_str());
+    }
     assert_eq!(rt; take_file(rt, folder, "error")?.as_str(), "trouble\n");
-
-    // Joined, the error path is not used.
-    let exit = run_with_files(rt, folder, [input.as_str(), "output", "error"], "join")?;
-    assert_eq!(rt; exit, Some(Exit::Code(3)));
-    let wanted = format!(in rt.alloc(); "given\nhello  there\ntrouble\n{folder}\n")?;
-    assert_eq!(rt; take_file(rt, folder, "output")?.as_str(), wanted.as_str());
-    let unused = format!(in rt.alloc(); "{folder}/error")?;
-    assert!(rt; fs::read_to_string(&rt, unused.as_str()).is_err());
 
     // Without paths there is nothing to read, and what is written is lost.
     let exit = run_with_files(rt, folder, ["", "", ""], "apart")?;
     assert_eq!(rt; exit, Some(Exit::Code(3)));
-
     assert_eq!(rt; take_file(rt, folder, "input")?.as_str(), "given\n");
     fs::remove_dir(&rt, folder)?;
     Ok(())
@@ -256,19 +249,17 @@ fn sleep_is_stopped_continued_and_killed(rt: HostRuntime) -> Result<(), Fail> {
     let mut spawner = LocalSpawner::new(rt, Text::from_string(folder.clone()?));
     let asked = words(rt.alloc(), &["", "", "", "", "apart", "0", "sleep", "50"])?;
     let mut child = spawner.start(JobId(7), 2, &asked)?;
+    for (kind, stopped) in [
+        (SignalKind::Stop, true),
+        (SignalKind::Cont, false),
+        (SignalKind::Stop, true),
+    ] {
+        assert!(rt; child.poll() == Ok(None));
+        assert!(rt; child.signal(kind).is_ok());
+        let line = fs::read_to_string(&rt, file.as_str())?;
+        assert!(rt; has_become(rt, line.as_str().trim_end(), stopped)?);
+    }
     assert!(rt; child.poll() == Ok(None));
-
-    assert!(rt; child.signal(SignalKind::Stop).is_ok());
-    let line = fs::read_to_string(&rt, file.as_str())?;
-    let number = line.as_str().trim_end();
-    assert!(rt; has_become(rt, number, true)?);
-    assert!(rt; child.poll() == Ok(None));
-
-    assert!(rt; child.signal(SignalKind::Cont).is_ok());
-    assert!(rt; has_become(rt, number, false)?);
-    assert!(rt; child.poll() == Ok(None));
-
-    assert!(rt; child.signal(SignalKind::Stop).is_ok());
     assert!(rt; child.signal(SignalKind::Kill).is_ok());
     assert_eq!(rt; end_of(rt, &mut child)?, Some(Exit::Signal(9)));
 
