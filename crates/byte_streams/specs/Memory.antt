@@ -8,12 +8,13 @@ pub record Reading : Type 0 where
   pub reads : ℕ
   pub faults : ℕ
 
--- what a `MemorySink` is seen as: the bytes written and how many it can take, the numbers of the writes that fail, counted from 1, whether finishing fails, and how many writes and faults there were
+-- what a `MemorySink` is seen as: the bytes written and how many it can take, the numbers of the writes that fail, counted from 1, whether finishing fails, whether it was finished after the last write, and how many writes and faults there were
 pub record Writing : Type 0 where
   pub written : List ℕ
   pub capacity : ℕ
   pub failing : List ℕ
   pub finish_fails : Bool
+  pub finished : Bool
   pub writes : ℕ
   pub faults : ℕ
 

@@ -1,10 +1,6 @@
--- What reads and writes say of their counts of faults, and of the bytes of a whole stream: our profile.
-use Rattle.std.specs.Prelude.{◌≡◌, ℕ, ◌-◌, ◌^◌, ◌<◌, ◌≤◌, Bool, true, false, length, take, List, ◌++◌, Option}
+-- What reads and writes say of the bytes of a whole stream: our profile.
+use Rattle.std.specs.Prelude.{◌≡◌, ℕ, ◌<◌, ◌≤◌, Bool, true, false, length, take, List, ◌++◌, Option}
 use Rattle.std.specs.Io.KnownBytes.{Appends}
-
--- The count of faults rose, unless it stands at its greatest value.
-abbrev pub Rose : ℕ → ℕ → Type 0
-Rose old new = new < 2 ^ 64 - 1 → old < new
 
 -- These bytes are all that there were, and within the limit; or there were more, and these are the first ones up to the limit.
 abbrev pub ReadsUpTo : ℕ → List ℕ → List ℕ → Bool → Type 0

@@ -1,8 +1,8 @@
 //! A source and a sink in memory. Which of their calls fail is named beforehand.
-ghost use Rattle.std.specs.Prelude.{◌≡◌, false, ◌+◌, ◌-◌, ◌<◌, ◌≤◌, ◌↔◌, ◌⊎◌, [], ◌++◌, length, min, take, drop, vec_len, vec_capacity, Contains, IsTrue, IsErr, IfOk, OnOk, OnErr, IsOkUnless};
+ghost use Rattle.std.specs.Prelude.{◌≡◌, true, false, ◌+◌, ◌-◌, ◌<◌, ◌≤◌, ◌↔◌, ◌⊎◌, [], ◌++◌, length, min, take, drop, vec_len, vec_capacity, Contains, IsTrue, IsErr, IfOk, OnOk, OnErr, IsOkUnless};
 ghost use Rattle.std.specs.Io.KnownBytes.{Keeps, Appends, Consumes, IsAtEnd};
 ghost use Rattle.drmaa_types.specs.Readings.{counted_on};
-ghost use Rattle.byte_streams.specs.Streams.{Rose};
+ghost use Rattle.drmaa_types.specs.Counts.{Rose};
 ghost use Rattle.byte_streams.specs.Memory.{moved_length};
 
 use crate::{Sink, Source};
@@ -88,6 +88,7 @@ pub struct MemorySink {
     capacity: usize,
     failing: PlaceList,
     finish_fails: bool,
+    finished: bool,
     writes: u64,
     faults: u64,
 }
@@ -98,7 +99,7 @@ impl Model for MemorySink {
 
     ghost Value = { Writing };
 
-    ghost view = { λ s. record { written = s.bytes.items; capacity = s.capacity; failing = s.failing; finish_fails = s.finish_fails; writes = s.writes; faults = s.faults } };
+    ghost view = { λ s. record { written = s.bytes.items; capacity = s.capacity; failing = s.failing; finish_fails = s.finish_fails; finished = s.finished; writes = s.writes; faults = s.faults } };
 
     ghost invariant = { λ s. (vec_len s.bytes ≤ s.capacity) × (s.capacity ≤ vec_capacity s.bytes) };
 }
@@ -112,7 +113,7 @@ impl MemorySink {
         failing: PlaceList,
         finish_fails: bool,
     ) -> Result<MemorySink, Refusal>
-        ensures ok { IfOk result (λ sink. sink ≡ record { written = []; capacity = capacity; failing = failing; finish_fails = finish_fails; writes = 0; faults = 0 }) }
+        ensures ok { IfOk result (λ sink. sink ≡ record { written = []; capacity = capacity; failing = failing; finish_fails = finish_fails; finished = false; writes = 0; faults = 0 }) }
         ensures err { IsOkUnless result Refusal.OutOfMemory }
     {
         let Ok(bytes) = Vec::with_capacity(alloc, capacity) else {
@@ -123,6 +124,7 @@ impl MemorySink {
             capacity,
             failing,
             finish_fails,
+            finished: false,
             writes: 0,
             faults: 0,
         })
@@ -137,26 +139,27 @@ impl MemorySink {
 }
 
 impl Sink for MemorySink {
-    ghost use Rattle.std.specs.Prelude.{◌≡◌, Some, false};
+    ghost use Rattle.std.specs.Prelude.{◌≡◌, Some, true};
 
     ghost faults = { λ s. s.faults };
 
     ghost written = { λ s. Some s.written };
 
-    ghost finished = { λ s. s.finish_fails ≡ false };
+    ghost finished = { λ s. s.finished ≡ true };
 
     /// Writes as many bytes of the piece as there is room for, at most 64. It fails also where no room is left for any.
     fn write(&mut self, piece: &[u8]) -> Result<usize, Failed>
         ensures fits { IfOk result (λ n. n ≤ length piece.now) }
         ensures progress { IfOk result (λ n. 0 < length piece.now → 0 < n) }
         ensures added { IfOk result (λ n. Appends (Some self.old.written) (Some self.new.written) (take n piece.now)) }
+        ensures pending { OnOk result (self.new.finished ≡ true → ⊥) }
         ensures kept { OnErr result (Keeps (Some self.old.written) (Some self.new.written)) }
         ensures counted { self.old.faults ≤ self.new.faults }
         ensures fault { OnErr result (Rose self.old.faults self.new.faults) }
         ensures fails { IsErr result ↔ (Contains self.old.failing (counted_on self.old.writes)
             ⊎ ((0 < length piece.now) × (self.old.capacity ≤ length self.old.written))) }
         ensures takes { IfOk result (λ n. n ≡ moved_length (length piece.now) (self.old.capacity - length self.old.written)) }
-        ensures ok { IfOk result (λ n. self.new ≡ record self.old { written = self.old.written ++ take n piece.now; writes = counted_on self.old.writes }) }
+        ensures ok { IfOk result (λ n. self.new ≡ record self.old { written = self.old.written ++ take n piece.now; finished = false; writes = counted_on self.old.writes }) }
         ensures err { OnErr result (self.new ≡ record self.old { writes = counted_on self.old.writes; faults = counted_on self.old.faults }) }
     {
         self.writes = self.writes.saturating_add(1);
@@ -168,22 +171,24 @@ impl Sink for MemorySink {
         }
         let count = piece.len().min(MOST).min(room);
         append(&mut self.bytes, &piece[..count]);
+        self.finished = false;
         Ok(count)
     }
 
     fn finish(&mut self) -> Result<(), Failed>
-        ensures finished { OnOk result (self.new.finish_fails ≡ false) }
+        ensures finished { OnOk result (self.new.finished ≡ true) }
         ensures kept { Keeps (Some self.old.written) (Some self.new.written) }
         ensures counted { self.old.faults ≤ self.new.faults }
         ensures fault { OnErr result (Rose self.old.faults self.new.faults) }
         ensures fails { IsErr result ↔ IsTrue self.old.finish_fails }
-        ensures ok { OnOk result (self.new ≡ self.old) }
+        ensures ok { OnOk result (self.new ≡ record self.old { finished = true }) }
         ensures err { OnErr result (self.new ≡ record self.old { faults = counted_on self.old.faults }) }
     {
         if self.finish_fails {
             self.faults = self.faults.saturating_add(1);
             return Err(Failed);
         }
+        self.finished = true;
         Ok(())
     }
 }

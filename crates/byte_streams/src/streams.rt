@@ -1,7 +1,7 @@
 //! What a source and a sink are. Each counts its faults, and may tell contracts its bytes.
 ghost use Rattle.std.specs.Prelude.{◌≡◌, ℕ, ◌<◌, ◌≤◌, List, length, take, Option, IfOk, OnOk, OnErr};
 ghost use Rattle.std.specs.Io.KnownBytes.{Keeps, Appends, Consumes, IsAtEnd};
-ghost use Rattle.byte_streams.specs.Streams.{Rose};
+ghost use Rattle.drmaa_types.specs.Counts.{Rose};
 
 use drmaa_types::Failed;
 
@@ -32,15 +32,16 @@ pub trait Sink {
     /// The bytes written so far, where the sink tells them.
     ghost written: { Self → Option (List ℕ) };
 
-    /// What was written is where it belongs.
+    /// What was written is where it belongs. A write ends this, and only a finish brings it about.
     ghost finished: { Self → Type 0 };
 
     /// Writes the first bytes of the piece, and answers how many: at least one, unless the piece is
-    /// empty. A write that failed has written none, and is counted.
+    /// empty. After that the sink is not finished. A write that failed has written none, and is counted.
     fn write(&mut self, piece: &[u8]) -> Result<usize, Failed>
         ensures fits { IfOk result (λ n. n ≤ length piece.now) }
         ensures progress { IfOk result (λ n. 0 < length piece.now → 0 < n) }
         ensures added { IfOk result (λ n. Appends (written self.old) (written self.new) (take n piece.now)) }
+        ensures pending { OnOk result (finished self.new → ⊥) }
         ensures kept { OnErr result (Keeps (written self.old) (written self.new)) }
         ensures counted { faults self.old ≤ faults self.new }
         ensures fault { OnErr result (Rose (faults self.old) (faults self.new)) };

@@ -1,7 +1,8 @@
 //! Reading a source to its end, or to a limit, and writing all of a piece to a sink.
 ghost use Rattle.std.specs.Prelude.{◌≡◌, ℕ, ◌<◌, ◌≤◌, List, vec_len, IsTrue, IfOk, OnOk, OnErr, IfSome, IsErrOf};
 ghost use Rattle.std.specs.Io.KnownBytes.{Appends, IsAtEnd};
-ghost use Rattle.byte_streams.specs.Streams.{Rose, ReadsUpTo, AppendsFront};
+ghost use Rattle.drmaa_types.specs.Counts.{Rose};
+ghost use Rattle.byte_streams.specs.Streams.{ReadsUpTo, AppendsFront};
 
 use crate::{Sink, Source};
 use drmaa_types::Failed;

@@ -1,5 +1,5 @@
 pub mod Children
-pub mod Counts
+pub mod Deeds
 pub mod Launch
 pub mod Memory
 pub mod Spawners

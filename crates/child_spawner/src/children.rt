@@ -1,6 +1,6 @@
 //! A child that was started.
 ghost use Rattle.std.specs.Prelude.{◌≡◌, ℕ, ◌<◌, ◌≤◌, Option, option_map, OnOk, OnErr, IfOk, IfSome, IfNone, IsSome};
-ghost use Rattle.child_spawner.specs.Counts.{Rose};
+ghost use Rattle.drmaa_types.specs.Counts.{Rose};
 ghost use Rattle.child_spawner.specs.Children.{Told, exit_of, after_poll, after_signal};
 
 use drmaa_types::{Exit, Failed, SignalKind};

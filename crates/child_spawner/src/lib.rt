@@ -5,17 +5,22 @@
 mod children;
 mod counts;
 mod fates;
+mod hosts;
 mod local;
 mod memory;
 mod memory_children;
 mod shell;
+mod signals;
 mod spawners;
+mod system;
 #[cfg(test)]
 mod tests;
 
 pub use children::Child;
 pub use fates::{Asked, Fate, FateList};
+pub use hosts::{Host, Process};
 pub use local::{LocalChild, LocalSpawner};
 pub use memory::MemorySpawner;
 pub use memory_children::MemoryChild;
 pub use spawners::Spawner;
+pub use system::{SystemHost, SystemProcess};

@@ -1,52 +1,68 @@
-//! The spawner of real processes: the trusted edge.
-ghost use Rattle.std.specs.Prelude.{◌≡◌, ℕ, ◌≤◌, [], ◌++◌, length, Option, None, Some, Ok, OnOk, OnErr, IfOk, IfSome, IsErr, IsSome, is_ok, string_bytes, if◌then◌else◌};
+//! The spawner of real processes.
+ghost use Rattle.std.specs.Prelude.{◌≡◌, ℕ, ◌≤◌, [], ◌++◌, length, Option, None, Some, Ok, OnOk, OnErr, IfOk, IfSome, IfNone, IsErr, IsSome, is_ok, IsTrue, IsFalse, string_bytes, if◌then◌else◌};
 ghost use Rattle.drmaa_types.specs.Readings.{counted_on};
-ghost use Rattle.child_spawner.specs.Counts.{Rose};
+ghost use Rattle.drmaa_types.specs.Counts.{Rose};
+ghost use Rattle.child_spawner.specs.Deeds.{Launches, Fails, Clears, Sends, Withholds};
+ghost use Rattle.child_spawner.specs.Launch.{number_file};
 ghost use Rattle.child_spawner.specs.Spawners.{plain_fate};
 
 use crate::counts::counted_on;
-use crate::shell::{exit_of, kill_command, launch_command, number_file, number_line};
-use crate::{Child, Spawner};
+use crate::shell::{exit_of, launch_command, number_file};
+use crate::signals::deliver;
+use crate::{Child, Host, Process, Spawner, SystemHost};
 use drmaa_types::{Exit, Failed, JobId, SignalKind, Text, TextList};
-use std::io::ErrorKind;
+use std::alloc::Global;
+use std::io;
 use std::marker::Model;
-use std::process::Stdio;
-use std::time::Duration;
-use std::{fs, io, process, thread};
 
 /// Starts real processes through `sh`. It tells neither what was asked of it nor a fate, and counts
 /// each start that failed, for want of memory too.
 #[derive(Drop)]
-pub struct LocalSpawner {
-    rt: HostRuntime,
+pub struct LocalSpawner<H: Host = SystemHost> {
+    alloc: Global,
+    host: H,
     folder: Text,
     faults: u64,
 }
 
-impl Model for LocalSpawner {
+impl<H: Host> Model for LocalSpawner<H> {
     ghost use Rattle.child_spawner.specs.Launch.{Edge};
 
-    ghost Value = { Edge };
+    ghost Value = { Edge H };
 
-    ghost view = { λ s. record { folder = s.folder; faults = s.faults } };
+    ghost view = { λ s. record { host = s.host; folder = s.folder; faults = s.faults } };
 }
 
-impl LocalSpawner {
+impl LocalSpawner<SystemHost> {
     /// A spawner whose processes write their numbers into files of this folder, one for each attempt of
     /// a job, which is removed before the start and when the end is seen.
-    pub fn new(rt: HostRuntime, folder: Text) -> LocalSpawner
-        ensures { result ≡ record { folder = folder; faults = 0 } }
+    pub fn new(rt: HostRuntime, folder: Text) -> LocalSpawner<SystemHost>
+        ensures folder { result.folder ≡ folder }
+        ensures faults { result.faults ≡ 0 }
+    {
+        LocalSpawner::over(rt.alloc(), SystemHost::new(rt), folder)
+    }
+}
+
+impl<H: Host> LocalSpawner<H> {
+    /// Such a spawner over this host.
+    pub fn over(alloc: Global, host: H, folder: Text) -> LocalSpawner<H>
+        ensures { result ≡ record { host = host; folder = folder; faults = 0 } }
     {
         LocalSpawner {
-            rt,
+            alloc,
+            host,
             folder,
             faults: 0,
         }
     }
 }
 
-impl Spawner for LocalSpawner {
-    type One = LocalChild;
+impl<H: Host + Send> Spawner for LocalSpawner<H>
+where
+    H::Process: Send,
+{
+    type One = LocalChild<H>;
 
     ghost faults = { λ s. s.faults };
 
@@ -56,17 +72,38 @@ impl Spawner for LocalSpawner {
 
     /// Starts `sh`, which becomes the job's command. What `sh` can't do, such as to enter the directory,
     /// is seen as the child's exit.
-    fn start(&mut self, job: JobId, attempt: u32, words: &TextList) -> Result<LocalChild, Failed>
+    fn start(&mut self, job: JobId, attempt: u32, words: &TextList) -> Result<LocalChild<H>, Failed>
         ensures cause { OnErr result (Rose self.old.faults self.new.faults) }
         ensures counted { OnOk result (self.new.faults ≡ self.old.faults) }
         ensures never_falls { self.old.faults ≤ self.new.faults }
 
+        // What is asked of the host: exactly the launch of this attempt, or a beginning of it.
+        ensures launched { IfOk result (λ child. Launches (number_file self.old.folder job.0 attempt) words.now child.number
+            (H.told self.old.host) (H.told self.new.host)) }
+        ensures failed { OnErr result (Fails (number_file self.old.folder job.0 attempt) words.now
+            (H.told self.old.host) (H.told self.new.host)) }
+
         ensures seen { self.new ≡ record self.old {
+          host = self.new.host;
           faults = if is_ok result then self.old.faults else counted_on self.old.faults;
         } }
-        ensures running { IfOk result (λ child. child ≡ record { ended = None; faults = 0 }) }
+        ensures running { IfOk result (λ child. child ≡ record {
+          host = child.host;
+          file = number_file self.old.folder job.0 attempt;
+          number = child.number;
+          ended = None;
+          faults = 0;
+        }) }
+        ensures twin { IfOk result (λ child. H.told child.host ≡ H.told self.new.host) }
     {
-        match launch(self.rt, self.folder.as_str(), job, attempt, words) {
+        match launch(
+            self.alloc,
+            &mut self.host,
+            self.folder.as_str(),
+            job,
+            attempt,
+            words,
+        ) {
             Ok(child) => Ok(child),
             Err(_) => {
                 self.faults = counted_on(self.faults);
@@ -76,25 +113,36 @@ impl Spawner for LocalSpawner {
     }
 }
 
-/// Starts the process of this attempt.
-fn launch(
-    rt: HostRuntime,
+/// Starts the process of this attempt. A file of its name, which an earlier run may have left, is
+/// removed first.
+fn launch<H: Host>(
+    alloc: Global,
+    host: &mut H,
     folder: &str,
     job: JobId,
     attempt: u32,
     words: &TextList,
-) -> io::Result<LocalChild>
-    ensures { IfOk result (λ child. child ≡ record { ended = None; faults = 0 }) }
+) -> io::Result<LocalChild<H>>
+    ensures launched { IfOk result (λ child. Launches (number_file folder.now job.0 attempt) words.now child.number
+        (H.told host.old) (H.told host.new)) }
+    ensures failed { OnErr result (Fails (number_file folder.now job.0 attempt) words.now
+        (H.told host.old) (H.told host.new)) }
+    ensures running { IfOk result (λ child. child ≡ record {
+      host = child.host;
+      file = number_file folder.now job.0 attempt;
+      number = child.number;
+      ended = None;
+      faults = 0;
+    }) }
+    ensures twin { IfOk result (λ child. H.told child.host ≡ H.told host.new) }
 {
-    let file = number_file(rt.alloc(), folder, job, attempt)?;
-    remove_number(rt, file.as_str())?;
-    let mut command = launch_command(rt.alloc(), file.as_str(), words)?;
-    let process = command
-        .stdin(Stdio::null())
-        .stdout(Stdio::null())
-        .spawn(&rt)?;
+    let file = number_file(alloc, folder, job, attempt)?;
+    host.remove(file.as_str())?;
+    let command = launch_command(alloc, file.as_str(), words)?;
+    let process = host.start(command)?;
     Ok(LocalChild {
-        rt,
+        alloc,
+        host: host.twin(),
         file,
         process,
         ended: None,
@@ -102,46 +150,38 @@ fn launch(
     })
 }
 
-/// Removes the file of a process's number, if it is there.
-fn remove_number(rt: HostRuntime, file: &str) -> io::Result<()> {
-    match fs::remove_file(&rt, file) {
-        Err(e) if e.kind() != ErrorKind::NotFound => Err(e),
-        _ => Ok(()),
-    }
-}
-
-/// How often the file with a process's number is looked for.
-const LOOKS: u32 = 1000;
-
-/// The rest between two looks, in milliseconds.
-const REST: u64 = 1;
-
 /// A real process. It tells nothing of itself, and counts each poll and signal that failed.
 #[derive(Drop)]
-pub struct LocalChild {
-    rt: HostRuntime,
+pub struct LocalChild<H: Host = SystemHost> {
+    alloc: Global,
+    host: H,
     file: String,
-    process: process::Child,
+    process: H::Process,
     ended: Option<Exit>,
     faults: u64,
 }
 
-impl Model for LocalChild {
-    ghost use Rattle.std.specs.Prelude.{◌≡◌, Some, option_map};
+impl<H: Host> Model for LocalChild<H> {
+    ghost use Rattle.std.specs.Prelude.{◌≡◌, Some, option_map, string_bytes};
     ghost use Rattle.std.specs.Option.{ForSome};
-    ghost use Rattle.std.specs.Process.{child_status};
     ghost use Rattle.child_spawner.specs.Launch.{EdgeChild, exit_of_status};
 
-    ghost Value = { EdgeChild };
+    ghost Value = { EdgeChild H };
 
-    ghost view = { λ c. record { ended = c.ended; faults = c.faults } };
+    ghost view = { λ c. record {
+      host = c.host;
+      file = string_bytes c.file;
+      number = H.Process.number c.process;
+      ended = c.ended;
+      faults = c.faults;
+    } };
 
     // The end that was seen is that of the status with which the process was waited for.
     ghost invariant = { λ c. ForSome c.ended
-        (λ exit. option_map exit_of_status (child_status c.process) ≡ Some exit) };
+        (λ exit. option_map exit_of_status (H.Process.status c.process) ≡ Some exit) };
 }
 
-impl Child for LocalChild {
+impl<H: Host> Child for LocalChild<H> {
     ghost faults = { λ c. c.faults };
 
     ghost told = { λ c. None };
@@ -156,6 +196,18 @@ impl Child for LocalChild {
         ensures again { IfSome self.old.ended (λ exit. result ≡ Ok (Some exit)) }
         ensures ended { IfOk result (λ seen. self.new.ended ≡ seen) }
         ensures unseen { OnErr result (self.new.ended ≡ self.old.ended) }
+        ensures seen { self.new ≡ record self.old {
+          host = self.new.host;
+          ended = self.new.ended;
+          faults = if is_ok result then self.old.faults else counted_on self.old.faults;
+        } }
+
+        // What is asked of the host: to remove the number's file, once, when the end is seen.
+        ensures cleared { IfOk result (λ seen. IsSome seen → IfNone self.old.ended
+            (Clears self.old.file (H.told self.old.host) (H.told self.new.host))) }
+        ensures over { IsSome self.old.ended → H.told self.new.host ≡ H.told self.old.host }
+        ensures quiet { IfOk result (λ seen. IfNone seen (H.told self.new.host ≡ H.told self.old.host)) }
+        ensures quiet_fault { OnErr result (H.told self.new.host ≡ H.told self.old.host) }
     {
         if self.ended.is_some() {
             return Ok(self.ended);
@@ -165,7 +217,7 @@ impl Child for LocalChild {
             Ok(Some(status)) => {
                 let exit = exit_of(status);
                 self.ended = Some(exit);
-                let _ = remove_number(self.rt, self.file.as_str());
+                let _ = self.host.remove(self.file.as_str());
                 Ok(Some(exit))
             }
             Err(_) => {
@@ -184,42 +236,25 @@ impl Child for LocalChild {
 
         // No signal is sent to another process that has got the number meanwhile.
         ensures over { IsSome self.old.ended → IsErr result }
-        ensures ended { self.new.ended ≡ self.old.ended }
+        ensures quiet { IsSome self.old.ended → H.told self.new.host ≡ H.told self.old.host }
+
+        // Ok exactly where this signal was sent to this process, and `sh` said so.
+        ensures sent { OnOk result (Sends kind self.old.number self.old.file
+            (H.told self.old.host) (H.told self.new.host)) }
+        ensures withheld { IsErr result → IfNone self.old.ended (Withholds kind self.old.number self.old.file
+            (H.told self.old.host) (H.told self.new.host)) }
+        ensures seen { self.new ≡ record self.old {
+          host = self.new.host;
+          faults = if is_ok result then self.old.faults else counted_on self.old.faults;
+        } }
     {
-        if self.ended.is_none() && matches!(self.deliver(kind), Ok(true)) {
+        let number = self.process.id();
+        if self.ended.is_none()
+            && deliver(self.alloc, &mut self.host, self.file.as_str(), number, kind)
+        {
             return Ok(());
         }
         self.faults = counted_on(self.faults);
         Err(Failed)
     }
-}
-
-impl LocalChild {
-    /// Whether the signal was sent.
-    fn deliver(&self, kind: SignalKind) -> io::Result<bool> {
-        let number = self.process.id();
-        let line = number_line(self.rt.alloc(), number)?;
-        if !has_line(self.rt, self.file.as_str(), line.as_str()) {
-            return Ok(false);
-        }
-        let mut command = kill_command(self.rt.alloc(), kind, number)?;
-        let status = command
-            .stdin(Stdio::null())
-            .stdout(Stdio::null())
-            .status(&self.rt)?;
-        Ok(status.success())
-    }
-}
-
-/// Whether the file is this line, once it is there. It is looked for some times, with rests.
-fn has_line(rt: HostRuntime, file: &str, line: &str) -> bool {
-    for look in 0..LOOKS {
-        if look > 0 {
-            thread::sleep(&rt, Duration::from_millis(REST));
-        }
-        if matches!(fs::read_to_string(&rt, file), Ok(text) if text.as_str() == line) {
-            return true;
-        }
-    }
-    false
 }

@@ -2,7 +2,7 @@
 ghost use Rattle.std.specs.Prelude.{◌≡◌, ℕ, ◌≤◌, ◌↔◌, [], ◌∷◌, ◌++◌, true, false, length, Contains, Option, Some, OnOk, OnErr, IfOk, IfSome, IsErr, IsTrue, is_ok, if◌then◌else◌};
 ghost use Rattle.drmaa_types.specs.Readings.{counted_on};
 ghost use Rattle.child_spawner.specs.Children.{started_child};
-ghost use Rattle.child_spawner.specs.Counts.{Rose};
+ghost use Rattle.drmaa_types.specs.Counts.{Rose};
 ghost use Rattle.child_spawner.specs.Memory.{told_list};
 ghost use Rattle.child_spawner.specs.Spawners.{Asks, fate_of};
 

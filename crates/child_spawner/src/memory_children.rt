@@ -1,7 +1,7 @@
 //! The children of the spawner that starts nothing.
 ghost use Rattle.std.specs.Prelude.{◌≡◌, ℕ, ◌<◌, ◌≤◌, ◌↔◌, Option, Some, option_map, OnOk, OnErr, IfOk, IfSome, IfNone, IsSome, IsErr, IsNone, IsTrue, is_ok, if◌then◌else◌};
 ghost use Rattle.drmaa_types.specs.Readings.{counted_on};
-ghost use Rattle.child_spawner.specs.Counts.{Rose};
+ghost use Rattle.drmaa_types.specs.Counts.{Rose};
 ghost use Rattle.child_spawner.specs.Children.{Told, started_child, exit_of, after_poll, after_signal};
 
 use crate::counts::counted_on;

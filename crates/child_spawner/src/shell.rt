@@ -1,7 +1,7 @@
 //! The words that start a real process through `sh`, and that send it a signal.
 ghost use Rattle.std.specs.Prelude.{◌≡◌, [], ◌∷◌, ◌++◌, codes, string_bytes, IfOk, OnOk};
 ghost use Rattle.std.specs.Process.{command_args, command_program};
-ghost use Rattle.child_spawner.specs.Launch.{number_file, number_line, launch_args, signal_name, kill_args, exit_of_status};
+ghost use Rattle.child_spawner.specs.Launch.{number_file, number_line, shell, launch_args, signal_name, kill_args, IsPlain, exit_of_status};
 
 use drmaa_types::{Exit, JobId, SignalKind, TextList};
 use std::alloc::{AllocError, Global};
@@ -51,8 +51,9 @@ pub(crate) fn launch_command(
     file: &str,
     words: &TextList,
 ) -> Result<Command, AllocError>
-    ensures program { IfOk result (λ command. command_program command ≡ SHELL.now) }
-    ensures args { IfOk result (λ command. command_args command ≡ launch_args LAUNCH.now file.now words.now) }
+    ensures program { IfOk result (λ command. command_program command ≡ shell) }
+    ensures args { IfOk result (λ command. command_args command ≡ launch_args file.now words.now) }
+    ensures plain { IfOk result IsPlain }
 {
     let mut command = shell_command(alloc, LAUNCH)?;
     command.arg("drmaa")?.arg(file)?;
@@ -66,8 +67,9 @@ pub(crate) fn kill_command(
     kind: SignalKind,
     number: u32,
 ) -> Result<Command, AllocError>
-    ensures program { IfOk result (λ command. command_program command ≡ SHELL.now) }
+    ensures program { IfOk result (λ command. command_program command ≡ shell) }
     ensures args { IfOk result (λ command. command_args command ≡ kill_args kind number) }
+    ensures plain { IfOk result IsPlain }
 {
     let name = signal_name(kind);
     let text = format!(in alloc; "kill -{name} {number}")?;
@@ -76,8 +78,9 @@ pub(crate) fn kill_command(
 
 /// The command in which `sh` runs this text.
 fn shell_command(alloc: Global, text: &str) -> Result<Command, AllocError>
-    ensures program { IfOk result (λ command. command_program command ≡ SHELL.now) }
+    ensures program { IfOk result (λ command. command_program command ≡ shell) }
     ensures args { IfOk result (λ command. command_args command ≡ codes "-c" ∷ text.now ∷ []) }
+    ensures plain { IfOk result IsPlain }
 {
     let mut command = Command::new(alloc, SHELL)?;
     command.arg("-c")?.arg(text)?;
@@ -88,6 +91,7 @@ fn shell_command(alloc: Global, text: &str) -> Result<Command, AllocError>
 fn push_words(command: &mut Command, words: &TextList) -> Result<(), AllocError>
     ensures program { OnOk result (command_program command.new ≡ command_program command.old) }
     ensures args { OnOk result (command_args command.new ≡ command_args command.old ++ words.now) }
+    ensures plain { OnOk result (IsPlain command.old → IsPlain command.new) }
 {
     for word in words.as_slice() {
         command.arg(word.as_str())?;

@@ -3,7 +3,7 @@ ghost use Rattle.std.specs.Prelude.{◌≡◌, ℕ, ◌≤◌, List, length, Opt
 ghost use Rattle.child_spawner.specs.declared.fates.Asked.{Asked};
 ghost use Rattle.child_spawner.specs.declared.fates.Fate.{Fate};
 ghost use Rattle.child_spawner.specs.Children.{started_child};
-ghost use Rattle.child_spawner.specs.Counts.{Rose};
+ghost use Rattle.drmaa_types.specs.Counts.{Rose};
 ghost use Rattle.child_spawner.specs.Spawners.{Asks};
 
 use crate::Child;

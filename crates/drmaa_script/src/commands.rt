@@ -1,7 +1,7 @@
 //! The commands of the program.
 ghost use Rattle.std.specs.Prelude.{◌≡◌, ◌≢◌, ◌↔◌, ◌⊎◌, ℕ, List, take, IfSome, IfOk, IfErr, OnOk, IsTrue, Ok, Err, codes};
 ghost use Rattle.std.specs.Io.KnownBytes.{IsAtEnd};
-ghost use Rattle.byte_streams.specs.Streams.{Rose};
+ghost use Rattle.drmaa_types.specs.Counts.{Rose};
 ghost use Rattle.first_script.specs.Grammar.{IsFirstBad, byte_limit};
 ghost use Rattle.first_journal.specs.Writable.{IsWritable};
 ghost use Rattle.first_script.specs.Play.{serial_play};

@@ -1,7 +1,0 @@
--- Counts that stay at their greatest value once they are there: our profile.
-use Rattle.std.specs.Prelude.{ℕ, ◌≤◌}
-use Rattle.drmaa_types.specs.Readings.{counted_on}
-
--- A count rose, or stands at its greatest value.
-abbrev pub Rose : ℕ → ℕ → Type 0
-Rose old new = counted_on old ≤ new
