@@ -3,11 +3,16 @@
 #![tactic(auto)]
 
 mod attributes;
+mod copies;
+mod expansion;
 mod frames;
+mod launch;
 mod templates;
 mod texts;
 mod wants;
 
+pub use launch::launch_words;
+pub use expansion::expand;
 pub use frames::validate_reservation;
 pub use templates::{
     Frame, JobTemplate, LimitList, Pair, PairList, ReservationTemplate, ResourceLimit, Start,
