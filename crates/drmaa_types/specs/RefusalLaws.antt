@@ -1,7 +1,7 @@
 -- Laws of tables of refusals.
-use Rattle.std.specs.Prelude.{◌≡◌, Bool, true, false, cond, List, [], ◌∷◌, ◌++◌, Option, Some, None, Result, Ok, Err}
+use Rattle.std.specs.Prelude.{◌≡◌, Bool, true, false, cond, List, [], ◌∷◌, ◌++◌, Option, Some, None}
 use Rattle.std.proofs.Common.{refl}
-use Rattle.drmaa_types.specs.Refusals.{first_refusal, refused_or}
+use Rattle.drmaa_types.specs.Refusals.{first_refusal}
 use Rattle.drmaa_types.specs.declared.refusals.Refusal.{Refusal}
 
 -- where the first table refuses, both do so
@@ -9,8 +9,8 @@ pub refused_first : (ts us : List (Bool × Refusal)) (refusal : Refusal) → fir
 refused_first [] us refusal e = absurd (cc)
 refused_first (t ∷ ts) us refusal e =
     (elim t.0 as (λ b. cond b (Some t.1) (first_refusal ts) ≡ Some refusal → cond b (Some t.1) (first_refusal (ts ++ us)) ≡ Some refusal) [
-      true ↦ λ h. h
-    | false ↦ λ h. refused_first ts us refusal h
+      | true ↦ λ h. h
+      | false ↦ λ h. refused_first ts us refusal h
     ]) e
 
 -- where the first table does not refuse, the second decides
@@ -18,15 +18,6 @@ pub passed_first : (ts us : List (Bool × Refusal)) → first_refusal ts ≡ Non
 passed_first [] us e = refl
 passed_first (t ∷ ts) us e =
     (elim t.0 as (λ b. cond b (Some t.1) (first_refusal ts) ≡ None → cond b (Some t.1) (first_refusal (ts ++ us)) ≡ first_refusal us) [
-      true ↦ λ h. absurd (cc)
-    | false ↦ λ h. passed_first ts us h
+      | true ↦ λ h. absurd (cc)
+      | false ↦ λ h. passed_first ts us h
     ]) e
-
--- what an answer says of the refusal
-pub refusal_of_err : {A : Type 0} (refusal : Option Refusal) (value : A) (why : Refusal) → refused_or refusal value ≡ Err why → refusal ≡ Some why
-refusal_of_err None value why e = absurd (cc)
-refusal_of_err (Some refusal) value why e = cc
-
-pub refusal_of_ok : {A : Type 0} (refusal : Option Refusal) (value given : A) → refused_or refusal value ≡ Ok given → refusal ≡ None
-refusal_of_ok None value given e = refl
-refusal_of_ok (Some refusal) value given e = absurd (cc)

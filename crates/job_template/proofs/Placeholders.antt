@@ -12,8 +12,8 @@ use denote.Ref.{Bor}
 begins_not : (b : ℕ) (bs : List ℕ) → LacksTextAt placeholder (b ∷ bs) 0 → starts_with nat_eq (b ∷ bs) placeholder ≡ false
 begins_not b bs lacks =
     (elim (starts_with nat_eq (b ∷ bs) placeholder) as (λ r. r ≡ starts_with nat_eq (b ∷ bs) placeholder → r ≡ false) [
-      true ↦ λ e. absurd (lacks (drop (length placeholder) (b ∷ bs)) ((starts_is Decides-eqb (b ∷ bs) placeholder true e).0 refl))
-    | false ↦ λ e. refl
+      | true ↦ λ e. absurd (lacks (drop (length placeholder) (b ∷ bs)) ((starts_is Decides-eqb (b ∷ bs) placeholder true e).0 refl))
+      | false ↦ λ e. refl
     ]) refl
 
 -- there a byte stays
@@ -48,6 +48,6 @@ replaced_matches digits (suc n) p s out is m =
     let split : drop m.0 s ≡ placeholder ++ drop m.1 s = m.4.1.split ∙ ap (λ w. w ++ drop m.1 s) is in
     let ends : m.1 ≡ m.0 + 14 = m.4.1.ends ∙ ap (λ w. m.0 + length w) is in
     (elim m.6 as (λ _. out ≡ replaced digits 0 s) [
-      inl h ↦ m.7 ∙ (ap (λ r. take m.0 s ++ (digits ++ r)) (replaced_matches digits n m.2 (drop m.1 s) m.3 (m.5 ∙ is) h.1) ∙ sym (until_first digits m.0 s (drop m.1 s) lacks split))
-    | inr h ↦ absurd (omega (arith, ends, h.0))
+      | inl h ↦ m.7 ∙ (ap (λ r. take m.0 s ++ (digits ++ r)) (replaced_matches digits n m.2 (drop m.1 s) m.3 (m.5 ∙ is) h.1) ∙ sym (until_first digits m.0 s (drop m.1 s) lacks split))
+      | inr h ↦ absurd (omega (arith, ends, h.0))
     ])

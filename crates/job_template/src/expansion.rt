@@ -82,7 +82,11 @@ fn expanded_pairs(alloc: Global, pairs: &PairList, digits: &str) -> Result<PairL
     Ok(PairList::from_vec(copy))
 }
 
-fn expanded_option(alloc: Global, text: &Option<Text>, digits: &str) -> Result<Option<Text>, AllocError>
+fn expanded_option(
+    alloc: Global,
+    text: &Option<Text>,
+    digits: &str,
+) -> Result<Option<Text>, AllocError>
     ensures { IfOk result (λ copy. copy ≡ option_map (replaced digits.now 0) text.now) }
 {
     match text {
