@@ -1,5 +1,5 @@
 -- Tables of refusals whose rows stand in groups.
-use Rattle.std.proofs.Common.{◌≡◌, Bool, List, ◌++◌, Option, Some, None, Result, Ok, Err, ap, ◌∙◌}
+use Rattle.std.proofs.Common.{◌≡◌, Bool, List, ◌++◌, Some, None, Err, ap, ◌∙◌}
 use Rattle.drmaa_types.specs.Refusals.{first_refusal, refused_or}
 use Rattle.drmaa_types.specs.RefusalLaws.{refused_first, passed_first}
 use Rattle.drmaa_types.specs.declared.refusals.Refusal.{Refusal}
