@@ -4,5 +4,6 @@ pub mod Filters
 pub mod Moments
 pub mod Notifications
 pub mod Readings
+pub mod RefusalLaws
 pub mod Refusals
 pub mod States

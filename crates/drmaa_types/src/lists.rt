@@ -2,7 +2,7 @@
 ghost use Rattle.std.specs.Prelude.{◌≡◌, []};
 
 use crate::{Attribute, Moment, Text};
-use std::alloc::Global;
+use std::alloc::{AllocError, Global};
 use std::marker::Model;
 
 /// A list, seen by contracts as the list of its items: its room is no part of it.
@@ -48,6 +48,18 @@ impl<T> ListOf<T> {
         ensures { result.now ≡ self.now }
     {
         self.items.as_slice()
+    }
+}
+
+impl<T: Clone> Clone for ListOf<T> {
+    ghost use Rattle.std.specs.List.{AllZip};
+
+    ghost is_clone = { λ list copy. AllZip T.is_clone list copy };
+
+    fn clone(&self) -> Result<ListOf<T>, AllocError> {
+        Ok(ListOf {
+            items: self.items.clone()?,
+        })
     }
 }
 

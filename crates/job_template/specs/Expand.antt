@@ -1,5 +1,5 @@
 -- What a member of an array is run with (GFD.231, runBulkJobs): its index stands for the placeholder.
-use Rattle.std.specs.Prelude.{ℕ, zero, suc, ◌-◌, List, [], ◌∷◌, ◌++◌, length, map, codes, decimal, nat_eq, Option, if◌then◌else◌}
+use Rattle.std.specs.Prelude.{ℕ, zero, suc, ◌-◌, List, [], ◌∷◌, ◌++◌, length, map, codes, decimal, nat_eq, if◌then◌else◌}
 use Rattle.std.specs.Option.{option_map}
 use Rattle.std.specs.List.{starts_with}
 use Rattle.job_template.specs.declared.templates.JobTemplate.{JobTemplate}
@@ -20,20 +20,21 @@ replaced digits zero (b ∷ bs) =
 abbrev pub expanded_text : ℕ → List ℕ → List ℕ
 expanded_text index text = replaced (decimal index) 0 text
 
--- in an environment the values are expanded, and the names stay
-abbrev pub expanded_pair : ℕ → Pair → Pair
-expanded_pair index p = record p { value = expanded_text index p.value }
+-- an environment's variable with this made of its value; its name stays
+abbrev pub with_value : (List ℕ → List ℕ) → Pair → Pair
+with_value made p = record p { value = made p.value }
 
-abbrev pub expanded_option : ℕ → Option (List ℕ) → Option (List ℕ)
-expanded_option index text = option_map (expanded_text index) text
-
--- the args, the environment's values and the paths are expanded; all else stays
-abbrev pub expanded : ℕ → JobTemplate → JobTemplate
-expanded index t = record t {
-  args = map (expanded_text index) t.args;
-  job_environment = map (expanded_pair index) t.job_environment;
-  working_directory = expanded_option index t.working_directory;
-  input_path = expanded_option index t.input_path;
-  output_path = expanded_option index t.output_path;
-  error_path = expanded_option index t.error_path;
+-- this made of the args, of the environment's values and of the paths; all else stays
+abbrev pub with_texts : (List ℕ → List ℕ) → JobTemplate → JobTemplate
+with_texts made t = record t {
+  args = map made t.args;
+  job_environment = map (with_value made) t.job_environment;
+  working_directory = option_map made t.working_directory;
+  input_path = option_map made t.input_path;
+  output_path = option_map made t.output_path;
+  error_path = option_map made t.error_path;
 }
+
+-- the template of the member with this index
+abbrev pub expanded : ℕ → JobTemplate → JobTemplate
+expanded index t = with_texts (expanded_text index) t

@@ -83,12 +83,13 @@ length_tests t f =
     (starts t && ends t && nat_le f.until f.from, InvalidArgument which.EndTime) ∷
     (lasts t && ((f.span == 0) || nat_lt f.until (f.from + f.span) || nat_lt greatest f.until), InvalidArgument which.Duration) ∷ []
 
-abbrev pub slot_tests : Frame → List (Bool × Refusal)
-slot_tests f =
-    (f.min == 0, InvalidArgument which.MinSlots) ∷
-    (nat_lt f.max f.min, InvalidArgument which.MaxSlots) ∷ []
+-- the least number of slots is 0, or the greatest is below it
+abbrev pub slot_tests : ℕ → ℕ → List (Bool × Refusal)
+slot_tests min max =
+    (min == 0, InvalidArgument which.MinSlots) ∷
+    (nat_lt max min, InvalidArgument which.MaxSlots) ∷ []
 
 abbrev pub frame_tests : ℕ → ReservationTemplate → List (Bool × Refusal)
 frame_tests now t =
-    name_tests t ++ start_tests now t (frame_of now t) ++ length_tests t (frame_of now t) ++ slot_tests (frame_of now t) ++
-    other_tests t.others
+    name_tests t ++ start_tests now t (frame_of now t) ++ length_tests t (frame_of now t) ++
+    slot_tests (frame_of now t).min (frame_of now t).max ++ other_tests t.others

@@ -95,8 +95,13 @@ abbrev pub has_repeat : List (List ℕ) → Bool
 has_repeat [] = false
 has_repeat (text ∷ texts) = list_any (bytes_eq text) texts || has_repeat texts
 
+abbrev pub has_good_name : Pair → Bool
+has_good_name p = is_variable p.name
+
+abbrev pub has_nul_value : Pair → Bool
+has_nul_value p = has_nul p.value
+
 -- a name is not one of a variable, a name stands twice, or a value has U+0000
 abbrev pub is_bad_environment : List Pair → Bool
 is_bad_environment pairs =
-    not (list_all (λ (p : Pair). is_variable p.name) pairs) || has_repeat (names_of pairs) ||
-    list_any (λ (p : Pair). has_nul p.value) pairs
+    not (list_all has_good_name pairs) || has_repeat (names_of pairs) || list_any has_nul_value pairs

@@ -2,8 +2,22 @@
 //! that start a job.
 #![tactic(auto)]
 
+mod attributes;
+mod copies;
+mod expansion;
+mod frames;
+mod jobs;
+mod launch;
 mod templates;
+mod texts;
+mod variables;
+mod wants;
 
+pub use expansion::expand;
+pub use frames::validate_reservation;
+pub use jobs::validate_job;
+pub use launch::launch_words;
 pub use templates::{
     Frame, JobTemplate, LimitList, Pair, PairList, ReservationTemplate, ResourceLimit, Start,
 };
+pub use texts::text_length;
