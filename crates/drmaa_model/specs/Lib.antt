@@ -1,6 +1,7 @@
 pub mod AnswerLaws
 pub mod BoundaryLaws
 pub mod Controlling
+pub mod ControlLaws
 pub mod Courses
 pub mod Effects
 pub mod Fit
@@ -17,6 +18,7 @@ pub mod Launching
 pub mod Load
 pub mod MomentLaws
 pub mod Operation
+pub mod OperationLaws
 pub mod Order
 pub mod OrderLaws
 pub mod Plan
