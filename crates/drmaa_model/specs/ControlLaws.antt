@@ -4,6 +4,7 @@ use Rattle.std.specs.Prelude.{IfSome, is_some}
 use Rattle.std.specs.List.{AllByRecursion, flat_map}
 use Rattle.std.specs.Option.{option_map, option_map_or}
 use Rattle.std.proofs.lemmas.Bool.{and_parts, false≢true, not-false}
+use Rattle.std.proofs.lemmas.List.Sums.{sum_by-cons}
 use Rattle.drmaa_types.specs.States.{is_waiting, is_started, has_terminated, after_control}
 use Rattle.drmaa_types.specs.declared.identifiers.ArrayId.{ArrayId}
 use Rattle.drmaa_types.specs.declared.identifiers.JobId.{JobId}
@@ -23,13 +24,15 @@ use Rattle.drmaa_model.specs.declared.rows.Row.{Row}
 use Rattle.drmaa_model.specs.declared.rows.Wants.{Wants}
 use Rattle.drmaa_model.specs.Controlling.{permits, is_controlled, controlled_row, control_step, orders_for, asked_orders, control, is_done, reap}
 use Rattle.drmaa_model.specs.Courses.{failed, called, may_kill, terminated, controlled, asked_for}
-use Rattle.drmaa_model.specs.Fit.{IsSound, IsFor, IsFit}
-use Rattle.drmaa_model.specs.FitLaws.{Eases, eases-same, eases-failed, eases-asked, eased, Lasts, SameKind, same-kind, ends-waiting, orders-lasting, all-append}
-use Rattle.drmaa_model.specs.Load.{uses_at, is_using}
+use Rattle.drmaa_model.specs.Fit.{number_of, IsSound, IsFor, IsFit, IsBound, IsAlike, launched_at}
+use Rattle.drmaa_model.specs.FitLaws.{Eases, eases-same, eases-failed, eases-asked, eased, Lasts, SameKind, same-kind, ends-waiting, orders-lasting, all-append, bound-under}
+use Rattle.drmaa_model.specs.Launching.{is_alive}
+use Rattle.drmaa_model.specs.Load.{uses_at, is_using, held_inside, in_reservation, holds_in}
 use Rattle.drmaa_model.specs.OperationLaws.{KeepsFit}
+use Rattle.drmaa_model.specs.OrderLaws.{rising-filter}
 use Rattle.drmaa_model.specs.Plan.{Plan}
-use Rattle.drmaa_model.specs.RowLaws.{all-implied, all-both, rising-found, row_of-map}
-use Rattle.drmaa_model.specs.Rows.{row_of, change_of, change_rows}
+use Rattle.drmaa_model.specs.RowLaws.{all-filter, all-implied, all-both, rising-found, row_of-map}
+use Rattle.drmaa_model.specs.Rows.{is_of, row_of, change_of, change_rows}
 use Rattle.drmaa_model.specs.Targets.{is_meant}
 
 -- a job is controlled, in a state that permits it, or it stays
@@ -188,3 +191,96 @@ control-keeps t what = record { keeps = λ entry p fit free.
     (all-both (λ (r : Row). row_of r.job p.rows ≡ Some r) (λ (r : Row). IsSound r.wants r.course) p.rows (rising-found p.rows fit.jobs.rising) fit.sound)) in
     eased f same (control-wants p.moment t what) p fit all changes more (p.orders ++ flat_map (asked_orders t what) p.rows)
     (all-append (IsFor (map f p.rows)) p.orders (flat_map (asked_orders t what) p.rows) (orders-lasting f same p.rows all p.orders fit.asked) asked)) }
+
+-- ---- reaping
+
+-- a sum over fewer rows is no more
+sum-fewer : (g : Row → ℕ) (test : Row → Bool) (rows : List Row) → sum_by g (filter test rows) ≤ sum_by g rows
+sum-fewer g test [] = omega arith
+sum-fewer g test (r ∷ rows) =
+    elim (test r) as (λ b. sum_by g (cond b (r ∷ filter test rows) (filter test rows)) ≤ sum_by g (r ∷ rows)) [
+      | true ↦ omega (arith, sum-fewer g test rows, sum_by-cons g r rows, sum_by-cons g r (filter test rows))
+      | false ↦ omega (arith, sum-fewer g test rows, sum_by-cons g r rows)
+    ]
+
+-- a row that stays is found where it was
+found-fewer : (test : Row → Bool) (job : JobId) (rows : List Row) (r : Row) → row_of job rows ≡ Some r → test r ≡ true → row_of job (filter test rows) ≡ Some r
+found-fewer test job [] r found stays = absurd (cc)
+found-fewer test job (x ∷ rows) r found stays =
+    (elim (is_of job x) as (λ b. is_of job x ≡ b → cond b (Some x) (row_of job rows) ≡ Some r → row_of job (cond (test x) (x ∷ filter test rows) (filter test rows)) ≡ Some r) [
+      | true ↦ λ is e.
+          (let same : x ≡ r = cc in
+          let stays' : test x ≡ true = ap test same ∙ stays in
+          ap (λ b. row_of job (cond b (x ∷ filter test rows) (filter test rows))) stays' ∙ ap (λ b. cond b (Some x) (row_of job (filter test rows))) is ∙ e)
+      | false ↦ λ is e.
+          (let rest = found-fewer test job rows r e stays in
+          elim (test x) as (λ b. row_of job (cond b (x ∷ filter test rows) (filter test rows)) ≡ Some r) [
+            | true ↦ ap (λ b. cond b (Some x) (row_of job (filter test rows))) is ∙ rest
+            | false ↦ rest
+          ])
+    ]) refl found
+
+found-started : (rows : List Row) (job : JobId) → option_map_or (λ (row : Row). is_started row.course.state) (row_of job rows) false ≡ true
+    → (r : Row) × (row_of job rows ≡ Some r) × (is_started r.course.state ≡ true)
+found-started rows job is =
+    (elim (row_of job rows) as (λ o. row_of job rows ≡ o → option_map_or (λ (row : Row). is_started row.course.state) o false ≡ true → (r : Row) × (row_of job rows ≡ Some r) × (is_started r.course.state ≡ true)) [
+      | None ↦ λ e h. absurd (cc)
+      | Some r ↦ λ e h. (r, e, h)
+    ]) refl is
+
+-- a started row is kept
+keeps-started : (test : Row → Bool) → ((r : Row) → test r ≡ false → is_started r.course.state ≡ false) → (r : Row) → is_started r.course.state ≡ true → test r ≡ true
+keeps-started test stops r is =
+    (elim (test r) as (λ b. test r ≡ b → b ≡ true) [
+      | true ↦ λ e. refl
+      | false ↦ λ e. absurd (false≢true (sym (stops r e) ∙ is))
+    ]) refl
+
+for-fewer : (test : Row → Bool) → ((r : Row) → test r ≡ false → is_started r.course.state ≡ false) → (rows : List Row) (order : Order) → IsFor rows order → IsFor (filter test rows) order
+for-fewer test stops rows order is =
+    let found = found-started rows order.job is.started in
+    let there : row_of order.job (filter test rows) ≡ row_of order.job rows = found-fewer test order.job rows found.0 found.1 (keeps-started test stops found.0 found.2) ∙ sym found.1 in
+    record {
+      started = ap (λ (o : Option Row). option_map_or (λ (row : Row). is_started row.course.state) o false) there ∙ is.started;
+      alive = λ taken. ap (λ (o : Option Row). option_map_or (λ (row : Row). is_alive row.course.phase) o false) there ∙ is.alive taken;
+    }
+
+-- without rows that are not started a plan is fit
+pub fewer-rows-fit : (test : Row → Bool) → ((r : Row) → test r ≡ false → is_started r.course.state ≡ false) → (p : Plan) → IsFit p → IsFit (record p { rows = filter test p.rows })
+fewer-rows-fit test stops p fit = record {
+  within = (let less = sum-fewer (λ (r : Row). r.course.held) test p.rows in let within = fit.within in omega arith);
+  sound = all-filter (λ (r : Row). IsSound r.wants r.course) test p.rows fit.sound;
+  jobs = record { rising = rising-filter number_of test p.rows fit.jobs.rising; below = all-filter (λ (r : Row). number_of r < p.next_job) test p.rows fit.jobs.below };
+  reserved = all-filter (λ (r : Row). IfSome r.wants.reservation (λ (n : ReservationId). n.0 < p.next_reservation)) test p.rows fit.reserved;
+  arrays = all-filter (λ (r : Row). IfSome r.wants.array (λ (a : ArrayId). a.0 < p.next_array)) test p.rows fit.arrays;
+  attempts = all-filter (λ (r : Row). r.course.attempt ≤ length p.changes) test p.rows fit.attempts;
+  asked = all-implied (IsFor p.rows) (IsFor (filter test p.rows)) (for-fewer test stops p.rows) p.orders fit.asked;
+  loads = λ x low high. (let l = fit.loads x low high in let u = sum-fewer (uses_at x) test p.rows in omega arith);
+  books = fit.books;
+  inside = all-implied (λ (a : Accepted). in_reservation a.reservation p.rows ≤ a.slots) (λ (a : Accepted). in_reservation a.reservation (filter test p.rows) ≤ a.slots)
+      (λ a h. (let u = sum-fewer (held_inside a.reservation) test p.rows in omega arith)) p.reservations fit.inside;
+  bounds = all-filter (IsBound (filter test p.rows)) test p.rows
+      (all-implied (IsBound p.rows) (IsBound (filter test p.rows)) (λ r h. bound-under r.wants p.rows (filter test p.rows) (λ array. sum-fewer (holds_in array) test p.rows) h) p.rows fit.bounds);
+  alike = all-filter (λ (r : Row). AllByRecursion (IsAlike r) (filter test p.rows)) test p.rows
+      (all-implied (λ (r : Row). AllByRecursion (IsAlike r) p.rows) (λ (r : Row). AllByRecursion (IsAlike r) (filter test p.rows)) (λ r all. all-filter (IsAlike r) test p.rows all) p.rows fit.alike);
+  accepted = fit.accepted;
+  dispatched = all-filter (λ (r : Row). launched_at r.course ≤ p.moment) test p.rows fit.dispatched;
+}
+
+done-stopped : (s : JobState) → has_terminated s ≡ true → is_started s ≡ false
+done-stopped Undetermined h = absurd (cc)
+done-stopped Queued h = absurd (cc)
+done-stopped QueuedHeld h = absurd (cc)
+done-stopped Running h = absurd (cc)
+done-stopped Suspended h = absurd (cc)
+done-stopped Requeued h = absurd (cc)
+done-stopped RequeuedHeld h = absurd (cc)
+done-stopped Done h = refl
+done-stopped Failed h = refl
+
+-- what is forgotten has ended
+pub forgotten-stopped : (meant : Row → Bool) (r : Row) → not (meant r && is_done r) ≡ false → is_started r.course.state ≡ false
+forgotten-stopped meant r h = done-stopped r.course.state (and_parts (meant r) (is_done r) (not-false (meant r && is_done r) h)).1
+
+pub reap-keeps : (t : Target) → KeepsFit (reap t)
+reap-keeps t = record { keeps = λ entry p fit free. fewer-rows-fit (λ (row : Row). not (is_meant t row && is_done row)) (forgotten-stopped (is_meant t)) p fit }
