@@ -1,7 +1,7 @@
 pub mod AnswerLaws
 pub mod BoundaryLaws
-pub mod Controlling
 pub mod ControlLaws
+pub mod Controlling
 pub mod Courses
 pub mod Effects
 pub mod Fit
@@ -13,6 +13,7 @@ pub mod Homes
 pub mod Honoured
 pub mod Infos
 pub mod KeptCalls
+pub mod LaunchFit
 pub mod LaunchLaws
 pub mod Launching
 pub mod Load
@@ -25,6 +26,7 @@ pub mod Plan
 pub mod ReadyLaws
 pub mod Refusals
 pub mod ReplyKinds
+pub mod ReportLaws
 pub mod Reporting
 pub mod Requests
 pub mod RowLaws

@@ -134,13 +134,13 @@ goes-on entry p row next fit found sound takes attempt dispatched =
           (λ r h. bound-less r.wants p.rows row (record row { course = next }) (λ array. array-less array row next less) h) p.rows fit.bounds;
     }
 
-takes-started : (row : Row) (next : Course) → next.held ≡ row.course.held → is_started next.state ≡ is_started row.course.state → next.planned ≡ row.course.planned → TakesNoMore row next
+pub takes-started : (row : Row) (next : Course) → next.held ≡ row.course.held → is_started next.state ≡ is_started row.course.state → next.planned ≡ row.course.planned → TakesNoMore row next
 takes-started row next held started planned = record {
   held = omega arith;
   uses = λ x. (let same : uses_at x (record row { course = next }) ≡ uses_at x row = cc in omega arith);
 }
 
-takes-stopped : (row : Row) (next : Course) → next.held ≡ 0 → is_started next.state ≡ false → TakesNoMore row next
+pub takes-stopped : (row : Row) (next : Course) → next.held ≡ 0 → is_started next.state ≡ false → TakesNoMore row next
 takes-stopped row next held stopped = record {
   held = omega arith;
   uses = λ x. (let none = unused x (record row { course = next }) stopped in omega arith);
