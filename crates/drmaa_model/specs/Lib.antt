@@ -9,6 +9,7 @@ pub mod FitLaws
 pub mod Heard
 pub mod History
 pub mod HistoryLaws
+pub mod HomeLaws
 pub mod Homes
 pub mod Honoured
 pub mod Infos
@@ -28,6 +29,7 @@ pub mod Refusals
 pub mod ReplyKinds
 pub mod ReportLaws
 pub mod Reporting
+pub mod RequestLaws
 pub mod Requests
 pub mod RowLaws
 pub mod Rows
@@ -36,6 +38,7 @@ pub mod Runs
 pub mod SettledLaws
 pub mod Size
 pub mod Steps
+pub mod SubmitLaws
 pub mod Submitting
 pub mod SumLaws
 pub mod Targets
