@@ -178,9 +178,9 @@ asked-for-rows moment t what rows r both =
           ]) refl)
     ]) refl
 
-pub control-keeps : (t : Target) (what : Control) → KeepsFit (control t what)
-control-keeps t what = record { keeps = λ entry p fit free.
-    (let f = control_step p.moment t what in
+pub control-fit : (t : Target) (what : Control) (entry : ℕ) (p : Plan) → IsFit p → IsFit ((control t what).effect entry p)
+control-fit t what entry p fit =
+    let f = control_step p.moment t what in
     let same = control-job p.moment t what in
     let all : AllByRecursion (λ r. Eases r (f r)) p.rows = all-implied (λ (r : Row). IsSound r.wants r.course) (λ r. Eases r (f r)) (eases-control p.moment t what) p.rows fit.sound in
     let changes = (change_rows entry f p).changes in
@@ -190,7 +190,10 @@ control-keeps t what = record { keeps = λ entry p fit free.
     (all-implied (λ (r : Row). (row_of r.job p.rows ≡ Some r) × IsSound r.wants r.course) (λ r. AllByRecursion (IsFor (map f p.rows)) (asked_orders t what r)) (asked-for-rows p.moment t what p.rows) p.rows
     (all-both (λ (r : Row). row_of r.job p.rows ≡ Some r) (λ (r : Row). IsSound r.wants r.course) p.rows (rising-found p.rows fit.jobs.rising) fit.sound)) in
     eased f same (control-wants p.moment t what) p fit all changes more (p.orders ++ flat_map (asked_orders t what) p.rows)
-    (all-append (IsFor (map f p.rows)) p.orders (flat_map (asked_orders t what) p.rows) (orders-lasting f same p.rows all p.orders fit.asked) asked)) }
+    (all-append (IsFor (map f p.rows)) p.orders (flat_map (asked_orders t what) p.rows) (orders-lasting f same p.rows all p.orders fit.asked) asked)
+
+pub control-keeps : (t : Target) (what : Control) → KeepsFit (control t what)
+control-keeps t what = record { keeps = λ entry p fit free. control-fit t what entry p fit }
 
 -- ---- reaping
 
@@ -282,5 +285,8 @@ done-stopped Failed h = refl
 pub forgotten-stopped : (meant : Row → Bool) (r : Row) → not (meant r && is_done r) ≡ false → is_started r.course.state ≡ false
 forgotten-stopped meant r h = done-stopped r.course.state (and_parts (meant r) (is_done r) (not-false (meant r && is_done r) h)).1
 
+pub reap-fit : (t : Target) (entry : ℕ) (p : Plan) → IsFit p → IsFit ((reap t).effect entry p)
+reap-fit t entry p fit = fewer-rows-fit (λ (row : Row). not (is_meant t row && is_done row)) (forgotten-stopped (is_meant t)) p fit
+
 pub reap-keeps : (t : Target) → KeepsFit (reap t)
-reap-keeps t = record { keeps = λ entry p fit free. fewer-rows-fit (λ (row : Row). not (is_meant t row && is_done row)) (forgotten-stopped (is_meant t)) p fit }
+reap-keeps t = record { keeps = λ entry p fit free. reap-fit t entry p fit }

@@ -1,5 +1,6 @@
 pub mod AnswerLaws
 pub mod BoundaryLaws
+pub mod Consistent
 pub mod ControlLaws
 pub mod Controlling
 pub mod Courses
@@ -24,6 +25,7 @@ pub mod OperationLaws
 pub mod Order
 pub mod OrderLaws
 pub mod Plan
+pub mod PlanSteps
 pub mod ReadyLaws
 pub mod Refusals
 pub mod ReplyKinds
@@ -37,6 +39,7 @@ pub mod RunLaws
 pub mod Runs
 pub mod SettledLaws
 pub mod Size
+pub mod StepLaws
 pub mod Steps
 pub mod SubmitLaws
 pub mod Submitting

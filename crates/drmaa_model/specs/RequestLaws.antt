@@ -118,7 +118,10 @@ request-keeps home t = record { keeps = λ entry p fit free.
 pub without-fit : (number : ReservationId) (p : Plan) → IsFit p → IsFit (without_reservation number p)
 without-fit number p fit = fewer-fit p.moment (is_other number) p (omega arith) fit
 
+pub end-fit : (number : ReservationId) (entry : ℕ) (p : Plan) → IsFit p → IsFit ((end_reservation number).effect entry p)
+end-fit number entry p fit =
+    let q = without_reservation number p in
+    call_in-fit (expire entry q) (expire-fit entry q (without-fit number p fit))
+
 pub end-keeps : (number : ReservationId) → KeepsFit (end_reservation number)
-end-keeps number = record { keeps = λ entry p fit free.
-    (let q = without_reservation number p in
-    call_in-fit (expire entry q) (expire-fit entry q (fewer-fit p.moment (is_other number) p (omega arith) fit))) }
+end-keeps number = record { keeps = λ entry p fit free. end-fit number entry p fit }

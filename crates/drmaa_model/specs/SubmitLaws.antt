@@ -190,7 +190,7 @@ module _ (home : ℕ) (p : Plan) where
         bounds = all-push (λ (r : Row). r.wants.array ≡ Some array → r.wants.bound ≡ bound) q.rows row young.bounds (λ e. suits.bound_is);
       }
 
-  length-new : (number : ℕ) (ms : List Member) → length (new_rows home p number ms) ≡ length ms
+  pub length-new : (number : ℕ) (ms : List Member) → length (new_rows home p number ms) ≡ length ms
   length-new number [] = refl
   length-new number (m ∷ ms) = omega (arith, length-new (number + 1) ms)
 
