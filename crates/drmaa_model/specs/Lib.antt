@@ -7,6 +7,7 @@ pub mod Courses
 pub mod Effects
 pub mod Fit
 pub mod FitLaws
+pub mod Growth
 pub mod Heard
 pub mod History
 pub mod HistoryLaws
@@ -39,6 +40,7 @@ pub mod RunLaws
 pub mod Runs
 pub mod SettledLaws
 pub mod Size
+pub mod SizeLaws
 pub mod StepLaws
 pub mod Steps
 pub mod SubmitLaws
@@ -49,4 +51,5 @@ pub mod Time
 pub mod TimeLaws
 pub mod WaitLaws
 pub mod Waiting
+pub mod WeightLaws
 pub mod World

@@ -381,6 +381,10 @@ length-indices : (begin step count : ℕ) → length (indices_from begin step co
 length-indices begin step zero = refl
 length-indices begin step (suc count) = omega (arith, length-indices (begin + step) step count)
 
+-- an array has a member for each index
+pub length-members : (t : JobTemplate) (i : Indices) (p : Plan) → length (members t (Some i) p) ≡ index_count i
+length-members t i p = length-map (indices_of i) (λ index. record { template = expanded index t; membership = membership i p index }) ∙ length-indices i.begin i.step (index_count i)
+
 -- a submission has at least one job, and at most 10,000
 pub submit-count : (t : JobTemplate) (indices : Option Indices) (p : Plan) → MaySubmit t indices p → (1 ≤ length (members t indices p)) × (length (members t indices p) ≤ most_members)
 submit-count t None p may = (omega arith, omega arith)
@@ -390,6 +394,5 @@ submit-count t (Some i) p may =
     let one = no_test ((eqb i.begin 0) || ltb i.end i.begin || (eqb i.step 0), InvalidArgument which.Indices) (second ∷ third ∷ []) may.bulk in
     let three = no_test third [] (no_test second (third ∷ []) one.1).1 in
     let few = ltb-false most_members (index_count i) three.0 in
-    let same : length (members t (Some i) p) ≡ index_count i =
-    length-map (indices_of i) (λ index. record { template = expanded index t; membership = membership i p index }) ∙ length-indices i.begin i.step (index_count i) in
+    let same = length-members t i p in
     (omega arith, omega arith)
