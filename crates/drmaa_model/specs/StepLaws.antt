@@ -29,7 +29,7 @@ use Rattle.drmaa_model.specs.ControlLaws.{control-fit, reap-fit}
 use Rattle.drmaa_model.specs.Effects.{StepAnswer, gives, nothing, not_yet, makes, destroy, forget_home, effect, wait_answer}
 use Rattle.drmaa_model.specs.Fit.{IsFit}
 use Rattle.drmaa_model.specs.FitLaws.{advance-fit}
-use Rattle.drmaa_model.specs.History.{replay, IsLegal}
+use Rattle.drmaa_model.specs.History.{after_entry, replay_from, replay, IsLegalFrom, IsLegal}
 use Rattle.drmaa_model.specs.HistoryLaws.{legal-keeps}
 use Rattle.drmaa_model.specs.HomeLaws.{forget-fit}
 use Rattle.drmaa_model.specs.Homes.{session_test, home_number}
@@ -277,6 +277,15 @@ step-keeps w entry next ok step =
 pub step-consistent : (w : World) (entry : Entry) (next : World) → IsConsistent w → IsStep w entry next → IsConsistent next
 step-consistent w entry next ok step = (step-keeps w entry next ok step).consistent
 
+pub step-edges : (w : World) (entry : Entry) (next : World) → IsConsistent w → IsStep w entry next → AddsEdges (w.entries + 1) w.plan next.plan
+step-edges w entry next ok step = (step-keeps w entry next ok step).edges
+
+pub step-entries : (w : World) (entry : Entry) (next : World) → IsConsistent w → IsStep w entry next → next.entries ≡ w.entries + 1
+step-entries w entry next ok step = (step-keeps w entry next ok step).entries
+
+pub step-config : (w : World) (entry : Entry) (next : World) → IsConsistent w → IsStep w entry next → next.config ≡ w.config
+step-config w entry next ok step = (step-keeps w entry next ok step).config
+
 -- ---- histories
 
 pub opening-fit : (total : ℕ) → IsFit (opening_plan total)
@@ -321,3 +330,15 @@ pub legal-config : (config : Config) (history : List Entry) → IsLegal config h
 legal-config config history legal =
     (legal-keeps config (λ (w : World). IsConsistent w × (w.config ≡ config)) (opening-consistent config, refl)
     (λ w entry next both step. (step-consistent w entry next both.0 step, (step-keeps w entry next both.0 step).config ∙ both.1)) history legal).1
+
+counted_from : (w : World) (entries : List Entry) → IsConsistent w → IsLegalFrom w entries → (replay_from w entries).entries ≡ w.entries + length entries
+counted_from w [] ok legal = omega arith
+counted_from w (x ∷ xs) ok legal =
+    let keeps = step-keeps w x (after_entry w x) ok legal.0 in
+    let one = keeps.entries in
+    let rest = counted_from (after_entry w x) xs keeps.consistent legal.1 in
+    omega (arith, one, rest)
+
+-- its entries are counted
+pub legal-entries : (config : Config) (history : List Entry) → IsLegal config history → (replay config history).entries ≡ length history
+legal-entries config history legal = (let count = counted_from (opening_world config) history (opening-consistent config) legal in omega arith)
