@@ -1,11 +1,11 @@
 -- Control and reaping keep a plan fit.
-use Rattle.std.proofs.Common.{◌≡◌, ℕ, ◌+◌, ◌<◌, ◌≤◌, Bool, true, false, cond, not, ◌&&◌, List, [], ◌∷◌, ◌++◌, map, filter, length, sum_by, Option, Some, None, refl, sym, ◌∙◌, ap, subst, arith, length-append}
+use Rattle.std.proofs.Common.{◌≡◌, ℕ, ◌<◌, ◌≤◌, Bool, true, false, cond, not, ◌&&◌, List, [], ◌∷◌, ◌++◌, map, filter, length, sum_by, Option, Some, None, refl, sym, ◌∙◌, ap, arith, length-append}
 use Rattle.std.specs.Prelude.{IfSome, is_some}
 use Rattle.std.specs.List.{AllByRecursion, flat_map}
 use Rattle.std.specs.Option.{option_map, option_map_or}
 use Rattle.std.proofs.lemmas.Bool.{and_parts, false≢true, not-false}
 use Rattle.std.proofs.lemmas.List.Sums.{sum_by-cons}
-use Rattle.drmaa_types.specs.States.{is_waiting, is_started, has_terminated, after_control}
+use Rattle.drmaa_types.specs.States.{is_started, has_terminated, after_control}
 use Rattle.drmaa_types.specs.declared.identifiers.ArrayId.{ArrayId}
 use Rattle.drmaa_types.specs.declared.identifiers.JobId.{JobId}
 use Rattle.drmaa_types.specs.declared.identifiers.ReservationId.{ReservationId}
@@ -21,11 +21,10 @@ use Rattle.drmaa_model.specs.declared.courses.Course.{Course}
 use Rattle.drmaa_model.specs.declared.courses.Order.{Order}
 use Rattle.drmaa_model.specs.declared.reservations.Accepted.{Accepted}
 use Rattle.drmaa_model.specs.declared.rows.Row.{Row}
-use Rattle.drmaa_model.specs.declared.rows.Wants.{Wants}
 use Rattle.drmaa_model.specs.Controlling.{permits, is_controlled, controlled_row, control_step, orders_for, asked_orders, control, is_done, reap}
 use Rattle.drmaa_model.specs.Courses.{failed, called, may_kill, terminated, controlled, asked_for}
 use Rattle.drmaa_model.specs.Fit.{number_of, IsSound, IsFor, IsFit, IsBound, IsAlike, launched_at}
-use Rattle.drmaa_model.specs.FitLaws.{Eases, eases-same, eases-failed, eases-asked, eased, Lasts, SameKind, same-kind, ends-waiting, orders-lasting, all-append, bound-under}
+use Rattle.drmaa_model.specs.FitLaws.{Eases, eases-same, eases-failed, eases-asked, eased, SameKind, same-kind, ends-waiting, orders-lasting, all-append, bound-under}
 use Rattle.drmaa_model.specs.Launching.{is_alive}
 use Rattle.drmaa_model.specs.Load.{uses_at, is_using, held_inside, in_reservation, holds_in}
 use Rattle.drmaa_model.specs.OperationLaws.{KeepsFit}

@@ -1,5 +1,5 @@
 -- What becomes of jobs and reservations whose named session is destroyed keeps a plan fit.
-use Rattle.std.proofs.Common.{◌≡◌, ℕ, ◌<◌, ◌≤◌, Bool, not, ◌&&◌, List, map, filter, Some, refl, sym, subst, arith}
+use Rattle.std.proofs.Common.{◌≡◌, ℕ, ◌≤◌, Bool, not, map, filter, Some, refl, arith}
 use Rattle.std.specs.List.{AllByRecursion}
 use Rattle.drmaa_model.specs.declared.reservations.Accepted.{Accepted}
 use Rattle.drmaa_model.specs.declared.rows.Row.{Row}

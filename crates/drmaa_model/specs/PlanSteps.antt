@@ -1,17 +1,16 @@
 -- What an operation leads to, beside that it keeps a plan fit: each change that it adds is an edge of the state model,
 -- and it raises no number by more than it may.
-use Rattle.std.proofs.Common.{◌≡◌, ℕ, ◌+◌, ◌<◌, ◌≤◌, Bool, true, false, cond, eqb, leb, ltb, not, ◌&&◌, ◌⊎◌, inl, inr, List, [], ◌∷◌, ◌++◌, map, filter, length, sum_by, Option, Some, None, refl, sym, ◌∙◌, ap, subst, arith, append-nil, length-append, append_assoc}
+use Rattle.std.proofs.Common.{◌≡◌, ℕ, ◌+◌, ◌≤◌, Bool, true, false, cond, leb, ltb, not, ◌&&◌, ◌⊎◌, inl, inr, List, [], ◌∷◌, ◌++◌, map, filter, length, Option, Some, None, refl, sym, ◌∙◌, ap, subst, arith, append-nil, length-append, append_assoc}
 use Rattle.std.specs.Prelude.{is_some, max}
 use Rattle.std.specs.List.{AllByRecursion, flat_map}
 use Rattle.std.specs.Option.{option_map, option_map_or}
-use Rattle.std.proofs.lemmas.Bool.{and_parts, false≢true, eqb-true, ltb-false, leb-false}
+use Rattle.std.proofs.lemmas.Bool.{false≢true, eqb-true, ltb-false, leb-false}
 use Rattle.std.proofs.lemmas.List.{length-map, length_push}
 use Rattle.std.proofs.lemmas.List.Sums.{sum_by-cons, sum_by-append}
 use Rattle.job_template.specs.declared.templates.JobTemplate.{JobTemplate}
 use Rattle.job_template.specs.declared.templates.ReservationTemplate.{ReservationTemplate}
 use Rattle.job_template.specs.Frames.{frame_of, frame_tests}
 use Rattle.job_template.specs.Texts.{text_length}
-use Rattle.drmaa_types.specs.Refusals.{first_refusal}
 use Rattle.drmaa_types.specs.States.{is_state, is_waiting, is_started, may, after_control}
 use Rattle.drmaa_types.specs.declared.changes.Change.{Change}
 use Rattle.drmaa_types.specs.declared.identifiers.JobId.{JobId}
@@ -24,8 +23,6 @@ use Rattle.drmaa_types.specs.declared.states.Control.TheVariants.{Suspend, Resum
 use Rattle.drmaa_types.specs.declared.states.JobState.{JobState}
 use Rattle.drmaa_types.specs.declared.states.JobState.TheVariants.{Undetermined, Queued, QueuedHeld, Running, Suspended, Requeued, RequeuedHeld, Done, Failed}
 use Rattle.drmaa_types.specs.declared.states.Note.TheVariants as note
-use Rattle.drmaa_types.specs.declared.states.SignalKind.{SignalKind}
-use Rattle.drmaa_types.specs.declared.states.SignalKind.TheVariants.{Stop, Cont, Kill}
 use Rattle.drmaa_model.specs.declared.calls.Indices.{Indices}
 use Rattle.drmaa_model.specs.declared.calls.Report.{Report}
 use Rattle.drmaa_model.specs.declared.calls.Report.TheVariants as report
@@ -39,23 +36,23 @@ use Rattle.drmaa_model.specs.Controlling.{control_step, control, is_done, reap}
 use Rattle.drmaa_model.specs.ControlLaws.{control-cases, all-flat_map}
 use Rattle.drmaa_model.specs.Courses.{failed, called, launched, planned_end, begun, unstarted, exited, lost, signal_failed, may_kill, terminated, controlled, is_asked}
 use Rattle.drmaa_model.specs.Effects.{left_by, is_forgotten, forget_home}
-use Rattle.drmaa_model.specs.Fit.{IsRising, IsSound, IsFit, number_of}
-use Rattle.drmaa_model.specs.FitLaws.{all-append, same-kind, ends-waiting, let_go-fit, fewer-fit}
-use Rattle.drmaa_model.specs.Launching.{launch, launch_row, signal}
+use Rattle.drmaa_model.specs.Fit.{IsRising, IsFit, number_of}
+use Rattle.drmaa_model.specs.FitLaws.{all-append, same-kind, ends-waiting}
+use Rattle.drmaa_model.specs.Launching.{launch_row, signal}
 use Rattle.drmaa_model.specs.Order.{next_launch}
 use Rattle.drmaa_model.specs.OrderLaws.{next_launch-is}
 use Rattle.drmaa_model.specs.OperationLaws.{refusal-append, no_test, own-job, row-sound}
 use Rattle.drmaa_model.specs.Plan.{Plan}
 use Rattle.drmaa_model.specs.Reporting.{is_idle, may_begin, may_exit, may_tell, is_taken, orders_without, drop_first, start_row, over_row, unstart_row, end_row, lose_row, done_row, undone_row, reported, report_of}
-use Rattle.drmaa_model.specs.ReportLaws.{IsOver, Stops, unstarted-stops, exited-stops, lost-stops, report-finds, report-effect, not_idle-started, may_begin-busy, may_exit-busy}
+use Rattle.drmaa_model.specs.ReportLaws.{IsOver, Stops, failed-marks, unstarted-stops, exited-stops, lost-stops, report-finds, report-effect, not_idle-started, may_begin-busy, may_exit-busy}
 use Rattle.drmaa_model.specs.Requests.{most_reservations, denied_at, start_in, accepted_at, chosen_start, request, without_reservation, is_other, end_reservation}
-use Rattle.drmaa_model.specs.Rows.{is_of, row_of, state_of, change_of, change_rows, with_course, go_on}
-use Rattle.drmaa_model.specs.RowLaws.{all-implied, row_of-is, row_of-map, is_state-same, rising-found}
-use Rattle.drmaa_model.specs.Submitting.{Member, members, most_jobs, most_members, most_kept_text, kept_text, new_text, room_tests, arrays_used, new_row, new_rows, submit}
-use Rattle.drmaa_model.specs.SubmitLaws.{MaySubmit, may-submit, submit-count, length-new}
+use Rattle.drmaa_model.specs.Rows.{is_of, row_of, change_of, change_rows, with_course, go_on}
+use Rattle.drmaa_model.specs.RowLaws.{all-each, all-both, all-implied, is_state-same, rising-found}
+use Rattle.drmaa_model.specs.Submitting.{Member, members, most_jobs, most_members, most_kept_text, kept_text, new_text, arrays_used, new_row, new_rows, submit}
+use Rattle.drmaa_model.specs.SubmitLaws.{may-submit, submit-count, length-new}
 use Rattle.drmaa_model.specs.Targets.{is_meant}
 use Rattle.drmaa_model.specs.Time.{come_to, let_go, lasts, lapsed, expire, called_in, call_in, advance_plan}
-use Rattle.drmaa_model.specs.TimeLaws.{lapsed-cases, called-cases, lapsed-job, timed, row_of-advance, sum-kept}
+use Rattle.drmaa_model.specs.TimeLaws.{lapsed-cases, called-cases, timed, row_of-advance, sum-kept}
 
 -- what a step of a plan keeps
 pub record PlanStep (entry : ℕ) (p q : Plan) : Type 0 where
@@ -87,10 +84,6 @@ edge-of-row entry rows f r both =
       | false ↦ λ e. (record { edge = both.1.edge e; from = ap (λ (o : Option Row). option_map_or (λ (row : Row). row.course.state) o Undetermined) both.0; entry_is = refl }, tt)
     ]) refl
 
-all-two : {X : Type 0} (P Q : X → Type 0) (xs : List X) → AllByRecursion P xs → AllByRecursion Q xs → AllByRecursion (λ x. P x × Q x) xs
-all-two P Q [] p q = tt
-all-two P Q (x ∷ xs) p q = ((p.0, q.0), all-two P Q xs p.1 q.1)
-
 -- rows that go over edges
 pub rows-edges : (entry : ℕ) (p : Plan) (f : Row → Row) → IsRising number_of p.rows → AllByRecursion (λ r. Goes r (f r)) p.rows → AddsEdges entry p (change_rows entry f p)
 rows-edges entry p f rising goes = record {
@@ -98,12 +91,8 @@ rows-edges entry p f rising goes = record {
   gained = refl;
   edges = all-flat_map (IsEdge entry p.rows) (λ row. change_of entry row (f row)) p.rows
       (all-implied (λ r. (row_of r.job p.rows ≡ Some r) × Goes r (f r)) (λ r. AllByRecursion (IsEdge entry p.rows) (change_of entry r (f r))) (edge-of-row entry p.rows f) p.rows
-      (all-two (λ r. row_of r.job p.rows ≡ Some r) (λ r. Goes r (f r)) p.rows (rising-found p.rows rising) goes));
+      (all-both (λ r. row_of r.job p.rows ≡ Some r) (λ r. Goes r (f r)) p.rows (rising-found p.rows rising) goes));
 }
-
-all-each : {X : Type 0} (P : X → Type 0) → ((x : X) → P x) → (xs : List X) → AllByRecursion P xs
-all-each P each [] = tt
-all-each P each (x ∷ xs) = (each x, all-each P each xs)
 
 waits-edge : (s : JobState) → is_waiting s ≡ true → may s Failed ≡ true
 waits-edge Undetermined h = absurd (cc)
@@ -266,11 +255,6 @@ over-step entry p job row next fit found busy stops =
     go_on-step entry p job row next (orders_without row.job p.orders) fit found
     (record { edge = λ e. over-edge row.course.state next.state (is_asked row.course.kill) (started-row job p row fit found busy) stops.over })
 
-failed-state : (k : SignalKind) (course : Course) → (signal_failed k course).state ≡ course.state
-failed-state Stop course = refl
-failed-state Cont course = refl
-failed-state Kill course = refl
-
 reported-step : (test : Plan → Course → Bool) (job : JobId) (effect : ℕ → Plan → Row → Plan) (entry : ℕ) (p : Plan)
     → ((row : Row) → row_of job p.rows ≡ Some row → test p row.course ≡ true → PlanStep entry p (effect entry p row))
     → (reported test job effect).refusal p ≡ None → PlanStep entry p ((reported test job effect).effect entry p)
@@ -291,7 +275,7 @@ report-step (report.SignalDone job attempt k) entry p fit free = reported-step (
     (λ row found may. orders-step entry p (drop_first (is_taken row.job k) p.orders)) free
 report-step (report.SignalFailed job attempt k) entry p fit free = reported-step (may_tell attempt job k) job (undone_row k) entry p
     (λ row found may. go_on-step entry p job row (signal_failed k row.course) (drop_first (is_taken row.job k) p.orders) fit found
-    (goes-same row (record row { course = signal_failed k row.course }) (failed-state k row.course))) free
+    (goes-same row (record row { course = signal_failed k row.course }) (failed-marks k row.course).state)) free
 
 -- ---- submission
 

@@ -1,5 +1,5 @@
 -- The reports of launcher and reaper, and the taking of a signal, keep a plan fit.
-use Rattle.std.proofs.Common.{◌≡◌, ◌≢◌, ◌≤◌, ℕ, Bool, true, false, cond, eqb, leb, not, ◌&&◌, ◌||◌, List, [], ◌∷◌, map, Option, Some, None, refl, sym, ◌∙◌, ap, subst}
+use Rattle.std.proofs.Common.{◌≡◌, ◌≢◌, ◌≤◌, ℕ, Bool, true, false, cond, eqb, leb, not, ◌&&◌, ◌||◌, List, [], ◌∷◌, Option, Some, None, refl, sym, ◌∙◌, ap, subst}
 use Rattle.std.specs.Prelude.{is_some, IsSome}
 use Rattle.drmaa_types.specs.declared.moments.End.{End}
 use Rattle.std.specs.List.{AllByRecursion, list_any}
@@ -13,7 +13,7 @@ use Rattle.drmaa_types.specs.declared.refusals.Which.TheVariants as which
 use Rattle.drmaa_types.specs.declared.states.Exit.{Exit}
 use Rattle.drmaa_types.specs.declared.states.Exit.TheVariants.{Code, Signal}
 use Rattle.drmaa_types.specs.declared.states.JobState.{JobState}
-use Rattle.drmaa_types.specs.declared.states.JobState.TheVariants.{Undetermined, Queued, QueuedHeld, Running, Suspended, Requeued, RequeuedHeld, Done, Failed}
+use Rattle.drmaa_types.specs.declared.states.JobState.TheVariants.{Undetermined, Running, Suspended, Requeued, Done, Failed}
 use Rattle.drmaa_types.specs.declared.states.SignalKind.{SignalKind}
 use Rattle.drmaa_types.specs.declared.states.SignalKind.TheVariants.{Stop, Cont, Kill}
 use Rattle.drmaa_model.specs.declared.calls.Report.{Report}
@@ -28,12 +28,13 @@ use Rattle.drmaa_model.specs.declared.rows.Row.{Row}
 use Rattle.drmaa_model.specs.declared.rows.Wants.{Wants}
 use Rattle.drmaa_model.specs.Courses.{begun, unstarted, exited, lost, signal_failed, is_asked}
 use Rattle.drmaa_model.specs.Fit.{IsSound, IsFor, IsFit}
-use Rattle.drmaa_model.specs.FitLaws.{Lasts, GoesOn, go_on-fit, orders-kept, orders-cleared}
+use Rattle.drmaa_model.specs.FitLaws.{Lasts, go_on-fit, orders-kept, orders-cleared}
 use Rattle.drmaa_model.specs.Launching.{is_alive, is_due_now, take_first, signal}
 use Rattle.drmaa_model.specs.OperationLaws.{KeepsFit, goes-on, takes-started, takes-stopped, own-job, row-sound}
 use Rattle.drmaa_model.specs.Plan.{Plan}
 use Rattle.drmaa_model.specs.Reporting.{is_idle, is_launching, may_begin, may_exit, is_taken, may_tell, orders_without, drop_first, start_row, over_row, unstart_row, end_row, lose_row, done_row, undone_row, reported, report_of}
-use Rattle.drmaa_model.specs.Rows.{row_of, with_course, go_on}
+use Rattle.drmaa_model.specs.Rows.{row_of}
+use Rattle.drmaa_model.specs.TimeLaws.{started-waits}
 
 -- ---- what a report comes to
 
@@ -259,29 +260,18 @@ told-started attempt job k p row fit found may =
     sym (ap (λ (o : Option Row). option_map_or (λ (r : Row). is_started r.course.state) o false) (ap (λ (j : JobId). row_of j p.rows) same ∙ found)) ∙ some.2.started
 
 -- what a signal that could not be delivered leaves
-record Marks (before next : Course) : Type 0 where
-  state : next.state ≡ before.state
-  phase : next.phase ≡ before.phase
-  held : next.held ≡ before.held
-  planned : next.planned ≡ before.planned
-  attempt : next.attempt ≡ before.attempt
-  dispatched : next.dispatched ≡ before.dispatched
+pub record Marks (before next : Course) : Type 0 where
+  pub state : next.state ≡ before.state
+  pub phase : next.phase ≡ before.phase
+  pub held : next.held ≡ before.held
+  pub planned : next.planned ≡ before.planned
+  pub attempt : next.attempt ≡ before.attempt
+  pub dispatched : next.dispatched ≡ before.dispatched
 
-failed-marks : (k : SignalKind) (course : Course) → Marks course (signal_failed k course)
+pub failed-marks : (k : SignalKind) (course : Course) → Marks course (signal_failed k course)
 failed-marks Stop course = record { state = refl; phase = refl; held = refl; planned = refl; attempt = refl; dispatched = refl }
 failed-marks Cont course = record { state = refl; phase = refl; held = refl; planned = refl; attempt = refl; dispatched = refl }
 failed-marks Kill course = record { state = refl; phase = refl; held = refl; planned = refl; attempt = refl; dispatched = refl }
-
-started-waits : (s : JobState) → is_started s ≡ true → is_waiting s ≡ false
-started-waits Undetermined h = absurd (cc)
-started-waits Queued h = absurd (cc)
-started-waits QueuedHeld h = absurd (cc)
-started-waits Running h = refl
-started-waits Suspended h = refl
-started-waits Requeued h = absurd (cc)
-started-waits RequeuedHeld h = absurd (cc)
-started-waits Done h = absurd (cc)
-started-waits Failed h = absurd (cc)
 
 sound-marked : (wants : Wants) (before next : Course) → IsSound wants before → Marks before next → is_started before.state ≡ true → IsSound wants next
 sound-marked wants before next sound marks is =

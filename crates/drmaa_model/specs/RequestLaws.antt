@@ -1,5 +1,5 @@
 -- A reservation that is asked for or ended keeps a plan fit.
-use Rattle.std.proofs.Common.{◌≡◌, ℕ, suc, ◌+◌, ◌-◌, ◌<◌, ◌≤◌, Bool, true, false, cond, leb, ltb, eqb, not, ◌&&◌, List, [], ◌∷◌, ◌++◌, length, sum_by, Option, Some, None, refl, sym, ◌∙◌, ap, subst, arith}
+use Rattle.std.proofs.Common.{◌≡◌, ℕ, suc, ◌+◌, ◌-◌, ◌<◌, ◌≤◌, Bool, true, false, cond, leb, ltb, eqb, not, List, [], ◌∷◌, length, Option, Some, None, refl, ◌∙◌, ap, arith}
 use Rattle.std.specs.Prelude.{IfSome, is_some}
 use Rattle.std.specs.List.{AllByRecursion}
 use Rattle.std.specs.Option.{option_map_or}
@@ -8,7 +8,6 @@ use Rattle.std.proofs.lemmas.List.Sums.{sum_by_push, sum_by-cons}
 use Rattle.job_template.specs.declared.templates.Frame.{Frame}
 use Rattle.job_template.specs.declared.templates.ReservationTemplate.{ReservationTemplate}
 use Rattle.job_template.specs.Frames.{frame_of, frame_tests}
-use Rattle.drmaa_types.specs.Moments.{greatest}
 use Rattle.drmaa_types.specs.declared.identifiers.ReservationId.{ReservationId}
 use Rattle.drmaa_types.specs.declared.moments.End.TheVariants.{At}
 use Rattle.drmaa_types.specs.declared.refusals.Refusal.{Refusal}

@@ -1,5 +1,5 @@
 -- A step raises the journal's size by its entry and by what its call may add, and an accepted report of a run does not raise it.
-use Rattle.std.proofs.Common.{◌≡◌, ℕ, ◌+◌, ◌≤◌, Bool, true, false, cond, List, Option, Some, None, refl, sym, ◌∙◌, ap, subst, arith}
+use Rattle.std.proofs.Common.{◌≡◌, ℕ, ◌+◌, ◌≤◌, Bool, true, false, cond, List, Option, Some, None, refl, subst, arith}
 use Rattle.std.specs.Option.{option_map, option_map_or}
 use Rattle.session_table.specs.Sessions.{destroyed, home_of}
 use Rattle.drmaa_types.specs.declared.refusals.Refusal.TheVariants.{Timeout}
@@ -9,7 +9,6 @@ use Rattle.drmaa_model.specs.declared.calls.Call.{Call}
 use Rattle.drmaa_model.specs.declared.calls.Call.TheVariants as call
 use Rattle.drmaa_model.specs.declared.calls.Report.{Report}
 use Rattle.drmaa_model.specs.declared.calls.Report.TheVariants as report
-use Rattle.drmaa_model.specs.declared.courses.Order.{Order}
 use Rattle.drmaa_model.specs.declared.entries.Entry.{Entry}
 use Rattle.drmaa_model.specs.declared.replies.Reply.{Reply}
 use Rattle.drmaa_model.specs.declared.replies.Reply.TheVariants as reply
@@ -25,7 +24,7 @@ use Rattle.drmaa_model.specs.Launching.{launch_of, launch_row, signal, next_sign
 use Rattle.drmaa_model.specs.Order.{next_launch}
 use Rattle.drmaa_model.specs.Refusals.{refusal}
 use Rattle.drmaa_model.specs.Reporting.{report_of}
-use Rattle.drmaa_model.specs.Size.{size, weight}
+use Rattle.drmaa_model.specs.Size.{size}
 use Rattle.drmaa_model.specs.Steps.{answer_now, answer, IsStep}
 use Rattle.drmaa_model.specs.SubmitLaws.{length-members}
 use Rattle.drmaa_model.specs.Time.{advance}

@@ -1,11 +1,11 @@
 -- A step keeps a world consistent, adds edges alone, and makes one entry.
-use Rattle.std.proofs.Common.{◌≡◌, ℕ, ◌+◌, ◌*◌, ◌<◌, ◌≤◌, Bool, true, false, cond, leb, not, ◌&&◌, List, [], ◌∷◌, length, Option, Some, None, refl, sym, ◌∙◌, ap, subst, arith}
+use Rattle.std.proofs.Common.{◌≡◌, ℕ, ◌+◌, ◌<◌, ◌≤◌, Bool, true, false, cond, leb, not, List, [], ◌∷◌, length, Option, Some, None, refl, sym, ◌∙◌, subst, arith}
 use Rattle.std.specs.Prelude.{is_some, IsTrue}
 use Rattle.std.specs.Option.{option_map, option_map_or}
-use Rattle.std.proofs.lemmas.Bool.{leb-false, not-false}
+use Rattle.std.proofs.lemmas.Bool.{leb-false}
 use Rattle.session_table.specs.Permitted.{may_create}
 use Rattle.session_table.specs.SessionLaws.{IsSound-opening, IsSound-opened, IsSound-created, IsSound-closed, IsSound-destroyed, bound-found}
-use Rattle.session_table.specs.Sessions.{Sessions, IsSound as AreSound, opening, created, opened, closed, destroyed, has_names, is_bound, home_of, in_use, chosen_name, create_refusal, open_refusal, monitor_refusal, most_sessions}
+use Rattle.session_table.specs.Sessions.{Sessions, IsSound as AreSound, created, opened, closed, destroyed, has_names, is_bound, home_of, in_use, chosen_name, create_refusal, open_refusal, monitor_refusal, most_sessions}
 use Rattle.drmaa_types.specs.Refusals.{first_refusal}
 use Rattle.drmaa_types.specs.declared.refusals.Refusal.{Refusal}
 use Rattle.drmaa_types.specs.declared.refusals.Refusal.TheVariants.{InvalidArgument, OutOfResource, Timeout}
@@ -23,7 +23,7 @@ use Rattle.drmaa_model.specs.declared.replies.Reply.{Reply}
 use Rattle.drmaa_model.specs.declared.replies.Reply.TheVariants as reply
 use Rattle.drmaa_model.specs.declared.rows.Row.{Row}
 use Rattle.drmaa_model.specs.AnswerLaws.{answer-cases}
-use Rattle.drmaa_model.specs.Consistent.{AreFew, IsConsistent, AddsEdges}
+use Rattle.drmaa_model.specs.Consistent.{IsConsistent, AddsEdges}
 use Rattle.drmaa_model.specs.Controlling.{control, reap}
 use Rattle.drmaa_model.specs.ControlLaws.{control-fit, reap-fit}
 use Rattle.drmaa_model.specs.Effects.{StepAnswer, gives, nothing, not_yet, makes, destroy, forget_home, effect, wait_answer}
@@ -33,11 +33,11 @@ use Rattle.drmaa_model.specs.History.{after_entry, replay_from, replay, IsLegalF
 use Rattle.drmaa_model.specs.HistoryLaws.{legal-keeps}
 use Rattle.drmaa_model.specs.HomeLaws.{forget-fit}
 use Rattle.drmaa_model.specs.Homes.{session_test, home_number}
-use Rattle.drmaa_model.specs.Launching.{launch, launch_of, launch_row, signal, next_signal, signal_of}
+use Rattle.drmaa_model.specs.Launching.{launch_of, launch_row, signal, next_signal, signal_of}
 use Rattle.drmaa_model.specs.LaunchFit.{launch_row-fit}
 use Rattle.drmaa_model.specs.Order.{next_launch}
 use Rattle.drmaa_model.specs.OrderLaws.{next_launch-is}
-use Rattle.drmaa_model.specs.OperationLaws.{KeepsFit, no_test}
+use Rattle.drmaa_model.specs.OperationLaws.{no_test}
 use Rattle.drmaa_model.specs.Plan.{Plan, opening_plan}
 use Rattle.drmaa_model.specs.PlanSteps.{PlanStep, same-step, control-step, reap-step, launch-step, report-step, signal-step, submit-step, request-step, end-step, time-step, forget-step, edges-after}
 use Rattle.drmaa_model.specs.Refusals.{refusal, most_callbacks}
@@ -46,9 +46,9 @@ use Rattle.drmaa_model.specs.ReportLaws.{report-keeps, signal-keeps}
 use Rattle.drmaa_model.specs.Requests.{request, request_tests, end_reservation}
 use Rattle.drmaa_model.specs.RequestLaws.{request-keeps, end-fit}
 use Rattle.drmaa_model.specs.Steps.{answer_now, answer, IsStep}
-use Rattle.drmaa_model.specs.Submitting.{submit, submit_tests, most_members}
+use Rattle.drmaa_model.specs.Submitting.{submit, submit_tests}
 use Rattle.drmaa_model.specs.SubmitLaws.{submit-keeps}
-use Rattle.drmaa_model.specs.Time.{advance, advance_plan}
+use Rattle.drmaa_model.specs.Time.{advance}
 use Rattle.drmaa_model.specs.Waiting.{first_reached, is_timed_out}
 use Rattle.drmaa_model.specs.World.{World, opening_world, counted}
 

@@ -1,9 +1,9 @@
 -- The submission of a job, or of an array of jobs, keeps a plan fit.
-use Rattle.std.proofs.Common.{◌≡◌, ◌≢◌, ℕ, zero, suc, ◌+◌, ◌<◌, ◌≤◌, Bool, true, false, cond, eqb, ltb, not, ◌&&◌, ◌||◌, List, [], ◌∷◌, ◌++◌, map, length, Option, Some, None, refl, sym, ◌∙◌, ap, subst, arith, append_assoc, append-nil}
+use Rattle.std.proofs.Common.{◌≡◌, ℕ, zero, suc, ◌+◌, ◌<◌, ◌≤◌, Bool, true, false, cond, eqb, ltb, not, ◌&&◌, ◌||◌, List, [], ◌∷◌, ◌++◌, length, Option, Some, None, refl, sym, ◌∙◌, ap, subst, arith, append_assoc, append-nil}
 use Rattle.std.specs.Prelude.{IfSome, is_some, find}
 use Rattle.std.specs.List.{AllByRecursion}
 use Rattle.std.specs.Option.{option_map, option_map_or}
-use Rattle.std.proofs.lemmas.Bool.{false≢true, eqb-true, eqb-false, ltb-false, not-false}
+use Rattle.std.proofs.lemmas.Bool.{eqb-true, eqb-false, ltb-false, not-false}
 use Rattle.std.proofs.lemmas.List.{length-map}
 use Rattle.std.proofs.lemmas.List.Sums.{sum_by_push, sum_by-cons}
 use Rattle.job_template.specs.declared.templates.JobTemplate.{JobTemplate}
@@ -32,9 +32,9 @@ use Rattle.drmaa_model.specs.Launching.{is_alive}
 use Rattle.drmaa_model.specs.Load.{uses_at, held_inside, holds_in, is_member, in_reservation, in_array}
 use Rattle.drmaa_model.specs.OperationLaws.{KeepsFit, refusal-append, no_test}
 use Rattle.drmaa_model.specs.Plan.{Plan}
-use Rattle.drmaa_model.specs.RowLaws.{all-push, all-map, all-implied, all-both, numbered-push}
+use Rattle.drmaa_model.specs.RowLaws.{all-each, all-push, all-map, all-implied, all-both, numbered-push}
 use Rattle.drmaa_model.specs.Rows.{is_of, row_of}
-use Rattle.drmaa_model.specs.Submitting.{indices_from, index_count, indices_of, most_members, arrays_used, membership, alone, Member, members, bulk_tests, names_none, named_slots, room_tests, submit_tests, new_row, new_rows, with_rows, submit}
+use Rattle.drmaa_model.specs.Submitting.{indices_from, index_count, indices_of, most_members, arrays_used, membership, Member, members, bulk_tests, names_none, named_slots, room_tests, submit_tests, new_row, new_rows, with_rows, submit}
 use Rattle.drmaa_model.specs.Time.{is_accepted}
 
 -- ---- one row more
@@ -134,10 +134,6 @@ sound-submitted : (w : Wants) (on_hold : Bool) → 1 ≤ w.min → w.min ≤ w.m
 sound-submitted w true least order limit = record { least = least; order = order; known = λ e. cc; idle = λ e. (refl, refl); started = λ e. absurd (cc); planned = λ e. absurd (cc); unplanned = λ e. refl; spared = λ e. refl; limit = limit }
 sound-submitted w false least order limit = record { least = least; order = order; known = λ e. cc; idle = λ e. (refl, refl); started = λ e. absurd (cc); planned = λ e. absurd (cc); unplanned = λ e. refl; spared = λ e. refl; limit = limit }
 
-all-any : {X : Type 0} (P : X → Type 0) → ((x : X) → P x) → (xs : List X) → AllByRecursion P xs
-all-any P each [] = tt
-all-any P each (x ∷ xs) = (each x, all-any P each xs)
-
 module _ (home : ℕ) (p : Plan) where
   -- a job that is no member of an array joins
   joins-alone : (q : Plan) (m : Member) → Suits q.next_reservation None None m → Joins q (new_row home p q.next_job m)
@@ -153,7 +149,7 @@ module _ (home : ℕ) (p : Plan) where
         dispatched = refl;
         reserved = suits.reserved;
         arrays = subst (λ (o : Option ArrayId). IfSome o (λ (a : ArrayId). a.0 < q.next_array)) (sym none) tt;
-        alike = all-any (IsAlike row) (λ r array one other. absurd (cc)) q.rows;
+        alike = all-each (IsAlike row) (λ r array one other. absurd (cc)) q.rows;
         bound = subst (λ (o : Option ℕ). IfSome o (λ (bound : ℕ). IfSome row.wants.array (λ (array : ArrayId). in_array array q.rows ≤ bound))) (sym unbound) tt;
       }
 
@@ -301,7 +297,7 @@ suits-members t i p fit may =
     let Fits : Member → Type 0 = Suits p.next_reservation (Some (record { 0 = p.next_array })) i.bound in
     let made : ℕ → Member = λ index. record { template = expanded index t; membership = membership i p index } in
     all-map Fits made (indices_of i)
-    (all-any (λ (index : ℕ). Fits (made index)) (λ index. record {
+    (all-each (λ (index : ℕ). Fits (made index)) (λ index. record {
       least = slots.least;
       order = slots.order;
       limit = limit-some t.resource_limits may.limits;

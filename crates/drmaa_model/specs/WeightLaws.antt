@@ -1,8 +1,8 @@
 -- What a call adds to the journal's size: an accepted report of a run adds nothing, since room for it was promised.
-use Rattle.std.proofs.Common.{◌≡◌, ℕ, ◌+◌, ◌<◌, ◌≤◌, Bool, true, false, cond, eqb, not, ◌&&◌, List, [], ◌∷◌, ◌++◌, map, filter, length, sum_by, Option, Some, None, refl, sym, ◌∙◌, ap, subst, arith, length-append}
+use Rattle.std.proofs.Common.{◌≡◌, ℕ, ◌+◌, ◌≤◌, Bool, true, false, cond, eqb, not, ◌&&◌, List, [], ◌∷◌, ◌++◌, map, filter, length, sum_by, Option, Some, None, refl, sym, ◌∙◌, ap, subst, arith, length-append}
 use Rattle.std.specs.List.{AllByRecursion, flat_map}
-use Rattle.std.specs.Option.{option_map, option_map_or}
-use Rattle.std.proofs.lemmas.Bool.{and_parts, false≢true, not-false}
+use Rattle.std.specs.Option.{option_map_or}
+use Rattle.std.proofs.lemmas.Bool.{and_parts, not-false}
 use Rattle.std.proofs.lemmas.List.Sums.{sum_by-cons, sum_by-append, length-filter}
 use Rattle.job_template.specs.declared.templates.JobTemplate.{JobTemplate}
 use Rattle.drmaa_types.specs.States.{is_state, is_waiting, is_started, has_terminated, after_control}
@@ -21,7 +21,6 @@ use Rattle.drmaa_model.specs.declared.calls.Report.{Report}
 use Rattle.drmaa_model.specs.declared.calls.Report.TheVariants as report
 use Rattle.drmaa_model.specs.declared.calls.Target.{Target}
 use Rattle.drmaa_model.specs.declared.courses.Course.{Course}
-use Rattle.drmaa_model.specs.declared.courses.Order.{Order}
 use Rattle.drmaa_model.specs.declared.courses.Phase.{Phase}
 use Rattle.drmaa_model.specs.declared.courses.Phase.TheVariants.{Idle, Launching, Alive}
 use Rattle.drmaa_model.specs.declared.rows.Row.{Row}
@@ -38,20 +37,15 @@ use Rattle.drmaa_model.specs.OrderLaws.{next_launch-is}
 use Rattle.drmaa_model.specs.OperationLaws.{own-job, row-sound}
 use Rattle.drmaa_model.specs.Plan.{Plan}
 use Rattle.drmaa_model.specs.Reporting.{is_idle, is_launching, may_begin, may_exit, may_tell, start_row, over_row, unstart_row, end_row, lose_row, done_row, undone_row, reported, report_of}
-use Rattle.drmaa_model.specs.ReportLaws.{IsOver, Stops, unstarted-stops, exited-stops, lost-stops, report-finds, report-effect, not_idle-started, may_begin-busy, may_exit-busy}
+use Rattle.drmaa_model.specs.ReportLaws.{Stops, failed-marks, unstarted-stops, exited-stops, lost-stops, report-finds, report-effect, not_idle-started, may_begin-busy, may_exit-busy}
 use Rattle.drmaa_model.specs.Requests.{without_reservation, end_reservation}
-use Rattle.drmaa_model.specs.Rows.{row_of, change_of, change_rows, with_course, go_on}
-use Rattle.drmaa_model.specs.RowLaws.{all-implied, is_state-same, change_of-same, sum_with_course, changes_with_course}
+use Rattle.drmaa_model.specs.Rows.{row_of, change_of, go_on}
+use Rattle.drmaa_model.specs.RowLaws.{all-each, all-implied, is_state-same, sum_with_course, changes_with_course}
 use Rattle.drmaa_model.specs.Size.{room_of, phase_room, promised, weight}
 use Rattle.drmaa_model.specs.Submitting.{Member, members, new_row, new_rows, submit}
-use Rattle.drmaa_model.specs.SubmitLaws.{length-new}
 use Rattle.drmaa_model.specs.Targets.{is_meant}
 use Rattle.drmaa_model.specs.Time.{expire}
-use Rattle.drmaa_model.specs.TimeLaws.{sum-kept, weight-expire, weight-call_in}
-
-all-each : {X : Type 0} (P : X → Type 0) → ((x : X) → P x) → (xs : List X) → AllByRecursion P xs
-all-each P each [] = tt
-all-each P each (x ∷ xs) = (each x, all-each P each xs)
+use Rattle.drmaa_model.specs.TimeLaws.{started-waits, sum-kept, weight-expire, weight-call_in}
 
 -- ---- one row
 
@@ -68,17 +62,6 @@ length-same entry r next same =
 
 room-waits : (course : Course) → is_waiting course.state ≡ true → room_of course ≡ 1
 room-waits course waits = ap (λ b. cond {A = ℕ} b 1 (phase_room course.phase)) waits
-
-started-waits : (s : JobState) → is_started s ≡ true → is_waiting s ≡ false
-started-waits Undetermined h = absurd (cc)
-started-waits Queued h = absurd (cc)
-started-waits QueuedHeld h = absurd (cc)
-started-waits Running h = refl
-started-waits Suspended h = refl
-started-waits Requeued h = absurd (cc)
-started-waits RequeuedHeld h = absurd (cc)
-started-waits Done h = absurd (cc)
-started-waits Failed h = absurd (cc)
 
 room-started : (course : Course) → is_started course.state ≡ true → room_of course ≡ phase_room course.phase
 room-started course is = ap (λ b. cond {A = ℕ} b 1 (phase_room course.phase)) (started-waits course.state is)
@@ -140,11 +123,6 @@ over-weight job entry p row next fit found busy stops =
     let one = length-change entry row (record row { course = next }) in
     omega (arith, sum, one, before, three, after)
 
-failed-state : (k : SignalKind) (course : Course) → (signal_failed k course).state ≡ course.state
-failed-state Stop course = refl
-failed-state Cont course = refl
-failed-state Kill course = refl
-
 failed-room : (k : SignalKind) (course : Course) → room_of (signal_failed k course) ≡ room_of course
 failed-room Stop course = refl
 failed-room Cont course = refl
@@ -154,7 +132,7 @@ undone-weight : (job : JobId) (k : SignalKind) (entry : ℕ) (p : Plan) (row : R
 undone-weight job k entry p row fit found =
     let next = signal_failed k row.course in
     let sum = go_on-weight entry p job row next fit found in
-    let none = length-same entry row (record row { course = next }) (failed-state k row.course) in
+    let none = length-same entry row (record row { course = next }) (failed-marks k row.course).state in
     let same = failed-room k row.course in
     omega (arith, sum, none, same)
 
