@@ -173,8 +173,10 @@ pub launch-effect : (entry : ℕ) (p : Plan) (next : Row × ℕ) → next_launch
 launch-effect entry p next first = ap (λ (o : Option (Row × ℕ)). option_map_or (λ (n : Row × ℕ). launch_row entry n.0 n.1 p) o p) first
 
 pub launch-keeps : KeepsFit launch
-launch-keeps = record { keeps = λ entry p fit free.
-    ((elim (next_launch p) as (λ o. next_launch p ≡ o → IsFit (option_map_or (λ (n : Row × ℕ). launch_row entry n.0 n.1 p) o p)) [
-      | None ↦ λ is. fit
-      | Some next ↦ λ is. launch_row-fit entry p next.0 next.1 fit (next_launch-is p next fit.jobs.rising is)
-    ]) refl) }
+launch-keeps = record {
+  keeps = λ entry p fit free.
+      ((elim (next_launch p) as (λ o. next_launch p ≡ o → IsFit (option_map_or (λ (n : Row × ℕ). launch_row entry n.0 n.1 p) o p)) [
+        | None ↦ λ is. fit
+        | Some next ↦ λ is. launch_row-fit entry p next.0 next.1 fit (next_launch-is p next fit.jobs.rising is)
+      ]) refl);
+}

@@ -77,9 +77,11 @@ module _ (test : Plan → Course → Bool) (job : JobId) (effect : ℕ → Plan 
 reported-keeps : (test : Plan → Course → Bool) (job : JobId) (effect : ℕ → Plan → Row → Plan)
     → ((entry : ℕ) (p : Plan) (row : Row) → IsFit p → row_of job p.rows ≡ Some row → test p row.course ≡ true → IsFit (effect entry p row))
     → KeepsFit (reported test job effect)
-reported-keeps test job effect keeps = record { keeps = λ entry p fit free.
-    (let finds = report-finds test job effect p free in
-    subst IsFit (sym (report-effect test job effect p entry finds.0 finds.1)) (keeps entry p finds.0 fit finds.1 finds.2)) }
+reported-keeps test job effect keeps = record {
+  keeps = λ entry p fit free.
+      (let finds = report-finds test job effect p free in
+      subst IsFit (sym (report-effect test job effect p entry finds.0 finds.1)) (keeps entry p finds.0 fit finds.1 finds.2));
+}
 
 -- ---- whose process is there
 

@@ -109,10 +109,12 @@ request-start home t p free =
     ]) second.0
 
 pub request-keeps : (home : ℕ) (t : ReservationTemplate) → KeepsFit (request home t)
-request-keeps home t = record { keeps = λ entry p fit free.
-    (let f = frame_of p.moment t in
-    let from = chosen_start t p in
-    accepted-fit p (accepted_at home t p from) fit refl (slots-fit f p from (start-is f p from (request-start home t p free)))) }
+request-keeps home t = record {
+  keeps = λ entry p fit free.
+      (let f = frame_of p.moment t in
+      let from = chosen_start t p in
+      accepted-fit p (accepted_at home t p from) fit refl (slots-fit f p from (start-is f p from (request-start home t p free))));
+}
 
 pub without-fit : (number : ReservationId) (p : Plan) → IsFit p → IsFit (without_reservation number p)
 without-fit number p fit = fewer-fit p.moment (is_other number) p (omega arith) fit

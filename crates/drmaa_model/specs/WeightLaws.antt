@@ -196,10 +196,10 @@ terminated-room entry moment r state permits =
           let one = length-change entry r (record r { course = failed moment note.Terminated r.course }) in
           omega (arith, one, before))
       | true ↦ λ is. elim (may_kill r.course.kill) as (λ k. room_of (cond k (called note.Terminated r.course) r.course)
-      + length (change_of entry r (record r { course = cond k (called note.Terminated r.course) r.course })) ≤ room_of r.course) [
-        | true ↦ (let none = length-same entry r (record r { course = called note.Terminated r.course }) refl in omega arith)
-        | false ↦ (let none = length-same entry r r refl in omega arith)
-      ]
+          + length (change_of entry r (record r { course = cond k (called note.Terminated r.course) r.course })) ≤ room_of r.course) [
+            | true ↦ (let none = length-same entry r (record r { course = called note.Terminated r.course }) refl in omega arith)
+            | false ↦ (let none = length-same entry r r refl in omega arith)
+          ]
     ]) refl
 
 state-room : (entry : ℕ) (r : Row) (state : JobState) → SameKind r.course.state state
