@@ -57,6 +57,7 @@ use Rattle.drmaa_model.specs.TimeLaws.{lapsed-cases, called-cases, timed, row_of
 -- what a step of a plan keeps
 pub record PlanStep (entry : ℕ) (p q : Plan) : Type 0 where
   pub total : q.total ≡ p.total
+  pub moment : q.moment ≡ p.moment
   pub few : AreFew p.rows p.reservations → AreFew q.rows q.reservations
   pub jobs : q.next_job ≤ p.next_job + most_members
   pub arrays : q.next_array ≤ p.next_array + 1
@@ -188,6 +189,7 @@ rows-step entry p f orders fit same goes =
     let edges = rows-edges entry p f fit.jobs.rising goes in
     record {
       total = refl;
+      moment = refl;
       few = few-map f same p.rows p.reservations;
       jobs = omega arith;
       arrays = omega arith;
@@ -215,6 +217,7 @@ control-step t what entry p fit =
 pub reap-step : (t : Target) (entry : ℕ) (p : Plan) → PlanStep entry p ((reap t).effect entry p)
 reap-step t entry p = record {
   total = refl;
+  moment = refl;
   few = few-rows (λ (row : Row). not (is_meant t row && is_done row)) p.rows p.reservations;
   jobs = omega arith;
   arrays = omega arith;
@@ -226,6 +229,7 @@ reap-step t entry p = record {
 orders-step : (entry : ℕ) (p : Plan) (orders : List Order) → PlanStep entry p (record p { orders = orders })
 orders-step entry p orders = record {
   total = refl;
+  moment = refl;
   few = λ few. few;
   jobs = omega arith;
   arrays = omega arith;
@@ -308,6 +312,7 @@ submit-step home t indices entry p free =
     let kept : kept_text rows ≡ new_text ms = new-kept home p p.next_job ms in
     record {
       total = refl;
+      moment = refl;
       few = λ few. record {
         jobs = omega (arith, length-append p.rows rows);
         text = omega (arith, sum_by-append (λ (row : Row). text_length row.template) p.rows rows);
@@ -329,6 +334,7 @@ request-step home t entry p free =
     let below = leb-false most_reservations (length p.reservations) (no_test first_test (second_test ∷ []) room).0 in
     record {
       total = refl;
+      moment = refl;
       few = λ few. record { jobs = few.jobs; text = few.text; reserved = omega (arith, length_push p.reservations (accepted_at home t p (chosen_start t p))) };
       jobs = omega arith;
       arrays = omega arith;
@@ -342,29 +348,40 @@ lapsed-template moment rs r = lapsed-cases (λ (p q : Row). q.template ≡ p.tem
 called-template : (moment : ℕ) (rs : List Accepted) (r : Row) → (called_in moment rs r).template ≡ r.template
 called-template moment rs r = called-cases (λ (p q : Row). q.template ≡ p.template) moment rs r (λ h. refl) (λ h w n. refl)
 
--- the rules of time for jobs, in a plan of these rows and changes
-pub rules-step : (entry : ℕ) (p q : Plan) → IsRising number_of p.rows → q ≡ record p { moment = q.moment; reservations = q.reservations } → (AreFew p.rows p.reservations → AreFew p.rows q.reservations)
-    → PlanStep entry p (call_in (expire entry q))
-rules-step entry p q rising same few =
-    let f = lapsed q.moment q.reservations in
-    let g = called_in q.moment q.reservations in
-    let v = record p { moment = q.moment; reservations = q.reservations } in
-    let edges = rows-edges entry p f rising (all-each (λ r. Goes r (f r)) (goes-lapsed q.moment q.reservations) p.rows) in
-    subst (λ (x : Plan). PlanStep entry p (call_in (expire entry x))) (sym same) (record {
+-- what the rules of time for jobs keep
+pub record RulesStep (entry : ℕ) (p q : Plan) : Type 0 where
+  pub few : AreFew p.rows p.reservations → AreFew q.rows q.reservations
+  pub edges : AddsEdges entry p q
+
+-- the rules of time for jobs, at a moment and with these reservations
+rules-step : (entry moment : ℕ) (rs : List Accepted) (p : Plan) → IsRising number_of p.rows → (AreFew p.rows p.reservations → AreFew p.rows rs)
+    → RulesStep entry p (call_in (expire entry (record p { moment = moment; reservations = rs })))
+rules-step entry moment rs p rising few =
+    let f = lapsed moment rs in
+    let g = called_in moment rs in
+    let edges = rows-edges entry p f rising (all-each (λ r. Goes r (f r)) (goes-lapsed moment rs) p.rows) in
+    record {
+      few = λ kept. few-map g (called-template moment rs) (map f p.rows) rs (few-map f (lapsed-template moment rs) p.rows rs (few kept));
+      edges = record { added = edges.added; gained = edges.gained; edges = edges.edges };
+    }
+
+pub end-step : (number : ReservationId) (entry : ℕ) (p : Plan) → IsFit p → PlanStep entry p ((end_reservation number).effect entry p)
+end-step number entry p fit =
+    let rs = (without_reservation number p).reservations in
+    let step = rules-step entry p.moment rs p fit.jobs.rising (few-reservations (is_other number) p.rows p.reservations) in
+    record {
       total = refl;
-      few = λ kept. few-map g (called-template q.moment q.reservations) (map f p.rows) q.reservations (few-map f (lapsed-template q.moment q.reservations) p.rows q.reservations (few kept));
+      moment = refl;
+      few = step.few;
       jobs = omega arith;
       arrays = omega arith;
       reservations = omega arith;
-      edges = record { added = edges.added; gained = edges.gained; edges = edges.edges };
-    })
-
-pub end-step : (number : ReservationId) (entry : ℕ) (p : Plan) → IsFit p → PlanStep entry p ((end_reservation number).effect entry p)
-end-step number entry p fit = rules-step entry p (without_reservation number p) fit.jobs.rising refl (few-reservations (is_other number) p.rows p.reservations)
+      edges = record { added = step.edges.added; gained = step.edges.gained; edges = step.edges.edges };
+    }
 
 -- time itself
-pub time-step : (entry at : ℕ) (p : Plan) → IsFit p → PlanStep entry p (advance_plan entry at p)
-time-step entry at p fit = rules-step entry p (let_go (come_to at p)) fit.jobs.rising refl (few-reservations (lasts (max p.moment at)) p.rows p.reservations)
+pub time-step : (entry at : ℕ) (p : Plan) → IsFit p → RulesStep entry p (advance_plan entry at p)
+time-step entry at p fit = rules-step entry (max p.moment at) (let_go (come_to at p)).reservations p fit.jobs.rising (few-reservations (lasts (max p.moment at)) p.rows p.reservations)
 
 -- ---- a named session that is destroyed
 
@@ -374,6 +391,7 @@ forget-step home entry p =
     let left : Row → Row = λ (row : Row). record row { home = left_by home row.home } in
     record {
       total = refl;
+      moment = refl;
       few = λ few.
           (let rows = few-map left (λ r. refl) (filter stays p.rows) p.reservations (few-rows stays p.rows p.reservations few) in
           record { jobs = rows.jobs; text = rows.text; reserved = (let n = few.reserved in omega (arith, length-map p.reservations (λ (a : Accepted). record a { home = left_by home a.home }))) });

@@ -1,6 +1,6 @@
 -- A step keeps a world consistent, adds edges alone, and makes one entry.
-use Rattle.std.proofs.Common.{◌≡◌, ℕ, ◌+◌, ◌<◌, ◌≤◌, Bool, true, false, cond, leb, not, List, [], ◌∷◌, length, Option, Some, None, refl, sym, ◌∙◌, subst, arith}
-use Rattle.std.specs.Prelude.{is_some, IsTrue}
+use Rattle.std.proofs.Common.{◌≡◌, ℕ, ◌+◌, ◌<◌, ◌≤◌, Bool, true, false, cond, leb, not, List, [], ◌∷◌, length, Option, Some, None, refl, sym, ◌∙◌, ap, subst, arith}
+use Rattle.std.specs.Prelude.{is_some, IsTrue, max}
 use Rattle.std.specs.Option.{option_map, option_map_or}
 use Rattle.std.proofs.lemmas.Bool.{leb-false}
 use Rattle.session_table.specs.Permitted.{may_create}
@@ -52,9 +52,10 @@ use Rattle.drmaa_model.specs.Time.{advance}
 use Rattle.drmaa_model.specs.Waiting.{first_reached, is_timed_out}
 use Rattle.drmaa_model.specs.World.{World, opening_world, counted}
 
--- what a step from a world, which has come to its moment, leads to
-pub record StepKeeps (v next : World) : Type 0 where
+-- what a step leads to that is served at this moment
+pub record StepKeeps (v : World) (moment : ℕ) (next : World) : Type 0 where
   pub consistent : IsConsistent next
+  pub moment_is : next.plan.moment ≡ moment
   pub edges : AddsEdges (v.entries + 1) v.plan next.plan
   pub config : next.config ≡ v.config
   pub entries : next.entries ≡ v.entries + 1
@@ -100,7 +101,7 @@ monitor-step s sound free = record { sound = IsSound-opened s Monitoring None so
 
 module _ (v : World) (ok : IsConsistent v) where
   moves : (q : Plan) (s : Sessions) (n : ℕ) → IsFit q → PlanStep (v.entries + 1) v.plan q → SessionStep v.sessions s → n ≤ v.registrations + 1 → n ≤ most_callbacks
-      → StepKeeps v (counted (record v { plan = q; sessions = s; registrations = n }))
+      → StepKeeps v v.plan.moment (counted (record v { plan = q; sessions = s; registrations = n }))
   moves q s n fit plan sessions more few =
       let jobs = ok.jobs in let jobs' = plan.jobs in
       let arrays = ok.arrays in let arrays' = plan.arrays in
@@ -122,6 +123,7 @@ module _ (v : World) (ok : IsConsistent v) where
           registered = omega arith;
           callbacks = few;
         };
+        moment_is = plan.moment;
         edges = record { added = plan.edges.added; gained = plan.edges.gained; edges = plan.edges.edges };
         config = refl;
         entries = refl;
@@ -131,19 +133,19 @@ module _ (v : World) (ok : IsConsistent v) where
   same-sessions = record { sound = ok.sessions; numbers = omega arith; homes = omega arith }
 
   -- the plan goes on
-  goes : (q : Plan) → IsFit q → PlanStep (v.entries + 1) v.plan q → StepKeeps v (counted (record v { plan = q }))
+  goes : (q : Plan) → IsFit q → PlanStep (v.entries + 1) v.plan q → StepKeeps v v.plan.moment (counted (record v { plan = q }))
   goes q fit plan = moves q v.sessions v.registrations fit plan same-sessions (omega arith) ok.callbacks
 
   -- the sessions go on
-  sits : (s : Sessions) → SessionStep v.sessions s → StepKeeps v (counted (record v { sessions = s }))
+  sits : (s : Sessions) → SessionStep v.sessions s → StepKeeps v v.plan.moment (counted (record v { sessions = s }))
   sits s sessions = moves v.plan s v.registrations ok.fit (same-step (v.entries + 1) v.plan) sessions (omega arith) ok.callbacks
 
-  stays : StepKeeps v (counted v)
+  stays : StepKeeps v v.plan.moment (counted v)
   stays = goes v.plan ok.fit (same-step (v.entries + 1) v.plan)
 
-  destroys : (kind : SessionKind) (name : List ℕ) → StepKeeps v (counted (destroy kind name v))
+  destroys : (kind : SessionKind) (name : List ℕ) → StepKeeps v v.plan.moment (counted (destroy kind name v))
   destroys kind name =
-      elim (home_of kind name v.sessions.named) as (λ o. StepKeeps v (counted (option_map_or (λ (home : ℕ). record v { sessions = destroyed home v.sessions; plan = forget_home home v.plan }) o v))) [
+      elim (home_of kind name v.sessions.named) as (λ o. StepKeeps v v.plan.moment (counted (option_map_or (λ (home : ℕ). record v { sessions = destroyed home v.sessions; plan = forget_home home v.plan }) o v))) [
         | None ↦ stays
         | Some home ↦ moves (forget_home home v.plan) (destroyed home v.sessions) v.registrations (forget-fit home v.plan ok.fit) (forget-step home (v.entries + 1) v.plan)
             (record { sound = IsSound-destroyed v.sessions home ok.sessions; numbers = omega arith; homes = omega arith }) (omega arith) ok.callbacks
@@ -151,7 +153,7 @@ module _ (v : World) (ok : IsConsistent v) where
 
 -- what is true of an answer: where it makes an entry, the world goes on
 Keeps : World → StepAnswer → Type 0
-Keeps v (gives r next) = StepKeeps v next
+Keeps v (gives r next) = StepKeeps v v.plan.moment next
 Keeps v nothing = Unit {0}
 Keeps v not_yet = Unit {0}
 
@@ -180,7 +182,7 @@ module _ (v : World) (ok : IsConsistent v) where
   keeps-wait None over = elim over as (λ b. Keeps v (cond b (makes (reply.Refused Timeout) v) not_yet)) [ true ↦ stays v ok | false ↦ tt ]
   keeps-wait (Some job) over = stays v ok
 
-  reports : (r : Report) → (report_of r).refusal v.plan ≡ None → StepKeeps v (counted (record v { plan = (report_of r).effect (v.entries + 1) v.plan }))
+  reports : (r : Report) → (report_of r).refusal v.plan ≡ None → StepKeeps v v.plan.moment (counted (record v { plan = (report_of r).effect (v.entries + 1) v.plan }))
   reports r free = goes v ok ((report_of r).effect (v.entries + 1) v.plan) ((report-keeps r).keeps (v.entries + 1) v.plan ok.fit free) (report-step r (v.entries + 1) v.plan ok.fit free)
 
   served : (at : ℕ) (c : Call) → refusal v c ≡ None → Keeps v (effect at v c)
@@ -237,7 +239,7 @@ module _ (v : World) (ok : IsConsistent v) where
   unfolding Keeps
   answers at c = answer-cases at v c (Keeps v) (λ why is. stays v ok) (λ free. served at c free)
 
-  given : (r : Reply) (next : World) (a : StepAnswer) → a ≡ gives r next → Keeps v a → StepKeeps v next
+  given : (r : Reply) (next : World) (a : StepAnswer) → a ≡ gives r next → Keeps v a → StepKeeps v v.plan.moment next
   unfolding Keeps
   given r next a same keeps = subst (Keeps v) same keeps
 
@@ -262,13 +264,14 @@ advance-consistent w at ok =
     }
 
 -- a step from a world leads to a consistent one, adds edges from the states that its jobs had, and makes one entry
-pub step-keeps : (w : World) (entry : Entry) (next : World) → IsConsistent w → IsStep w entry next → StepKeeps w next
+pub step-keeps : (w : World) (entry : Entry) (next : World) → IsConsistent w → IsStep w entry next → StepKeeps w (max w.plan.moment entry.at) next
 step-keeps w entry next ok step =
     let v = advance w entry.at in
     let now = advance-consistent w entry.at ok in
     let keeps = given v now entry.reply next (answer w entry.at entry.call) step.answered (answers v now entry.at entry.call) in
     record {
       consistent = keeps.consistent;
+      moment_is = keeps.moment_is;
       edges = edges-after (w.entries + 1) entry.at w.plan next.plan (time-step (w.entries + 1) entry.at w.plan ok.fit).edges keeps.edges;
       config = keeps.config;
       entries = keeps.entries;
@@ -285,6 +288,14 @@ step-entries w entry next ok step = (step-keeps w entry next ok step).entries
 
 pub step-config : (w : World) (entry : Entry) (next : World) → IsConsistent w → IsStep w entry next → next.config ≡ w.config
 step-config w entry next ok step = (step-keeps w entry next ok step).config
+
+pub step-total : (w : World) (entry : Entry) (next : World) → IsConsistent w → IsStep w entry next → next.plan.total ≡ w.plan.total
+step-total w entry next ok step =
+    let keeps = step-keeps w entry next ok step in
+    keeps.consistent.total ∙ (ap (λ (c : Config). c.slots) keeps.config ∙ sym ok.total)
+
+pub step-moment : (w : World) (entry : Entry) (next : World) → IsConsistent w → IsStep w entry next → next.plan.moment ≡ max w.plan.moment entry.at
+step-moment w entry next ok step = (step-keeps w entry next ok step).moment_is
 
 -- ---- histories
 

@@ -50,12 +50,12 @@ use Rattle.drmaa_model.specs.TimeLaws.{started-waits, sum-kept, weight-expire, w
 -- ---- one row
 
 -- a row has at most one change, and none where its state stays
-length-change : (entry : ℕ) (r next : Row) → length (change_of entry r next) ≤ 1
+pub length-change : (entry : ℕ) (r next : Row) → length (change_of entry r next) ≤ 1
 length-change entry r next =
     let change : Change = record { entry = entry; job = r.job; home = r.home; from = r.course.state; to = next.course.state } in
     elim (is_state r.course.state next.course.state) as (λ b. length {A = Change} (cond b [] (change ∷ [])) ≤ 1) [ true ↦ omega arith | false ↦ omega arith ]
 
-length-same : (entry : ℕ) (r next : Row) → next.course.state ≡ r.course.state → length (change_of entry r next) ≡ 0
+pub length-same : (entry : ℕ) (r next : Row) → next.course.state ≡ r.course.state → length (change_of entry r next) ≡ 0
 length-same entry r next same =
     let change : Change = record { entry = entry; job = r.job; home = r.home; from = r.course.state; to = next.course.state } in
     ap (λ b. length {A = Change} (cond b [] (change ∷ []))) (ap (is_state r.course.state) same ∙ is_state-same r.course.state)
@@ -68,7 +68,7 @@ room-started course is = ap (λ b. cond {A = ℕ} b 1 (phase_room course.phase))
 
 -- one job goes on
 module _ (entry : ℕ) (p : Plan) (job : JobId) (row : Row) (next : Course) (fit : IsFit p) (found : row_of job p.rows ≡ Some row) where
-  go_on-weight : weight (go_on entry row.job next p) + room_of row.course ≡ weight p + (room_of next + length (change_of entry row (record row { course = next })))
+  pub go_on-weight : weight (go_on entry row.job next p) + room_of row.course ≡ weight p + (room_of next + length (change_of entry row (record row { course = next })))
   go_on-weight =
       let own = own-job job p row found in
       let sum = sum_with_course row.job next (λ (r : Row). room_of r.course) p.rows row fit.jobs.rising own in
@@ -300,7 +300,7 @@ room-submitted : (on_hold : Bool) → room_of (submitted_course on_hold) ≡ 1
 room-submitted true = refl
 room-submitted false = refl
 
-new-promised : (home : ℕ) (p : Plan) (number : ℕ) (ms : List Member) → promised (new_rows home p number ms) ≡ length ms
+pub new-promised : (home : ℕ) (p : Plan) (number : ℕ) (ms : List Member) → promised (new_rows home p number ms) ≡ length ms
 new-promised home p number [] = refl
 new-promised home p number (m ∷ ms) =
     omega (arith, room-submitted m.template.submit_as_hold, new-promised home p (number + 1) ms, sum_by-cons (λ (row : Row). room_of row.course) (new_row home p number m) (new_rows home p (number + 1) ms))

@@ -1,6 +1,6 @@
 //! What is true of every plan, of every world and of every step. Each law is the contract of a function that does
 //! nothing: the clause speaks of all plans, calls, moments and worlds.
-ghost use Rattle.std.specs.Prelude.{◌≡◌, ◌+◌, ◌≤◌, ℕ, List, Option, None, length, true};
+ghost use Rattle.std.specs.Prelude.{◌≡◌, ◌+◌, ◌≤◌, ℕ, List, Option, None, length, max, true};
 ghost use Rattle.drmaa_types.specs.declared.identifiers.ReservationId.{ReservationId};
 ghost use Rattle.drmaa_types.specs.declared.states.Control.{Control};
 ghost use Rattle.job_template.specs.declared.templates.JobTemplate.{JobTemplate};
@@ -45,12 +45,14 @@ pub fn every_operation_keeps_a_plan_fit()
 
 /// A step leads from a consistent world to a consistent one. Each change that it adds bears the number of its entry
 /// and is an edge of the state model, from the state that the job's row had. It makes one entry, and leaves the
-/// configuration.
+/// configuration and the number of slots. Its moment is the one handed in, and never falls.
 pub fn a_step_keeps_the_world()
     ensures consistent { (w : World) (entry : Entry) (next : World) → IsConsistent w → IsStep w entry next → IsConsistent next }
     ensures edges { (w : World) (entry : Entry) (next : World) → IsConsistent w → IsStep w entry next → AddsEdges (w.entries + 1) w.plan next.plan }
     ensures entries { (w : World) (entry : Entry) (next : World) → IsConsistent w → IsStep w entry next → next.entries ≡ w.entries + 1 }
     ensures config { (w : World) (entry : Entry) (next : World) → IsConsistent w → IsStep w entry next → next.config ≡ w.config }
+    ensures total { (w : World) (entry : Entry) (next : World) → IsConsistent w → IsStep w entry next → next.plan.total ≡ w.plan.total }
+    ensures moment { (w : World) (entry : Entry) (next : World) → IsConsistent w → IsStep w entry next → next.plan.moment ≡ max w.plan.moment entry.at }
 {}
 
 /// The world of a legal history is consistent, has counted its entries, and has the configuration that the history
