@@ -77,6 +77,8 @@ pub record IsFit (p : Plan) : Type 0 where
   pub jobs : AreNumbered number_of p.next_job p.rows
   -- a job names no reservation that is yet to come
   pub reserved : AllByRecursion (λ (row : Row). IfSome row.wants.reservation (λ (r : ReservationId). r.0 < p.next_reservation)) p.rows
+  -- nor is it a member of an array that is yet to come
+  pub arrays : AllByRecursion (λ (row : Row). IfSome row.wants.array (λ (a : ArrayId). a.0 < p.next_array)) p.rows
   -- each launch is a change
   pub attempts : AllByRecursion (λ (row : Row). row.course.attempt ≤ length p.changes) p.rows
   pub asked : AllByRecursion (IsFor p.rows) p.orders

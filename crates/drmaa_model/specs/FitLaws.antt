@@ -148,6 +148,8 @@ eased f same wants p fit eases changes more orders asked =
       jobs = numbered-map number_of f (λ r. ap (λ (j : JobId). j.0) (same r)) p.next_job p.rows fit.jobs;
       reserved = all-eased f same p.rows eases (λ (r : Row). IfSome r.wants.reservation (λ (n : ReservationId). n.0 < p.next_reservation)) (λ (r : Row). IfSome r.wants.reservation (λ (n : ReservationId). n.0 < p.next_reservation))
           (λ r e h. subst (λ (w : Wants). IfSome w.reservation (λ (n : ReservationId). n.0 < p.next_reservation)) (sym e.wants) h) p.rows eases fit.reserved;
+      arrays = all-eased f same p.rows eases (λ (r : Row). IfSome r.wants.array (λ (a : ArrayId). a.0 < p.next_array)) (λ (r : Row). IfSome r.wants.array (λ (a : ArrayId). a.0 < p.next_array))
+          (λ r e h. subst (λ (w : Wants). IfSome w.array (λ (a : ArrayId). a.0 < p.next_array)) (sym e.wants) h) p.rows eases fit.arrays;
       attempts = all-eased f same p.rows eases (λ (r : Row). r.course.attempt ≤ length p.changes) (λ (r : Row). r.course.attempt ≤ length changes) (λ r e h. (let a = e.attempt in omega arith)) p.rows eases fit.attempts;
       asked = asked;
       loads = λ x low high. (let u = used-eased f same p.rows eases x in let l = fit.loads x low high in omega arith);
@@ -201,34 +203,41 @@ unused x r idle =
 pub not-using : (r : Row) → is_started r.course.state ≡ false → is_using r ≡ false
 not-using r idle = ap (λ b. is_ordinary r && b) idle ∙ (elim (is_ordinary r) as (λ b. (b && false) ≡ false) [ true ↦ refl | false ↦ refl ])
 
+-- a job that waits ends
+pub eases-failed : (moment : ℕ) (n : Note) (r : Row) → is_waiting r.course.state ≡ true → IsSound r.wants r.course → Eases r (record r { course = failed moment n r.course })
+eases-failed moment n r waits s = record {
+  job = refl;
+  wants = refl;
+  held = sym (s.idle (waits-not_started r.course.state waits)).1;
+  attempt = refl;
+  dispatched = refl;
+  uses = λ x. unused x (record r { course = failed moment n r.course }) refl ∙ sym (unused x r (waits-not_started r.course.state waits));
+  using = not-using (record r { course = failed moment n r.course }) refl ∙ sym (not-using r (waits-not_started r.course.state waits));
+  planned = λ u. absurd (false≢true (sym (not-using r (waits-not_started r.course.state waits)) ∙ u));
+  sound = sound-failed moment n r s;
+  lasts = record {
+    started = λ e. absurd (false≢true (sym (waits-not_started r.course.state waits) ∙ e));
+    alive = λ e. absurd (false≢true (sym (idle-not_alive r.course.phase (s.idle (waits-not_started r.course.state waits)).0) ∙ e));
+  };
+}
+
+-- a started job is asked to end
+pub eases-asked : (n : Note) (r : Row) → is_started r.course.state ≡ true → IsSound r.wants r.course → Eases r (record r { course = called n r.course })
+eases-asked n r is s = record { job = refl; wants = refl; held = refl; attempt = refl; dispatched = refl; uses = λ x. refl; using = refl; planned = λ u. refl; sound = sound-called n r is s; lasts = record { started = λ e. e; alive = λ e. e } }
+
+pub eases-same : (r : Row) → IsSound r.wants r.course → Eases r r
+eases-same r s = record { job = refl; wants = refl; held = refl; attempt = refl; dispatched = refl; uses = λ x. refl; using = refl; planned = λ u. refl; sound = s; lasts = record { started = λ e. e; alive = λ e. e } }
+
 pub eases-lapsed : (moment : ℕ) (rs : List Accepted) (r : Row) → IsSound r.wants r.course → Eases r (lapsed moment rs r)
-eases-lapsed moment rs r sound = lapsed-cases (λ (p q : Row). IsSound p.wants p.course → Eases p q) moment rs r
-    (λ h s. record { job = refl; wants = refl; held = refl; attempt = refl; dispatched = refl; uses = λ x. refl; using = refl; planned = λ u. refl; sound = s; lasts = record { started = λ e. e; alive = λ e. e } })
-    (λ h waits n s. record {
-      job = refl;
-      wants = refl;
-      held = sym (s.idle (waits-not_started r.course.state waits)).1;
-      attempt = refl;
-      dispatched = refl;
-      uses = λ x. unused x (record r { course = failed moment n r.course }) refl ∙ sym (unused x r (waits-not_started r.course.state waits));
-      using = not-using (record r { course = failed moment n r.course }) refl ∙ sym (not-using r (waits-not_started r.course.state waits));
-      planned = λ u. absurd (false≢true (sym (not-using r (waits-not_started r.course.state waits)) ∙ u));
-      sound = sound-failed moment n r s;
-      lasts = record {
-        started = λ e. absurd (false≢true (sym (waits-not_started r.course.state waits) ∙ e));
-        alive = λ e. absurd (false≢true (sym (idle-not_alive r.course.phase (s.idle (waits-not_started r.course.state waits)).0) ∙ e));
-      };
-    }) sound
+eases-lapsed moment rs r sound = lapsed-cases (λ (p q : Row). IsSound p.wants p.course → Eases p q) moment rs r (λ h s. eases-same r s) (λ h waits n s. eases-failed moment n r waits s) sound
 
 pub eases-called : (moment : ℕ) (rs : List Accepted) (r : Row) → IsSound r.wants r.course → Eases r (called_in moment rs r)
-eases-called moment rs r sound = called-cases (λ (p q : Row). IsSound p.wants p.course → Eases p q) moment rs r
-    (λ h s. record { job = refl; wants = refl; held = refl; attempt = refl; dispatched = refl; uses = λ x. refl; using = refl; planned = λ u. refl; sound = s; lasts = record { started = λ e. e; alive = λ e. e } })
-    (λ h is n s. record { job = refl; wants = refl; held = refl; attempt = refl; dispatched = refl; uses = λ x. refl; using = refl; planned = λ u. refl; sound = sound-called n r is s; lasts = record { started = λ e. e; alive = λ e. e } }) sound
+eases-called moment rs r sound = called-cases (λ (p q : Row). IsSound p.wants p.course → Eases p q) moment rs r (λ h s. eases-same r s) (λ h is n s. eases-asked n r is s) sound
 
 found-lasts : (f : Row → Row) (rows : List Row) (job : JobId) → AllByRecursion (λ r. Eases r (f r)) rows → (r : Row) → row_of job rows ≡ Some r → Lasts r (f r)
 found-lasts f rows job all r found = (row_of-all (λ (x : Row). Eases x (f x)) job rows r all found).lasts
 
-orders-lasting : (f : Row → Row) → ((r : Row) → (f r).job ≡ r.job) → (rows : List Row) → AllByRecursion (λ r. Eases r (f r)) rows
+pub orders-lasting : (f : Row → Row) → ((r : Row) → (f r).job ≡ r.job) → (rows : List Row) → AllByRecursion (λ r. Eases r (f r)) rows
     → (orders : List Order) → AllByRecursion (IsFor rows) orders → AllByRecursion (IsFor (map f rows)) orders
 orders-lasting f same rows all orders = all-implied (IsFor rows) (IsFor (map f rows)) (λ order is. for-lasting f same rows order (found-lasts f rows order.job all) is) orders
 
@@ -296,6 +305,7 @@ fewer-fit m test p later fit = record {
   sound = fit.sound;
   jobs = fit.jobs;
   reserved = fit.reserved;
+  arrays = fit.arrays;
   attempts = fit.attempts;
   asked = fit.asked;
   loads = λ x low high. (let l = fit.loads x (omega arith) high in let b = booked-fewer test p.reservations x in omega arith);
@@ -357,6 +367,8 @@ module _ (entry : ℕ) (p : Plan) (row : Row) (next : Course) (fit : IsFit p) (o
         jobs = numbered-map number_of (with_course row.job next) (with_course-number row.job next) p.next_job p.rows fit.jobs;
         reserved = all_with_course row.job next (λ (r : Row). IfSome r.wants.reservation (λ (n : ReservationId). n.0 < p.next_reservation)) p.rows row fit.jobs.rising on.found fit.reserved
             (row_of-all (λ (r : Row). IfSome r.wants.reservation (λ (n : ReservationId). n.0 < p.next_reservation)) row.job p.rows row fit.reserved on.found);
+        arrays = all_with_course row.job next (λ (r : Row). IfSome r.wants.array (λ (a : ArrayId). a.0 < p.next_array)) p.rows row fit.jobs.rising on.found fit.arrays
+            (row_of-all (λ (r : Row). IfSome r.wants.array (λ (a : ArrayId). a.0 < p.next_array)) row.job p.rows row fit.arrays on.found);
         attempts = all_with_course row.job next (λ (r : Row). r.course.attempt ≤ length (go_on entry row.job next p).changes) p.rows row fit.jobs.rising on.found
             (all-implied (λ (r : Row). r.course.attempt ≤ length p.changes) (λ (r : Row). r.course.attempt ≤ length (go_on entry row.job next p).changes) (λ r h. omega arith) p.rows fit.attempts)
             on.attempt;
@@ -434,6 +446,7 @@ module _ (entry : ℕ) (p : Plan) (row : Row) (next : Course) (fit : IsFit p) (o
 
 pub record SameKind (s t : JobState) : Type 0 where
   pub kind : is_started t ≡ is_started s
+  pub waits : is_waiting t ≡ is_waiting s
   pub known : t ≢ Undetermined
   pub edge : may s t ≡ true
 
@@ -441,7 +454,7 @@ pub same-kind : (what : Control) (s t : JobState) → (what ≡ Terminate → �
 same-kind Suspend Undetermined t quiet e = absurd (cc)
 same-kind Suspend Queued t quiet e = absurd (cc)
 same-kind Suspend QueuedHeld t quiet e = absurd (cc)
-same-kind Suspend Running t quiet e = (let same : Suspended ≡ t = cc in subst (SameKind Running) same (record { kind = refl; known = λ h. cc; edge = refl }))
+same-kind Suspend Running t quiet e = (let same : Suspended ≡ t = cc in subst (SameKind Running) same (record { kind = refl; waits = refl; known = λ h. cc; edge = refl }))
 same-kind Suspend Suspended t quiet e = absurd (cc)
 same-kind Suspend Requeued t quiet e = absurd (cc)
 same-kind Suspend RequeuedHeld t quiet e = absurd (cc)
@@ -451,27 +464,27 @@ same-kind Resume Undetermined t quiet e = absurd (cc)
 same-kind Resume Queued t quiet e = absurd (cc)
 same-kind Resume QueuedHeld t quiet e = absurd (cc)
 same-kind Resume Running t quiet e = absurd (cc)
-same-kind Resume Suspended t quiet e = (let same : Running ≡ t = cc in subst (SameKind Suspended) same (record { kind = refl; known = λ h. cc; edge = refl }))
+same-kind Resume Suspended t quiet e = (let same : Running ≡ t = cc in subst (SameKind Suspended) same (record { kind = refl; waits = refl; known = λ h. cc; edge = refl }))
 same-kind Resume Requeued t quiet e = absurd (cc)
 same-kind Resume RequeuedHeld t quiet e = absurd (cc)
 same-kind Resume Done t quiet e = absurd (cc)
 same-kind Resume Failed t quiet e = absurd (cc)
 same-kind Hold Undetermined t quiet e = absurd (cc)
-same-kind Hold Queued t quiet e = (let same : QueuedHeld ≡ t = cc in subst (SameKind Queued) same (record { kind = refl; known = λ h. cc; edge = refl }))
+same-kind Hold Queued t quiet e = (let same : QueuedHeld ≡ t = cc in subst (SameKind Queued) same (record { kind = refl; waits = refl; known = λ h. cc; edge = refl }))
 same-kind Hold QueuedHeld t quiet e = absurd (cc)
 same-kind Hold Running t quiet e = absurd (cc)
 same-kind Hold Suspended t quiet e = absurd (cc)
-same-kind Hold Requeued t quiet e = (let same : RequeuedHeld ≡ t = cc in subst (SameKind Requeued) same (record { kind = refl; known = λ h. cc; edge = refl }))
+same-kind Hold Requeued t quiet e = (let same : RequeuedHeld ≡ t = cc in subst (SameKind Requeued) same (record { kind = refl; waits = refl; known = λ h. cc; edge = refl }))
 same-kind Hold RequeuedHeld t quiet e = absurd (cc)
 same-kind Hold Done t quiet e = absurd (cc)
 same-kind Hold Failed t quiet e = absurd (cc)
 same-kind Release Undetermined t quiet e = absurd (cc)
 same-kind Release Queued t quiet e = absurd (cc)
-same-kind Release QueuedHeld t quiet e = (let same : Queued ≡ t = cc in subst (SameKind QueuedHeld) same (record { kind = refl; known = λ h. cc; edge = refl }))
+same-kind Release QueuedHeld t quiet e = (let same : Queued ≡ t = cc in subst (SameKind QueuedHeld) same (record { kind = refl; waits = refl; known = λ h. cc; edge = refl }))
 same-kind Release Running t quiet e = absurd (cc)
 same-kind Release Suspended t quiet e = absurd (cc)
 same-kind Release Requeued t quiet e = absurd (cc)
-same-kind Release RequeuedHeld t quiet e = (let same : Requeued ≡ t = cc in subst (SameKind RequeuedHeld) same (record { kind = refl; known = λ h. cc; edge = refl }))
+same-kind Release RequeuedHeld t quiet e = (let same : Requeued ≡ t = cc in subst (SameKind RequeuedHeld) same (record { kind = refl; waits = refl; known = λ h. cc; edge = refl }))
 same-kind Release Done t quiet e = absurd (cc)
 same-kind Release Failed t quiet e = absurd (cc)
 same-kind Terminate s t quiet e = absurd (quiet refl)

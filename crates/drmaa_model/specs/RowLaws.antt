@@ -34,6 +34,10 @@ pub all-both : {X : Type 0} (P Q : X → Type 0) (xs : List X) → AllByRecursio
 all-both P Q [] p q = tt
 all-both P Q (x ∷ xs) p q = ((p.0, q.0), all-both P Q xs p.1 q.1)
 
+pub all-each : {X : Type 0} (P : X → Type 0) → ((x : X) → P x) → (xs : List X) → AllByRecursion P xs
+all-each P each [] = tt
+all-each P each (x ∷ xs) = (each x, all-each P each xs)
+
 pub all-implied : {X : Type 0} (P Q : X → Type 0) → ((x : X) → P x → Q x) → (xs : List X) → AllByRecursion P xs → AllByRecursion Q xs
 all-implied P Q implies [] p = tt
 all-implied P Q implies (x ∷ xs) p = (implies x p.0, all-implied P Q implies xs p.1)

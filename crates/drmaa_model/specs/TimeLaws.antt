@@ -50,6 +50,17 @@ waits-not_started RequeuedHeld h = refl
 waits-not_started Done h = refl
 waits-not_started Failed h = refl
 
+pub started-waits : (s : JobState) → is_started s ≡ true → is_waiting s ≡ false
+started-waits Undetermined h = absurd (cc)
+started-waits Queued h = absurd (cc)
+started-waits QueuedHeld h = absurd (cc)
+started-waits Running h = refl
+started-waits Suspended h = refl
+started-waits Requeued h = absurd (cc)
+started-waits RequeuedHeld h = absurd (cc)
+started-waits Done h = absurd (cc)
+started-waits Failed h = absurd (cc)
+
 pub waits-not_failed : (s : JobState) → is_waiting s ≡ true → is_state s Failed ≡ false
 waits-not_failed Undetermined h = refl
 waits-not_failed Queued h = refl

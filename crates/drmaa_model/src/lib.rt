@@ -8,6 +8,7 @@ mod courses;
 mod entries;
 mod faults;
 mod histories;
+mod laws;
 mod looks;
 mod replies;
 mod reservations;
@@ -23,6 +24,10 @@ pub use courses::{Course, Kill, Order, Phase};
 pub use entries::{Entry, EntryList};
 pub use faults::NoEntry;
 pub use histories::{a_step_goes_on, each_prefix_is_legal};
+pub use laws::{
+    a_legal_history_leads_to_a_consistent_world, a_report_finds_room, a_step_keeps_the_world,
+    every_operation_keeps_a_plan_fit,
+};
 pub use looks::{Answer, Question};
 pub use replies::{Launch, Reply, Signal, Submitted};
 pub use reservations::Accepted;

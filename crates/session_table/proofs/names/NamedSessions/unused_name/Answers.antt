@@ -1,6 +1,6 @@
 use Rattle.std.proofs.Common.{◌≡◌, ◌∙◌, ◌+◌, ◌-◌, true, is_some, not, ap, sym, arith}
 use Rattle.session_table.specs.Sessions.{in_use, session_name}
-use Rattle.session_table.proofs.FirstFree.{first_free-next}
+use Rattle.session_table.specs.FirstFree.{first_free-next}
 use Rattle.session_table.proofs.names.NamedSessions.unused_name.Goals as goal
 
 pub loop-number-preserved : goal.loop-number-preserved

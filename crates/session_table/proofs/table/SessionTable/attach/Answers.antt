@@ -1,7 +1,7 @@
 use Rattle.std.proofs.Common.{◌≡◌, ◌∙◌, Some, sym, subst}
 use Rattle.std.specs.Prelude.{IsTrue}
 use Rattle.session_table.specs.Sessions.{Sessions, is_bound}
-use Rattle.session_table.proofs.Sound.{bound-found}
+use Rattle.session_table.specs.SessionLaws.{bound-found}
 use Rattle.session_table.proofs.table.SessionTable.attach.Goals as goal
 
 pub open-requires-clause-bound : goal.open-requires-clause-bound

@@ -1,9 +1,9 @@
 use Rattle.std.proofs.Common.{◌≡◌, ◌∙◌, Option, None, false, ap, sym, subst}
 use Rattle.session_table.specs.Sessions.{NamedSession, Sessions, ValidNumber, IsLeastUnused, meaning_of, name_of, in_use, chosen_name, create_refusal, least_unused}
 use Rattle.session_table.specs.TableView.{sessions_of}
-use Rattle.session_table.proofs.FirstFree.{least_unused-is}
-use Rattle.session_table.proofs.Permitted.{may_create}
-use Rattle.session_table.proofs.Sound.{IsSound-created, find-above}
+use Rattle.session_table.specs.FirstFree.{least_unused-is}
+use Rattle.session_table.specs.Permitted.{may_create}
+use Rattle.session_table.specs.SessionLaws.{IsSound-created, find-above}
 use Rattle.session_table.proofs.table.SessionTable.create.Goals as goal
 
 pub returns-in_err-may_create-clause-least : goal.returns-in_err-may_create-clause-least

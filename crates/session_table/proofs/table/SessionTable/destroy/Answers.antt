@@ -1,5 +1,5 @@
 use Rattle.session_table.specs.TableView.{sessions_of}
-use Rattle.session_table.proofs.Sound.{IsSound-destroyed}
+use Rattle.session_table.specs.SessionLaws.{IsSound-destroyed}
 use Rattle.session_table.proofs.table.SessionTable.destroy.Goals as goal
 
 pub invariant_of-self : goal.invariant_of-self

@@ -1,6 +1,6 @@
 use Rattle.std.proofs.Common.{◌≡◌, ◌∙◌, ap, sym, subst, refl}
 use Rattle.session_table.specs.Sessions.{Sessions, IsSound, NamedSession, ValidNumber}
-use Rattle.session_table.proofs.Sound.{IsSound-opening}
+use Rattle.session_table.specs.SessionLaws.{IsSound-opening}
 use Rattle.session_table.proofs.table.SessionTable.new.Goals as goal
 
 pub invariant_of-result : goal.invariant_of-result

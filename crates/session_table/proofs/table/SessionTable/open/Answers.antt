@@ -2,7 +2,7 @@ use Rattle.std.proofs.Common.{◌≡◌, ◌∙◌, ◌<◌, Option, ap, sym, su
 use Rattle.std.specs.Prelude.{IsTrue}
 use Rattle.session_table.specs.Sessions.{Sessions, ValidNumber, meaning_of, is_bound}
 use Rattle.session_table.specs.TableView.{sessions_of}
-use Rattle.session_table.proofs.Sound.{IsSound-opened, find-above}
+use Rattle.session_table.specs.SessionLaws.{IsSound-opened, find-above}
 use Rattle.session_table.proofs.table.SessionTable.open.Goals as goal
 
 pub add-requires-clause-absent : goal.add-requires-clause-absent

@@ -4,7 +4,7 @@ use Rattle.std.proofs.lemmas.Bool.Decides.{nat_tests}
 use Rattle.drmaa_types.specs.declared.sessions.SessionKind.{SessionKind}
 use Rattle.drmaa_types.specs.declared.refusals.Refusal.{Refusal}
 use Rattle.session_table.specs.Sessions.{NamedSession, Sessions, chosen_name, create_refusal, is_bad_name, in_use, least_unused, session_name, most_bytes}
-use Rattle.session_table.proofs.FirstFree.{least_unused-is}
+use Rattle.session_table.specs.FirstFree.{least_unused-is}
 
 below : (n : ℕ) → nat_le 1_000 n ≡ false → n < 1_000
 below n h = grind (arith, nat_tests)

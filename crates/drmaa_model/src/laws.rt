@@ -1,0 +1,74 @@
+//! What is true of every plan, of every world and of every step. Each law is the contract of a function that does
+//! nothing: the clause speaks of all plans, calls, moments and worlds.
+ghost use Rattle.std.specs.Prelude.{◌≡◌, ◌+◌, ◌≤◌, ℕ, List, Option, None, length, max, true};
+ghost use Rattle.drmaa_types.specs.declared.identifiers.ReservationId.{ReservationId};
+ghost use Rattle.drmaa_types.specs.declared.states.Control.{Control};
+ghost use Rattle.job_template.specs.declared.templates.JobTemplate.{JobTemplate};
+ghost use Rattle.job_template.specs.declared.templates.ReservationTemplate.{ReservationTemplate};
+ghost use Rattle.drmaa_model.specs.declared.calls.Indices.{Indices};
+ghost use Rattle.drmaa_model.specs.declared.calls.Report.{Report};
+ghost use Rattle.drmaa_model.specs.declared.calls.Target.{Target};
+ghost use Rattle.drmaa_model.specs.declared.configs.Config.{Config};
+ghost use Rattle.drmaa_model.specs.declared.entries.Entry.{Entry};
+ghost use Rattle.drmaa_model.specs.declared.replies.Reply.{Reply};
+ghost use Rattle.drmaa_model.specs.Consistent.{IsConsistent, AddsEdges};
+ghost use Rattle.drmaa_model.specs.Controlling.{control, reap};
+ghost use Rattle.drmaa_model.specs.Effects.{gives, through, unit, forget_home};
+ghost use Rattle.drmaa_model.specs.Fit.{IsFit};
+ghost use Rattle.drmaa_model.specs.Growth.{growth, is_of_run};
+ghost use Rattle.drmaa_model.specs.History.{IsLegal, replay};
+ghost use Rattle.drmaa_model.specs.Launching.{launch, signal};
+ghost use Rattle.drmaa_model.specs.OperationLaws.{KeepsFit};
+ghost use Rattle.drmaa_model.specs.Plan.{Plan};
+ghost use Rattle.drmaa_model.specs.Reporting.{report_of};
+ghost use Rattle.drmaa_model.specs.Requests.{request, end_reservation};
+ghost use Rattle.drmaa_model.specs.Size.{size};
+ghost use Rattle.drmaa_model.specs.Steps.{IsStep};
+ghost use Rattle.drmaa_model.specs.Submitting.{submit};
+ghost use Rattle.drmaa_model.specs.Time.{advance, advance_plan};
+ghost use Rattle.drmaa_model.specs.World.{World};
+
+/// Time keeps a plan fit, each operation that is not refused does, and so does what becomes of the jobs and the
+/// reservations of a named session that is destroyed.
+pub fn every_operation_keeps_a_plan_fit()
+    ensures time { (entry at : ℕ) (p : Plan) → IsFit p → IsFit (advance_plan entry at p) }
+    ensures submit { (home : ℕ) (template : JobTemplate) (indices : Option Indices) → KeepsFit (submit home template indices) }
+    ensures control { (meant : Target) (what : Control) → KeepsFit (control meant what) }
+    ensures reap { (meant : Target) → KeepsFit (reap meant) }
+    ensures launch { KeepsFit launch }
+    ensures report { (report : Report) → KeepsFit (report_of report) }
+    ensures signal { KeepsFit signal }
+    ensures request { (home : ℕ) (template : ReservationTemplate) → KeepsFit (request home template) }
+    ensures end { (number : ReservationId) → KeepsFit (end_reservation number) }
+    ensures home { (home : ℕ) (p : Plan) → IsFit p → IsFit (forget_home home p) }
+{}
+
+/// A step leads from a consistent world to a consistent one. Each change that it adds bears the number of its entry
+/// and is an edge of the state model, from the state that the job's row had. It makes one entry, and leaves the
+/// configuration and the number of slots. Its moment is the one handed in, and never falls.
+pub fn a_step_keeps_the_world()
+    ensures consistent { (w : World) (entry : Entry) (next : World) → IsConsistent w → IsStep w entry next → IsConsistent next }
+    ensures edges { (w : World) (entry : Entry) (next : World) → IsConsistent w → IsStep w entry next → AddsEdges (w.entries + 1) w.plan next.plan }
+    ensures entries { (w : World) (entry : Entry) (next : World) → IsConsistent w → IsStep w entry next → next.entries ≡ w.entries + 1 }
+    ensures config { (w : World) (entry : Entry) (next : World) → IsConsistent w → IsStep w entry next → next.config ≡ w.config }
+    ensures total { (w : World) (entry : Entry) (next : World) → IsConsistent w → IsStep w entry next → next.plan.total ≡ w.plan.total }
+    ensures moment { (w : World) (entry : Entry) (next : World) → IsConsistent w → IsStep w entry next → next.plan.moment ≡ max w.plan.moment entry.at }
+{}
+
+/// The world of a legal history is consistent, has counted its entries, and has the configuration that the history
+/// began with.
+pub fn a_legal_history_leads_to_a_consistent_world()
+    ensures consistent { (config : Config) (history : List Entry) → IsLegal config history → IsConsistent (replay config history) }
+    ensures entries { (config : Config) (history : List Entry) → IsLegal config history → (replay config history).entries ≡ length history }
+    ensures config { (config : Config) (history : List Entry) → IsLegal config history → (replay config history).config ≡ config }
+{}
+
+/// A step raises the journal's size by its entry and by no more than its call may add. An accepted report of a start
+/// or of an end does not raise it, so that the journal has room for it.
+pub fn a_report_finds_room()
+    ensures step { (w : World) (entry : Entry) (next : World) →
+        IsConsistent w → IsStep w entry next → size next ≤ size w + 1 + growth (advance w entry.at) entry.call }
+    ensures report { (w : World) (at : ℕ) (report : Report) (told : Reply) (next : World) →
+        IsConsistent w → is_of_run report ≡ true → (report_of report).refusal (advance w at).plan ≡ None →
+        through unit (report_of report) (advance w at) ≡ gives told next → size next ≤ size w }
+{}
