@@ -1,0 +1,4 @@
+pub mod Ears
+pub mod Handed
+pub mod Hearing
+pub mod Kept
