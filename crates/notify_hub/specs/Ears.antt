@@ -21,24 +21,29 @@ silent callbacks = record { begun = callbacks; callbacks = callbacks; places = r
 abbrev pub place_at : List (Option ℕ) → ℕ → Option ℕ
 place_at places i = slice_index_or places i None
 
--- of a list of changes whose first one has the place `from`, those that stand at a place or later
+-- of all changes, those that stand at a place or later
+abbrev pub from_place : List Change → Option ℕ → List Change
+from_place changes None = []
+from_place changes (Some place) = drop place changes
+
+-- of a batch whose first change has the place `from`, those that stand at a place or later
 abbrev pub due : ℕ → List Change → Option ℕ → List Change
-due from changes None = []
-due from changes (Some place) = drop (place - from) changes
+due from batch None = []
+due from batch (Some place) = drop (place - from) batch
 
 -- what is heard of these changes
 abbrev pub notifications : List Change → List Notification
 notifications changes = map notification_of changes
 
--- Each placed callback heard, between the two lists, the changes that stand at its place or later, and the others nothing.
-pub record EachHeard {B : Type 0} (counted : B → ℕ) (told : B → Option (List Notification)) (places : List (Option ℕ)) (from : ℕ) (changes : List Change) (before after : List B) : Type 0 where
+-- Between the two lists each callback heard what is the share of its place, which may be none.
+pub record EachHeard {B : Type 0} (counted : B → ℕ) (told : B → Option (List Notification)) (share : Option ℕ → List Change) (places : List (Option ℕ)) (before after : List B) : Type 0 where
   pub as_many : length after ≡ length before
   pub each : (i : ℕ) (d : B) → i < length before
-      → HasHeard counted told (slice_index_or before i d) (slice_index_or after i d) (notifications (due from changes (place_at places i)))
+      → HasHeard counted told (slice_index_or before i d) (slice_index_or after i d) (notifications (share (place_at places i)))
 
 -- What each callback heard since the ears were made is exactly the changes from its place up to the number handed.
 abbrev pub HaveHeard : {B : Type 0} → (B → ℕ) → (B → Option (List Notification)) → Listening B → Type 0
-HaveHeard counted told ears = EachHeard counted told ears.places 0 ears.handed ears.begun ears.callbacks
+HaveHeard counted told ears = EachHeard counted told (from_place ears.handed) ears.places ears.begun ears.callbacks
 
 -- how many calls a batch makes: for each callback with a place one for each change that stands there or later
 abbrev pub calls_for : {B : Type 0} → Listening B → ℕ → List Change → ℕ

@@ -1,6 +1,6 @@
 //! Ears: a caller's callbacks with their places, and what each of them heard.
 ghost use Rattle.std.specs.Prelude.{◌≡◌, ℕ, ◌+◌, ◌-◌, ◌≤◌, ◌++◌, length, slice_set, Some, None, IfOk, IfErr};
-ghost use Rattle.notify_hub.specs.Ears.{Listening, HaveHeard, EachHeard, silent, place_at, calls_for};
+ghost use Rattle.notify_hub.specs.Ears.{Listening, HaveHeard, EachHeard, silent, place_at, due, calls_for};
 
 use crate::handed::Handed;
 use crate::handing::tell_all;
@@ -27,7 +27,7 @@ pub struct Ears<B: Callback> {
 
 impl<B: Callback> Model for Ears<B> {
     ghost use Rattle.std.specs.Prelude.{◌≡◌, vec_len};
-    ghost use Rattle.notify_hub.specs.Ears.{Listening, EachHeard};
+    ghost use Rattle.notify_hub.specs.Ears.{Listening, EachHeard, from_place};
 
     ghost Value = { Listening B };
 
@@ -38,7 +38,7 @@ impl<B: Callback> Model for Ears<B> {
       handed = e.handed.changes;
     } };
 
-    ghost invariant = { λ e. (vec_len e.places ≡ 64) × EachHeard B.counted B.told e.places.items 0 e.handed.changes e.begun.value e.callbacks.items };
+    ghost invariant = { λ e. (vec_len e.places ≡ 64) × EachHeard B.counted B.told (from_place e.handed.changes) e.places.items e.begun.value e.callbacks.items };
 }
 
 impl<B: Callback> Ears<B> {
@@ -79,7 +79,7 @@ impl<B: Callback> Ears<B> {
     pub fn hand(&mut self, from: u64, batch: &ChangeBatch) -> u64
         requires { from ≡ length self.old.handed }
         ensures handed { self.new ≡ record self.old { callbacks = self.new.callbacks; handed = self.old.handed ++ batch.now } }
-        ensures hears { EachHeard B.counted B.told self.old.places from batch.now self.old.callbacks self.new.callbacks }
+        ensures hears { EachHeard B.counted B.told (due from batch.now) self.old.places self.old.callbacks self.new.callbacks }
         ensures heard { HaveHeard B.counted B.told self.new }
         ensures answer { result ≡ calls_for self.old from batch.now }
     {

@@ -16,7 +16,7 @@ pub(crate) fn tell_all<B: Callback>(
 ) -> u64
     requires places { length places.now ≤ 64 }
     requires few { length changes.now ≤ 64 }
-    ensures heard { EachHeard B.counted B.told places.now from changes.now callbacks.old callbacks.new }
+    ensures heard { EachHeard B.counted B.told (due from changes.now) places.now callbacks.old callbacks.new }
     ensures answer { result ≡ sum_by (λ place. length (due from changes.now place)) (take (length callbacks.old) places.now) }
 {
     let numbered = callbacks.len().min(places.len());

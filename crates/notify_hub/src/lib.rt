@@ -9,6 +9,6 @@ mod handing;
 mod memory;
 
 pub use callbacks::{Callback, Callbacks};
-pub use closures::ClosureCallback;
+pub use closures::{ClosureCallback, Listener};
 pub use ears::Ears;
 pub use memory::MemoryCallback;
