@@ -1,5 +1,5 @@
 -- What each of several callbacks heard: nothing at first, and one batch after another.
-use Rattle.std.proofs.Common.{◌≡◌, ℕ, ◌+◌, ◌-◌, ◌<◌, ◌≤◌, ◌⊎◌, List, [], ◌++◌, length, drop, take, Option, Some, None, refl, sym, ap, ◌∙◌, subst, arith, ⊎_elim, slice_index_or, slice_set}
+use Rattle.std.proofs.Common.{◌≡◌, ℕ, ◌+◌, ◌-◌, ◌<◌, ◌≤◌, List, [], ◌++◌, length, drop, take, Option, Some, None, refl, sym, ap, ◌∙◌, subst, arith, ⊎_elim, slice_index_or, slice_set}
 use Rattle.std.proofs.lemmas.List.{map-append, append-nil, drop_all, take_all, drop-append-le, get_or-set_other, get_or-set_same}
 use Rattle.std.proofs.lemmas.Bool.{cases_lt, cases_eq}
 use Rattle.std.proofs.Math.Nat.{sub-eq-zero_of_le}
@@ -19,8 +19,8 @@ from_place-nothing (Some place) = drop-nil place
 pub drop-append : (n : ℕ) (xs ys : List Change) → drop n (xs ++ ys) ≡ drop n xs ++ drop (n - length xs) ys
 drop-append n xs ys = ⊎_elim
     (λ (past : length xs < n). ap (λ k. drop k (xs ++ ys)) (let e : n ≡ length xs + (n - length xs) = omega (arith, past) in e)
-        ∙ drop-append-add xs ys (n - length xs)
-        ∙ sym (ap (λ zs. zs ++ drop (n - length xs) ys) (drop_all n xs (omega (arith, past)))))
+    ∙ drop-append-add xs ys (n - length xs)
+    ∙ sym (ap (λ zs. zs ++ drop (n - length xs) ys) (drop_all n xs (omega (arith, past)))))
     (λ (within : n ≤ length xs). drop-append-le n xs ys within ∙ ap (λ k. drop n xs ++ drop k ys) (sym (sub-eq-zero_of_le within)))
     (cases_lt (length xs) n)
 
@@ -34,8 +34,8 @@ pub from_place-placed : (places : List (Option ℕ)) (k place i : ℕ) (xs : Lis
     → from_place xs (place_at (slice_set places k (Some place)) i) ≡ from_place xs (place_at places i)
 from_place-placed places k place i xs short unplaced ahead = ⊎_elim
     (λ (same : i ≡ k). ap (from_place xs) (ap (place_at (slice_set places k (Some place))) same ∙ get_or-set_same places k (Some place) None short)
-        ∙ drop_all place xs ahead
-        ∙ sym (ap (from_place xs) (ap (place_at places) same ∙ unplaced)))
+    ∙ drop_all place xs ahead
+    ∙ sym (ap (from_place xs) (ap (place_at places) same ∙ unplaced)))
     (λ (other : i ≡ k → ⊥). ap (from_place xs) (get_or-set_other places k i (Some place) None other))
     (cases_eq i k)
 
@@ -51,14 +51,16 @@ module _ {B : Type 0} {counted : B → ℕ} {told : B → Option (List Notificat
   EachHeard-alike {a} {b} same h = record {
     as_many = h.as_many;
     each = λ i d inside. subst (λ (xs : List Change). HasHeard counted told (slice_index_or a i d) (slice_index_or b i d) (notifications xs))
-        (sym (same i)) (h.each i d inside) }
+        (sym (same i)) (h.each i d inside);
+  }
 
   -- where nothing was handed over, nothing was heard
   pub EachHeard-begun : (places : List (Option ℕ)) (xs : List Change) (a b all : List B) → xs ≡ [] → a ≡ all → b ≡ all → EachHeard counted told (from_place xs) places a b
   EachHeard-begun places xs a b all empty first second = rw (empty, first, second) (record {
     as_many = refl;
     each = λ i d inside. let x : B = slice_index_or all i d in
-        subst (λ (ys : List Change). HasHeard counted told x x (notifications ys)) (sym (from_place-nothing (place_at places i))) (HasHeard-none x) })
+        subst (λ (ys : List Change). HasHeard counted told x x (notifications ys)) (sym (from_place-nothing (place_at places i))) (HasHeard-none x);
+  })
 
   -- what was handed over, and then a batch
   pub EachHeard-then : (places : List (Option ℕ)) (xs ys : List Change) (a b c : List B)
@@ -69,7 +71,8 @@ module _ {B : Type 0} {counted : B → ℕ} {told : B → Option (List Notificat
         subst (HasHeard counted told (slice_index_or a i d) (slice_index_or c i d))
         (sym (ap notifications (from_place-append xs ys place) ∙ map-append notification_of (from_place xs place) (due (length xs) ys place)))
         (HasHeard-then (slice_index_or a i d) (slice_index_or b i d) (slice_index_or c i d) (notifications (from_place xs place)) (notifications (due (length xs) ys place))
-        (h.each i d inside) (k.each i d (subst (λ n. i < n) (sym h.as_many) inside))) }
+        (h.each i d inside) (k.each i d (subst (λ n. i < n) (sym h.as_many) inside)));
+  }
 
   -- the same, where what was handed, and what it was handed to, are known by equations
   pub EachHeard-handed : {places places' : List (Option ℕ)} {whole xs ys ys' : List Change} {a b b' c d : List B} {from : ℕ}

@@ -36,4 +36,5 @@ module _ {B : Type 0} {counted : B → ℕ} {told : B → Option (List Notificat
   HasHeard-then a b c xs ys h k = record {
     number = k.number ∙ ap (λ n. count_after n (length ys)) h.number ∙ count_after-add (counted a) (length xs) (length ys)
         ∙ ap (count_after (counted a)) (sym (length-append xs ys));
-    list = Hears-then (told a) (told b) (told c) xs ys h.list k.list }
+    list = Hears-then (told a) (told b) (told c) xs ys h.list k.list;
+  }

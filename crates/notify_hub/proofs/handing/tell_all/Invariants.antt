@@ -7,6 +7,6 @@ abbrev pub invariant-loop-i : goal.invariant-loop-i
 invariant-loop-i g l =
     ((k : ℕ) (d : _) → l.i ≤ k → slice_index_or l.callbacks k d ≡ slice_index_or l.fn.callbacks k d)
     × ((k : ℕ) (d : _) → k < l.i → HasHeard g.B.Callback.counted g.B.Callback.told (slice_index_or l.fn.callbacks k d) (slice_index_or l.callbacks k d)
-        (notifications (due l.from l.changes (place_at l.places k))))
+    (notifications (due l.from l.changes (place_at l.places k))))
     × (l.calls ≡ sum_by (λ place. length (due l.from l.changes place)) (take l.i l.places))
     × (l.calls ≤ 64 * l.i)
