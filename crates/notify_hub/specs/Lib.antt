@@ -1,0 +1,5 @@
+pub mod Ears
+pub mod Handed
+pub mod Hearing
+pub mod HearingLaws
+pub mod Kept

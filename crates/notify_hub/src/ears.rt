@@ -1,0 +1,98 @@
+//! Ears: a caller's callbacks with their places, and what each of them heard.
+ghost use Rattle.std.specs.Prelude.{◌≡◌, ℕ, ◌+◌, ◌-◌, ◌≤◌, ◌++◌, length, slice_set, Some, None, IfOk, IfErr};
+ghost use Rattle.notify_hub.specs.Ears.{Listening, HaveHeard, EachHeard, silent, place_at, due, calls_for};
+
+use crate::handed::Handed;
+use crate::handing::tell_all;
+use crate::{Callback, Callbacks};
+use drmaa_types::ChangeBatch;
+use std::alloc::Global;
+use std::marker::Model;
+use std::snapshot::Snapshot;
+
+/// How many numbers there are.
+const NUMBERS: usize = 64;
+
+/// Callbacks, the places from which they hear, and the number of changes that they were handed. Contracts
+/// see the callbacks as they were at first and as they are, the places, and the changes handed over.
+/// By its invariant each callback heard, since the ears were made, exactly the changes from its place
+/// up to the number handed.
+#[derive(Drop)]
+pub struct Ears<B: Callback> {
+    begun: Snapshot<Callbacks<B>>,
+    callbacks: Vec<B>,
+    places: Vec<Option<u64>>,
+    handed: Handed,
+}
+
+impl<B: Callback> Model for Ears<B> {
+    ghost use Rattle.std.specs.Prelude.{◌≡◌, vec_len};
+    ghost use Rattle.notify_hub.specs.Ears.{Listening, EachHeard, from_place};
+
+    ghost Value = { Listening B };
+
+    ghost view = { λ e. record {
+      begun = e.begun.value;
+      callbacks = e.callbacks.items;
+      places = e.places.items;
+      handed = e.handed.changes;
+    } };
+
+    ghost invariant = { λ e. (vec_len e.places ≡ 64) × EachHeard B.counted B.told (from_place e.handed.changes) e.places.items e.begun.value e.callbacks.items };
+}
+
+impl<B: Callback> Ears<B> {
+    /// Ears of these callbacks: no number has a place yet, and nothing was handed over. All of the
+    /// ears' memory is taken here; for want of it the callbacks come back.
+    pub fn new(alloc: Global, callbacks: Callbacks<B>) -> Result<Ears<B>, Callbacks<B>>
+        ensures ok { IfOk result (λ ears. ears ≡ silent callbacks) }
+        ensures heard { IfOk result (HaveHeard B.counted B.told) }
+        ensures err { IfErr result (λ back. back ≡ callbacks) }
+    {
+        let Ok(places) = Vec::from_array(alloc, [None; NUMBERS]) else {
+            return Err(callbacks);
+        };
+        let begun = Snapshot::of(&callbacks);
+        Ok(Ears {
+            begun,
+            callbacks: callbacks.into_vec(),
+            places,
+            handed: Handed::nothing(),
+        })
+    }
+
+    /// Gives a number its place: its callback, if there is one, hears the changes from there on, counted
+    /// from 0. A number without a callback is kept and hears nothing. It takes no memory.
+    pub fn place(&mut self, n: u32, place: u64)
+        requires number { (1 ≤ n) × (n ≤ 64) }
+        requires unplaced { place_at self.old.places (n - 1) ≡ None }
+        requires ahead { length self.old.handed ≤ place }
+        ensures placed { self.new ≡ record self.old { places = slice_set self.old.places (n - 1) (Some place) } }
+        ensures heard { HaveHeard B.counted B.told self.new }
+    {
+        self.places[n as usize - 1] = Some(place);
+    }
+
+    /// Hands over a batch of changes, of which the first has the place `from`, the number of changes
+    /// handed over so far. Each placed callback hears those that stand at its place or later, in
+    /// order. Answers the number of calls. It takes no memory.
+    pub fn hand(&mut self, from: u64, batch: &ChangeBatch) -> u64
+        requires { from ≡ length self.old.handed }
+        ensures handed { self.new ≡ record self.old { callbacks = self.new.callbacks; handed = self.old.handed ++ batch.now } }
+        ensures hears { EachHeard B.counted B.told (due from batch.now) self.old.places self.old.callbacks self.new.callbacks }
+        ensures heard { HaveHeard B.counted B.told self.new }
+        ensures answer { result ≡ calls_for self.old from batch.now }
+    {
+        let calls = tell_all(&mut self.callbacks, &self.places, from, batch.as_slice());
+        self.handed = self.handed.followed_by(batch);
+        calls
+    }
+
+    /// The callbacks, as many as there were, in their order. It takes no memory.
+    pub fn take_back(self) -> Callbacks<B>
+        ensures callbacks { result ≡ self.callbacks }
+        ensures heard { HaveHeard B.counted B.told self }
+    {
+        Callbacks::from_vec(self.callbacks)
+    }
+}
