@@ -3,11 +3,17 @@ pub mod Units
 pub mod Formats
 pub mod Quotes
 pub mod Fields
+pub mod Braces
+pub mod Words
+pub mod Integers
 pub mod Sums
 pub mod StepLaws
 pub mod UnitLaws
 pub mod CleanLaws
 pub mod FormatLaws
 pub mod FieldLaws
+pub mod BraceLaws
 pub mod BaseLaws
+pub mod WordLaws
+pub mod IntegerLaws
 pub mod SumLaws
