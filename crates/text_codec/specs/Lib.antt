@@ -6,6 +6,7 @@ pub mod Fields
 pub mod Braces
 pub mod Words
 pub mod Integers
+pub mod Exact
 pub mod Sums
 pub mod StepLaws
 pub mod UnitLaws
@@ -16,4 +17,5 @@ pub mod BraceLaws
 pub mod BaseLaws
 pub mod WordLaws
 pub mod IntegerLaws
+pub mod ExactLaws
 pub mod SumLaws

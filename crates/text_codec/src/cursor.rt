@@ -7,10 +7,12 @@ ghost use Rattle.text_codec.specs.Formats as form;
 ghost use Rattle.text_codec.specs.Fields as fields;
 ghost use Rattle.text_codec.specs.Braces.{fronted, opened, is_inside};
 ghost use Rattle.text_codec.specs.Quotes as quotes;
+ghost use Rattle.text_codec.specs.Exact as exact;
 ghost use Rattle.text_codec.specs.Formats.{Answers};
 ghost use Rattle.text_codec.specs.declared.unread.Unread.{Unread};
 
 use crate::Unread;
+use crate::escapes::uncons;
 use crate::quotes::text_at;
 use drmaa_types::{Moment, Text};
 use itoa::Buffer;
@@ -115,6 +117,26 @@ pub fn number_of(word: &[u8]) -> Option<u64>
     ensures { result ≡ form.number_of (2 ^ 64) word.now }
 {
     number_in(word)
+}
+
+/// Whether a byte is a decimal digit.
+fn is_digit(byte: u8) -> bool
+    ensures { result ≡ exact.is_digit byte }
+{
+    b'0' <= byte && byte <= b'9'
+}
+
+/// The number of the two digits at the front, and what follows them.
+fn two_split(bytes: &[u8]) -> Option<(u8, &[u8])>
+    ensures { option_map (λ p. (p.0, p.1.now)) result ≡ exact.two_at bytes.now }
+{
+    let (high, rest) = uncons(bytes)?;
+    let (low, rest) = uncons(rest)?;
+    if is_digit(high) && is_digit(low) {
+        Some(((high - b'0') * 10 + (low - b'0'), rest))
+    } else {
+        None
+    }
 }
 
 /// The text in its quotes at the front, and what follows it.
@@ -268,6 +290,23 @@ impl<'a> Cursor<'a> {
         match u8::try_from(self.u64()?) {
             Ok(n) => Ok(n),
             Err(_) => Err(Unread::Unspelled),
+        }
+    }
+
+    /// Reads two decimal digits.
+    #[tactic(auto, unfolding(crate::specs::Exact::two))]
+    pub fn two(&mut self) -> Result<u8, Unread>
+        ensures { Answers exact.two.read self.old result self.new }
+    {
+        if self.is_spaced {
+            return Err(Unread::Unspelled);
+        }
+        match two_split(self.rest) {
+            Some((number, rest)) => {
+                self.rest = rest;
+                Ok(number)
+            }
+            None => Err(Unread::Unspelled),
         }
     }
 
