@@ -18,6 +18,11 @@ use Rattle.text_codec.specs.Quotes.{text, text_at, inside, inside_at}
 use Rattle.text_codec.specs.BaseLaws.{text_laws, text_again_any}
 use Rattle.text_codec.specs.StepLaws.{true_false, strip_found, strip_again}
 use Rattle.text_codec.specs.BaseLaws.{number_found, number_again}
+use Rattle.text_codec.specs.Braces.{braced}
+use Rattle.std.specs.Prelude.{OnOk, if◌then◌else◌}
+use Rattle.std.specs.Result.{is_ok}
+use Rattle.std.proofs.Math.Seq.{set-append_seam}
+use Rattle.std.proofs.Math.ListN.{set}
 
 pub strip_is : (bs key : List ℕ) (r : Option (Bor (List ℕ))) → MatchOption r ((rest : List ℕ) → bs ≢ key ++ rest) (λ x. bs ≡ key ++ x.now) → option_map (λ x. x.now) r ≡ strip key bs
 strip_is bs key None h = elim (strip key bs) as (λ (o : Option (List ℕ)). strip key bs ≡ o → None ≡ o) [ None ↦ λ e. refl | Some r ↦ λ e. absurd (h r (strip_found key bs r e)) ] refl
@@ -134,3 +139,19 @@ name_read bs a r e g =
     let whole : bs ≡ 32 ∷ 34 ∷ r = strip_found (codes " \"") bs r e in
     let same : a ≡ 34 ∷ r = same_Some a (34 ∷ r) (sym g ∙ ap (strip (codes " ")) whole) in
     ap text.read same
+
+-- the brace in place of a space
+pub put_front : (front spelled : List ℕ) → length front < length (front ++ spelled) → set (front ++ spelled) (length front) 123 ++ 125 ∷ [] ≡ front ++ braced spelled
+put_front front [] l = absurd (omega (arith, l, length-append front []))
+put_front front (b ∷ bs) l = ap (λ x. x ++ 125 ∷ []) (set-append_seam front b bs 123) ∙ append_assoc front (123 ∷ bs) (125 ∷ [])
+
+pub put_last : (front spelled : List ℕ) → length (front ++ spelled) ≤ length front → (front ++ spelled) ++ 123 ∷ 125 ∷ [] ≡ front ++ braced spelled
+put_last front [] l = ap (λ f. f ++ 123 ∷ 125 ∷ []) (append-nil front)
+put_last front (b ∷ bs) l = absurd (omega (arith, l, length-append front (b ∷ bs)))
+
+pub brace_put : {E : Type 0} (items mid new front spelled : List ℕ) (start : ℕ) (r : Result (Unit {0}) E) → mid ≡ set items start 123 → new ≡ (if is_ok r then mid ++ 125 ∷ [] else mid) → start < length items → items ≡ front ++ spelled → start ≡ length front
+    → OnOk r (new ≡ front ++ braced spelled)
+brace_put items mid new front spelled start (Err e) m n l i s = tt
+brace_put items mid new front spelled start (Ok u) m n l i s =
+    let within : length front < length (front ++ spelled) = omega (arith, l, ap length i, s) in
+    n ∙ ap (λ x. x ++ 125 ∷ []) m ∙ ap (λ x. set x start 123 ++ 125 ∷ []) i ∙ ap (λ k. set (front ++ spelled) k 123 ++ 125 ∷ []) s ∙ put_front front spelled within

@@ -127,3 +127,7 @@ line_found f F line x e = bind (f.read line) _ x e (λ p a b.
 
 pub line_again : {A : Type 0} (f : Format A) → IsFormat f → (x : A) → f.valid x → read_line f (f.spell x) ≡ Some x
 line_again f F x v = let h = ap f.read (sym (append-nil (f.spell x))) ∙ F.again x [] v refl in rw h refl
+
+-- two values that are spelled alike are one
+pub one_spelled : {A : Type 0} (f : Format A) → IsFormat f → (x y : A) → f.valid x → f.valid y → f.spell x ≡ f.spell y → x ≡ y
+one_spelled f F x y v w e = same_Some _ _ (sym (line_again f F x v) ∙ ap (read_line f) e ∙ line_again f F y w)

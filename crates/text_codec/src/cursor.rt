@@ -5,11 +5,14 @@ ghost use Rattle.drmaa_types.specs.Moments.{greatest};
 ghost use Rattle.text_codec.specs.Lexical as lexical;
 ghost use Rattle.text_codec.specs.Formats as form;
 ghost use Rattle.text_codec.specs.Fields as fields;
+ghost use Rattle.text_codec.specs.Braces.{fronted, opened, is_inside};
 ghost use Rattle.text_codec.specs.Quotes as quotes;
+ghost use Rattle.text_codec.specs.Exact as exact;
 ghost use Rattle.text_codec.specs.Formats.{Answers};
 ghost use Rattle.text_codec.specs.declared.unread.Unread.{Unread};
 
 use crate::Unread;
+use crate::escapes::uncons;
 use crate::quotes::text_at;
 use drmaa_types::{Moment, Text};
 use itoa::Buffer;
@@ -21,14 +24,17 @@ use std::marker::Model;
 pub struct Cursor<'a> {
     alloc: Global,
     rest: &'a [u8],
+    /// Whether a space stands before them: that of the first field behind a brace.
+    is_spaced: bool,
 }
 
 impl<'a> Model for Cursor<'a> {
     ghost use Rattle.std.specs.Prelude.{List, ℕ};
+    ghost use Rattle.text_codec.specs.Braces.{fronted};
 
     ghost Value = { List ℕ };
 
-    ghost view = { λ c. c.rest.now };
+    ghost view = { λ c. fronted c.is_spaced c.rest.now };
 }
 
 /// What follows these bytes, where they stand at the front.
@@ -36,6 +42,30 @@ pub fn behind_key<'a>(bytes: &'a [u8], key: &[u8]) -> Option<&'a [u8]>
     ensures { option_map (λ r. r.now) result ≡ form.strip key.now bytes.now }
 {
     bytes.strip_prefix(key)
+}
+
+/// What follows these bytes, where they stand at the front, and whether a space stands before it still.
+fn behind_front<'a>(is_spaced: bool, bytes: &'a [u8], key: &[u8]) -> Option<(bool, &'a [u8])>
+    ensures { option_map (λ p. fronted p.0 p.1.now) result ≡ form.strip key.now (fronted is_spaced bytes.now) }
+{
+    if !is_spaced {
+        return Some((false, behind_key(bytes, key)?));
+    }
+    match key.split_first() {
+        Some((b' ', others)) => Some((false, behind_key(bytes, others)?)),
+        Some(_) => None,
+        None => Some((true, bytes)),
+    }
+}
+
+/// Whether something else than a closing brace stands at the front.
+fn is_in_braces(bytes: &[u8]) -> bool
+    ensures { result ≡ is_inside bytes.now }
+{
+    match bytes.split_first() {
+        Some((first, _)) => *first != b'}',
+        None => false,
+    }
 }
 
 /// Whether a byte stands in words.
@@ -89,6 +119,26 @@ pub fn number_of(word: &[u8]) -> Option<u64>
     number_in(word)
 }
 
+/// Whether a byte is a decimal digit.
+fn is_digit(byte: u8) -> bool
+    ensures { result ≡ exact.is_digit byte }
+{
+    b'0' <= byte && byte <= b'9'
+}
+
+/// The number of the two digits at the front, and what follows them.
+fn two_split(bytes: &[u8]) -> Option<(u8, &[u8])>
+    ensures { option_map (λ p. (p.0, p.1.now)) result ≡ exact.two_at bytes.now }
+{
+    let (high, rest) = uncons(bytes)?;
+    let (low, rest) = uncons(rest)?;
+    if is_digit(high) && is_digit(low) {
+        Some(((high - b'0') * 10 + (low - b'0'), rest))
+    } else {
+        None
+    }
+}
+
 /// The text in its quotes at the front, and what follows it.
 #[tactic(auto, using(crate::proofs::Readers::text_given))]
 fn text_split(alloc: Global, bytes: &[u8]) -> Result<Option<(Text, &[u8])>, AllocError>
@@ -110,7 +160,11 @@ impl<'a> Cursor<'a> {
     pub fn new(alloc: Global, bytes: &'a [u8]) -> Cursor<'a>
         ensures { result ≡ bytes.now }
     {
-        Cursor { alloc, rest: bytes }
+        Cursor {
+            alloc,
+            rest: bytes,
+            is_spaced: false,
+        }
     }
 
     /// Takes these bytes, where they stand at the front.
@@ -119,8 +173,9 @@ impl<'a> Cursor<'a> {
         ensures no { result ≡ false → (form.strip key.now self.old ≡ None) }
         ensures rest { result ≡ false → self.new ≡ self.old }
     {
-        match behind_key(self.rest, key) {
-            Some(rest) => {
+        match behind_front(self.is_spaced, self.rest, key) {
+            Some((is_spaced, rest)) => {
+                self.is_spaced = is_spaced;
                 self.rest = rest;
                 true
             }
@@ -137,10 +192,7 @@ impl<'a> Cursor<'a> {
     pub fn is_empty(&self) -> bool
         ensures { result ≡ form.is_end self.now }
     {
-        match self.rest.split_first() {
-            Some(_) => false,
-            None => true,
-        }
+        !self.is_spaced && self.rest.is_empty()
     }
 
     /// Whether nothing is left, as an answer.
@@ -174,11 +226,35 @@ impl<'a> Cursor<'a> {
         }
     }
 
+    /// Takes an opening brace, which has to stand at the front. The fields that follow it are read as if each stood behind
+    /// a space, the first one too.
+    #[tactic(auto, unfolding(crate::specs::Braces::opened))]
+    pub fn open(&mut self) -> Result<(), Unread>
+        ensures read { result ≡ Ok tt → opened self.old ≡ Some self.new }
+        ensures none { result ≡ Err Unread.Unspelled → opened self.old ≡ None }
+    {
+        if self.is_spaced {
+            return Err(Unread::Unspelled);
+        }
+        match behind_key(self.rest, b"{") {
+            Some(rest) => {
+                self.is_spaced = is_in_braces(rest);
+                self.rest = rest;
+                Ok(())
+            }
+            None => Err(Unread::Unspelled),
+        }
+    }
+
     /// Takes the word at the front.
+    #[tactic(auto, unfolding(crate::specs::Formats::first_word, crate::specs::Formats::behind_word))]
     pub fn word(&mut self) -> &'a [u8]
         ensures word { result.now ≡ form.first_word self.old }
         ensures rest { self.new ≡ form.behind_word self.old }
     {
+        if self.is_spaced {
+            return &[];
+        }
         let (word, rest) = word_split(self.rest);
         self.rest = rest;
         word
@@ -217,6 +293,23 @@ impl<'a> Cursor<'a> {
         }
     }
 
+    /// Reads two decimal digits.
+    #[tactic(auto, unfolding(crate::specs::Exact::two))]
+    pub fn two(&mut self) -> Result<u8, Unread>
+        ensures { Answers exact.two.read self.old result self.new }
+    {
+        if self.is_spaced {
+            return Err(Unread::Unspelled);
+        }
+        match two_split(self.rest) {
+            Some((number, rest)) => {
+                self.rest = rest;
+                Ok(number)
+            }
+            None => Err(Unread::Unspelled),
+        }
+    }
+
     /// Reads a moment.
     #[tactic(auto, unfolding(crate::specs::Formats::moment, drmaa_types::specs::Moments::greatest, crate::specs::Formats::behind, crate::specs::Formats::number, crate::specs::Formats::number_of))]
     pub fn moment(&mut self) -> Result<Moment, Unread>
@@ -230,9 +323,13 @@ impl<'a> Cursor<'a> {
     }
 
     /// Reads a text in its quotes.
+    #[tactic(auto, unfolding(crate::specs::Quotes::text, crate::specs::Quotes::text_at))]
     pub fn text(&mut self) -> Result<Text, Unread>
         ensures { Answers quotes.text.read self.old result self.new }
     {
+        if self.is_spaced {
+            return Err(Unread::Unspelled);
+        }
         let Some((text, rest)) = text_split(self.alloc, self.rest)? else {
             return Err(Unread::Unspelled);
         };
@@ -245,7 +342,7 @@ impl<'a> Cursor<'a> {
     pub fn name(&mut self) -> Result<Option<Text>, Unread>
         ensures { Answers (fields.read_set (codes " \"") quotes.inside.read) self.old result self.new }
     {
-        if behind_key(self.rest, b" \"").is_none() {
+        if behind_front(self.is_spaced, self.rest, b" \"").is_none() {
             return Ok(None);
         }
         self.expect(b" ")?;

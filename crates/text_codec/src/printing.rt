@@ -1,9 +1,10 @@
 //! Values that are printed in one form.
-ghost use Rattle.std.specs.Prelude.{◌≡◌, ◌∷◌, [], ◌++◌, ◌^◌, ◌<◌, List, ℕ, OnOk, decimal};
+ghost use Rattle.std.specs.Prelude.{◌≡◌, ◌∷◌, [], ◌++◌, ◌^◌, ◌<◌, List, ℕ, OnOk, decimal, length, slice_set};
 ghost use Rattle.std.specs.List.{AllByRecursion};
 ghost use Rattle.text_codec.specs.Formats.{Format};
 ghost use Rattle.text_codec.specs.Formats as form;
 ghost use Rattle.text_codec.specs.Fields as fields;
+ghost use Rattle.text_codec.specs.Braces.{braced};
 
 use itoa::Buffer;
 use std::alloc::AllocError;
@@ -62,6 +63,27 @@ pub fn push_list<T: Print>(out: &mut Vec<u8>, values: &[T]) -> Result<(), AllocE
     first.push(out)?;
     push_each(out, b" ", others)?;
     out.extend_from_slice(b"]")
+}
+
+/// Writes a byte in place of another.
+fn put_over(out: &mut Vec<u8>, at: usize, byte: u8)
+    requires { at < length out.old.items }
+    ensures { out.new.items ≡ slice_set out.old.items at byte }
+{
+    out[at] = byte;
+}
+
+/// Prints braces round the fields that were printed from `start` on: the opening one in place of the space before the
+/// first. Both stand behind what was printed before where there is no field.
+pub fn push_braces(out: &mut Vec<u8>, start: usize) -> Result<(), AllocError>
+    ensures { (front spelled : List ℕ) → out.old.items ≡ front ++ spelled → start ≡ length front
+        → OnOk result (out.new.items ≡ front ++ braced spelled) }
+{
+    if start >= out.len() {
+        return out.extend_from_slice(b"{}");
+    }
+    put_over(out, start, b'{');
+    out.extend_from_slice(b"}")
 }
 
 /// Prints a key that stands where it is set.

@@ -4,3 +4,4 @@ pub mod SplitLaws
 pub mod Automata
 pub mod Skipping
 pub mod SkippingLaws
+pub mod LineLaws

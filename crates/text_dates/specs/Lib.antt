@@ -1,0 +1,4 @@
+pub mod Dates
+pub mod Said
+pub mod DateLaws
+pub mod SaidLaws
