@@ -1,10 +1,8 @@
 -- Laws of the load: it rises only where a reservation starts, so that an interval fits where its start and the starts inside it do.
-use Rattle.std.proofs.Common.{◌≡◌, ◌≢◌, ℕ, zero, suc, ◌+◌, ◌-◌, ◌<◌, ◌≤◌, ◌==◌, Bool, true, false, cond, eqb, leb, ltb, not, ◌&&◌, ◌||◌, List, [], ◌∷◌, sum_by, Option, Some, None, refl, sym, ◌∙◌, ap, subst, arith}
-use Rattle.std.specs.Prelude.{is_some}
+use Rattle.std.proofs.Common.{◌≡◌, ◌≢◌, ℕ, zero, suc, ◌+◌, ◌-◌, ◌<◌, ◌≤◌, ◌==◌, Bool, true, false, cond, leb, ltb, ◌&&◌, ◌||◌, List, [], ◌∷◌, Option, Some, None, refl, sym, ◌∙◌, ap, subst, arith}
 use Rattle.std.specs.List.{AllByRecursion, list_any}
 use Rattle.std.specs.Option.{option_map_or}
-use Rattle.std.proofs.lemmas.Bool.{and_parts, eqb-false, eq-eqb, leb-true, ltb-true, le-leb, lt-ltb, false≢true}
-use Rattle.drmaa_types.specs.States.{is_started}
+use Rattle.std.proofs.lemmas.Bool.{and_parts, eqb-false, leb-true, ltb-true, le-leb, lt-ltb}
 use Rattle.drmaa_types.specs.declared.moments.End.{End}
 use Rattle.drmaa_types.specs.declared.moments.End.TheVariants.{At, Never}
 use Rattle.drmaa_model.specs.declared.reservations.Accepted.{Accepted}
@@ -35,9 +33,9 @@ uses-falls : (x : ℕ) (r : Row) → uses_at (suc x) r ≤ uses_at x r
 uses-falls x r =
     cond-le r.course.held (is_using r && option_map_or (ends_after (suc x)) r.course.planned false) (is_using r && option_map_or (ends_after x) r.course.planned false)
     (λ h. both (is_using r) r.course.planned (and_parts (is_using r) (option_map_or (ends_after (suc x)) r.course.planned false) h)) where
-  both : (b : Bool) (o : Option End) → (b ≡ true) × (option_map_or (ends_after (suc x)) o false ≡ true) → (b && option_map_or (ends_after x) o false) ≡ true
-  both b None h = absurd (cc)
-  both b (Some e) h = ap (λ t. t && ends_after x e) h.0 ∙ ends-later x e h.1
+      both : (b : Bool) (o : Option End) → (b ≡ true) × (option_map_or (ends_after (suc x)) o false ≡ true) → (b && option_map_or (ends_after x) o false) ≡ true
+      both b None h = absurd (cc)
+      both b (Some e) h = ap (λ t. t && ends_after x e) h.0 ∙ ends-later x e h.1
 
 used-falls : (x : ℕ) (rows : List Row) → used rows (suc x) ≤ used rows x
 used-falls x rows = sum-le (uses_at (suc x)) (uses_at x) rows (each rows) where
@@ -56,8 +54,8 @@ slots-fall x a other =
     let apart : a.from ≢ suc x = eqb-false a.from (suc x) other in
     let lower : a.from ≤ x = le-but a.from x low apart in
     ap (λ t. t && ltb x a.until) (le-leb a.from x lower) ∙ lt-ltb x a.until (omega (arith, high)))) where
-  le-but : (m n : ℕ) → m ≤ suc n → m ≢ suc n → m ≤ n
-  le-but m n le ne = omega (arith, le, ne)
+      le-but : (m n : ℕ) → m ≤ suc n → m ≢ suc n → m ≤ n
+      le-but m n le ne = omega (arith, le, ne)
 
 booked-falls : (x : ℕ) (rs : List Accepted) → list_any (starts_at (suc x)) rs ≡ false → booked rs (suc x) ≤ booked rs x
 booked-falls x rs none = sum-le (slots_at (suc x)) (slots_at x) rs (each rs none) where

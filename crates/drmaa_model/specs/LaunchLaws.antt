@@ -47,7 +47,7 @@ pub record HasRuns (history : List Entry) (w : World) : Type 0 where
   pub rows : AllByRecursion (λ (r : Row). HasRun history r.job.0 r.course) w.plan.rows
   pub below : (job k : ℕ) → is_launched history job k ≡ true → job < w.plan.next_job
 
-run-follows : (history : List Entry) (j : ℕ) (c d : Course) → Follows c d → HasRun history j c → HasRun history j d
+pub run-follows : (history : List Entry) (j : ℕ) (c d : Course) → Follows c d → HasRun history j c → HasRun history j d
 run-follows history j c d follows run = record {
   idle = λ e. subst (λ n. 1 ≤ n) (sym follows.attempt) (run.idle (follows.idle e));
   last = λ some. subst (λ n. is_launched history j n ≡ true) (sym follows.attempt) (run.last (subst (λ n. 1 ≤ n) follows.attempt some));
@@ -222,7 +222,7 @@ module _ (history : List Entry) (w : World) (entry : Entry) (next : World) (runs
 
 -- ---- every legal history
 
-step-runs : (history : List Entry) (w : World) (entry : Entry) (next : World) → HasRuns history w → AllByRecursion (λ (r : Row). r.job.0 < w.plan.next_job) w.plan.rows
+pub step-runs : (history : List Entry) (w : World) (entry : Entry) (next : World) → HasRuns history w → AllByRecursion (λ (r : Row). r.job.0 < w.plan.next_job) w.plan.rows
     → IsStep w entry next → HasRuns (history ++ entry ∷ []) next
 step-runs history w entry next runs low step =
     launch-cases (HasRuns (history ++ entry ∷ []) next) entry.reply

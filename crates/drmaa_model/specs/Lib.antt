@@ -19,6 +19,7 @@ pub mod KeptCalls
 pub mod LaunchFit
 pub mod LaunchLaws
 pub mod Launching
+pub mod LegalRunLaws
 pub mod Load
 pub mod MomentLaws
 pub mod Operation

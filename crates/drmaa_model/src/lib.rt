@@ -13,6 +13,7 @@ mod looks;
 mod replies;
 mod reservations;
 mod rows;
+mod runs;
 
 pub use answers::{
     a_launch_is_the_next, a_refusal_changes_nothing_but_time, a_refusal_is_the_first_that_holds,
@@ -32,3 +33,8 @@ pub use looks::{Answer, Question};
 pub use replies::{Launch, Reply, Signal, Submitted};
 pub use reservations::Accepted;
 pub use rows::{Row, Wants};
+pub use runs::{
+    a_launch_is_new, a_report_is_of_the_last_launch, a_settled_plan_is_quiet,
+    an_interval_fits_where_its_starts_do, reservations_are_honoured,
+    the_next_launch_is_the_first_ready,
+};
