@@ -9,7 +9,7 @@ AllPairs-head R x xs pairs k d in_range = pairs 0 (suc k) d (omega arith) (omega
 pub AllPairs-tail : {X : Type 0} (R : X → X → Type 0) (x : X) (xs : List X) → AllPairs R (x ∷ xs) → AllPairs R xs
 AllPairs-tail R x xs pairs i j d below in_range = pairs (suc i) (suc j) d (omega arith) (omega arith)
 
--- a list of which no element passes a test is all that do not
+-- where no element passes a test, to leave out those that pass changes nothing
 pub keeps_all : {X : Type 0} (p : X → Bool) (xs : List X) → All (λ x. p x ≡ false) xs → filter (λ x. not (p x)) xs ≡ xs
 keeps_all p [] none = refl
 keeps_all p (x ∷ xs) none =
