@@ -1,0 +1,3 @@
+pub mod MoveLaws
+pub mod RoomLaws
+pub mod RowSteps

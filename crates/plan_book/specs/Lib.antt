@@ -1,0 +1,4 @@
+pub mod Book
+pub mod Facts
+pub mod TieLaws
+pub mod Ties
