@@ -1,3 +1,5 @@
+pub mod ArrivalLaws
+pub mod FirstOrder
 pub mod MoveLaws
 pub mod RoomLaws
-pub mod RowSteps
+pub mod Searched

@@ -1,5 +1,5 @@
 -- How a core's own fields are read: the plan that a book keeps, and the room that it has.
-use Rattle.std.specs.Prelude.{◌≡◌, ℕ, ◌+◌, ◌-◌, ◌<◌, ◌≤◌, ◌&&◌, true, List, ◌++◌, Option, Some, None, sum_by, vec_len, vec_capacity, if◌then◌else◌}
+use Rattle.std.specs.Prelude.{◌≡◌, ℕ, ◌+◌, ◌-◌, ◌<◌, ◌≤◌, ◌&&◌, ◌==◌, not, true, false, Bool, List, ◌++◌, Option, Some, None, sum_by, length, vec_len, vec_capacity, if◌then◌else◌}
 use Rattle.drmaa_types.specs.States.{is_waiting, is_started, is_state}
 use Rattle.drmaa_types.specs.declared.identifiers.JobId.{JobId}
 use Rattle.drmaa_types.specs.declared.states.SignalKind.{SignalKind}
@@ -13,7 +13,8 @@ use Rattle.drmaa_types.specs.declared.refusals.Refusal.TheVariants.{OutOfResourc
 use Rattle.drmaa_types.specs.declared.refusals.Limit.TheVariants as resource
 use Rattle.drmaa_model.specs.Controlling.{orders_for}
 use Rattle.drmaa_model.specs.Operation.{is_answer, size_at}
-use Rattle.drmaa_model.specs.Reporting.{orders_without}
+use Rattle.drmaa_model.specs.Launching.{take_first}
+use Rattle.drmaa_model.specs.Reporting.{orders_without, drop_first, signal_number}
 use Rattle.drmaa_model.specs.Plan.{Plan}
 use Rattle.drmaa_model.specs.Rows.{row_of, go_on}
 use Rattle.drmaa_model.specs.Size.{weight}
@@ -21,7 +22,7 @@ use Rattle.plan_book.specs.Ties.{IsTied}
 use Rattle.plan_book.specs.declared.book.Book.{Book}
 use Rattle.plan_book.specs.declared.moves.Move.{Move}
 use Rattle.plan_book.specs.declared.moves.Edit.{Edit}
-use Rattle.plan_book.specs.declared.moves.Edit.TheVariants.{Keep, Ask, Clear}
+use Rattle.plan_book.specs.declared.moves.Edit.TheVariants.{Keep, Ask, Clear, Take, Drop}
 
 -- The plan of a book. The one place that knows how it is kept.
 abbrev pub plan_of : Book → Plan
@@ -55,6 +56,14 @@ pub record HasRoom (b : Book) : Type 0 where
   pub changes : vec_len b.changes + owed b.rows.items ≤ vec_capacity b.changes
   pub orders : vec_len b.orders + askable b.rows.items ≤ vec_capacity b.orders
 
+-- for how many jobs more there is memory
+abbrev pub spare_rows : Book → ℕ
+spare_rows b = vec_capacity b.rows - vec_len b.rows
+
+-- there is memory for one more reservation
+abbrev pub HasPlace : Book → Type 0
+HasPlace b = vec_len b.reservations < vec_capacity b.reservations
+
 -- how many changes more there is room for
 abbrev pub spare : Book → ℕ
 spare b = vec_capacity b.changes - (vec_len b.changes + owed b.rows.items)
@@ -66,11 +75,17 @@ pub record IsKept (b : Book) : Type 0 where
   pub light : weight (plan_of b) ≤ 4_000_000
   pub tied : IsTied b.calendar (plan_of b)
 
+-- the order is of this kind and for this job, and was handed out or was not
+abbrev pub is_order : JobId → SignalKind → Bool → Order → Bool
+is_order job kind taken order = (if taken then order.taken else not order.taken) && (order.job.0 == job.0) && (signal_number order.kind == signal_number kind)
+
 -- what a move does to the orders
 abbrev pub edited : Edit → JobId → List Order → List Order
 edited Keep job orders = orders
 edited (Ask kind) job orders = orders ++ orders_for job (Some kind)
 edited Clear job orders = orders_without job orders
+edited (Take kind) job orders = take_first (is_order job kind false) orders
+edited (Drop kind) job orders = drop_first (is_order job kind true) orders
 
 -- one job goes on
 abbrev pub moved : ℕ → Move → Plan → Plan
@@ -96,6 +111,8 @@ abbrev pub asked : Edit → ℕ
 asked Keep = 0
 asked (Ask kind) = 1
 asked Clear = 0
+asked (Take kind) = 0
+asked (Drop kind) = 0
 
 -- how much room it wants beside what is promised
 abbrev pub grows : Move → ℕ
@@ -112,3 +129,11 @@ pub data Refuses (why : Refusal) (q old : Plan) (entry limit : ℕ) (told : Refu
 abbrev pub edit_of : Option SignalKind → Edit
 edit_of None = Keep
 edit_of (Some kind) = Ask kind
+
+-- Jobs come in, and so many array numbers are used.
+abbrev pub joined : List Row → ℕ → Plan → Plan
+joined rows arrays p = record p {
+  rows = p.rows ++ rows;
+  next_job = p.next_job + length rows;
+  next_array = p.next_array + arrays;
+}

@@ -17,14 +17,15 @@ use Rattle.drmaa_model.specs.declared.courses.Course.{Course}
 use Rattle.drmaa_model.specs.declared.reservations.Accepted.{Accepted}
 use Rattle.drmaa_model.specs.declared.rows.Row.{Row}
 use Rattle.drmaa_model.specs.Fit.{IsRising, reservation_number, IsSound, IsFit, launched_at}
-use Rattle.drmaa_model.specs.FitLaws.{Eases, kept-advance}
+use Rattle.drmaa_model.specs.FitLaws.{Eases, kept-advance, expire-fit, eases-lapsed, eases-called}
 use Rattle.drmaa_model.specs.Load.{ends_after, is_using, uses_at, booked, used, load, fits, in_array, in_reservation, holds_in, held_inside, is_member, names}
 use Rattle.drmaa_model.specs.MomentLaws.{fits-at, fits-from, ends-before, before-ends, before-greatest}
 use Rattle.drmaa_model.specs.Plan.{Plan}
+use Rattle.drmaa_model.specs.Requests.{with_reservation, without_reservation, is_other}
 use Rattle.drmaa_model.specs.RowLaws.{all-both, all-implied, sum_with_course, rising-found}
 use Rattle.drmaa_model.specs.Rows.{is_of, row_of, with_course}
 use Rattle.drmaa_model.specs.SumLaws.{sum-each, sum-same, sum-map, sum-filter, sum-zero, sum-le}
-use Rattle.drmaa_model.specs.Time.{lasts, advance_plan}
+use Rattle.drmaa_model.specs.Time.{lasts, advance_plan, expire, call_in, lapsed, called_in}
 use Rattle.reservation_calendar.specs.declared.bookings.Key.{Key}
 use Rattle.reservation_calendar.specs.declared.bookings.Key.TheVariants.{Job, Reservation}
 use Rattle.reservation_calendar.specs.declared.bookings.Booking.{Booking}
@@ -32,7 +33,7 @@ use Rattle.reservation_calendar.specs.Loads.{is_before}
 use Rattle.reservation_calendar.specs.Loads as calendar
 use Rattle.reservation_calendar.specs.Schedules.{Schedule, same_key, is_booked, without}
 use Rattle.reservation_calendar.specs.Fitting.{Fits}
-use Rattle.plan_book.specs.Ties.{booking_of, counted_of, counted_for, IsTied, is_gone, let_go_of, MayMake, KeepsTie, booked_first, cancelled_last}
+use Rattle.plan_book.specs.Ties.{booking_of, booked_for, counted_of, counted_for, IsTied, is_gone, let_go_of, IsBeside, KeepsTie, booked_first, cancelled_last}
 
 pub filter-same : {X : Type 0} (f g : X → Bool) → ((x : X) → f x ≡ g x) → (xs : List X) → filter f xs ≡ filter g xs
 filter-same f g same [] = refl
@@ -254,13 +255,13 @@ filter-push test (y ∷ ys) x is =
     ]
 
 -- a booking that is made before time comes to the moment is there then
-books-first : (m : ℕ) (rs : List Accepted) (s : Schedule) (booked : Booked) → MayMake s booked → let_go_of m rs (booked_first booked s) ≡ booked_first booked (let_go_of m rs s)
+books-first : (m : ℕ) (rs : List Accepted) (s : Schedule) (booked : Booked) → IsBeside rs booked → let_go_of m rs (booked_first booked s) ≡ booked_first booked (let_go_of m rs s)
 books-first m rs s Same may = refl
 books-first m rs s (Books b) may =
-    ap (λ (bs : List Booking). let t : Schedule = record s { bookings = bs } in t) (filter-push (λ (c : Booking). not (is_gone m rs c.key)) s.bookings b (ap not (may.stays m rs)))
+    ap (λ (bs : List Booking). let t : Schedule = record s { bookings = bs } in t) (filter-push (λ (c : Booking). not (is_gone m rs c.key)) s.bookings b (ap not (may m)))
 books-first m rs s Cancels may = refl
 
-pub tied-made : (booked : Booked) (job : JobId) (s : Schedule) (entry at : ℕ) (p after : Plan) → MayMake s booked → IsFit p → IsTied s p → KeepsTie booked job (advance_plan entry at p) after
+pub tied-made : (booked : Booked) (job : JobId) (s : Schedule) (entry at : ℕ) (p after : Plan) → IsBeside p.reservations booked → IsFit p → IsTied s p → KeepsTie booked job (advance_plan entry at p) after
     → IsTied (cancelled_last booked job (let_go_of (max p.moment at) p.reservations (booked_first booked s))) after
 tied-made booked job s entry at p after may fit tied keeps =
     subst (λ (t : Schedule). IsTied (cancelled_last booked job t) after) (sym (books-first (max p.moment at) p.reservations s booked may))
@@ -352,3 +353,47 @@ tied-eased s p q f total reservations rows eases tied = record {
       ∙ sum-each (λ (r : Row). counted_of g (f r)) (counted_of g) p.rows (all-implied (λ (r : Row). Eases r (f r)) (λ (r : Row). counted_of g (f r) ≡ counted_of g r) (λ r e. counted-eases g r (f r) e) p.rows eases) in
       let rs = ap (sum_by (counted_for g)) reservations in omega arith);
 }
+
+-- ---- reservations
+
+-- an accepted reservation goes with its booking
+pub tied-accepted : (s : Schedule) (p : Plan) (a : Accepted) → IsTied s p → IsTied (record s { bookings = s.bookings ++ booked_for a ∷ [] }) (with_reservation a p)
+tied-accepted s p a tied = record {
+  total = tied.total;
+  same = λ f. (let all = tied.same f in let push = sum_by_push f s.bookings (booked_for a) in let more = sum_by_push (counted_for f) p.reservations a in omega arith);
+}
+
+-- a reservation that is ended goes with its booking
+pub tied-ended : (s : Schedule) (p : Plan) (number : ReservationId) → IsTied s p → IsTied (record s { bookings = without (Reservation number) s.bookings }) (without_reservation number p)
+tied-ended s p number tied =
+    let stays : Booking → Bool = λ b. not (same_key b.key (Reservation number)) in
+    tied-staying s p (without_reservation number p) stays tied refl
+    (λ f. sym (sum-filter (counted_for f) (is_other number) p.reservations))
+    (λ f. refl)
+
+-- rules 3 and 4 of time leave the calendar agreed
+pub tied-passed : (s : Schedule) (entry : ℕ) (p : Plan) → IsFit p → IsTied s p → IsTied s (call_in (expire entry p))
+tied-passed s entry p fit tied =
+    let e = expire entry p in
+    let fit_e : IsFit e = expire-fit entry p fit in
+    let f = lapsed p.moment p.reservations in
+    let g = called_in p.moment p.reservations in
+    let first = tied-eased s p e f refl refl refl (all-implied (λ (r : Row). IsSound r.wants r.course) (λ (r : Row). Eases r (f r)) (eases-lapsed p.moment p.reservations) p.rows fit.sound) tied in
+    tied-eased s e (call_in e) g refl refl refl (all-implied (λ (r : Row). IsSound r.wants r.course) (λ (r : Row). Eases r (g r)) (eases-called p.moment p.reservations) e.rows fit_e.sound) first
+
+-- a number that is yet to come is not that of a reservation that has ended
+next-stays : (m n : ℕ) (rs : List Accepted) → AllByRecursion (λ (a : Accepted). reservation_number a < n) rs → is_gone m rs (Reservation (record { 0 = n })) ≡ false
+next-stays m n [] all = refl
+next-stays m n (a ∷ rs) all =
+    ap (λ b. (not (lasts m a) && b) || is_gone m rs (Reservation (record { 0 = n }))) (ne_eqb a.reservation.0 n (λ e. (let below = all.0 in omega arith)))
+    ∙ (elim (not (lasts m a)) as (λ b. ((b && false) || is_gone m rs (Reservation (record { 0 = n }))) ≡ false) [ true ↦ next-stays m n rs all.1 | false ↦ next-stays m n rs all.1 ])
+
+-- booked before time comes to its moment, it goes with the plan that then has it
+pub tied-reserved : (s : Schedule) (entry at : ℕ) (p : Plan) (a : Accepted) → IsFit p → IsTied s p → a.reservation.0 ≡ p.next_reservation
+    → IsTied (let_go_of (max p.moment at) p.reservations (record s { bookings = s.bookings ++ booked_for a ∷ [] })) (with_reservation a (advance_plan entry at p))
+tied-reserved s entry at p a fit tied number =
+    let m = max p.moment at in
+    let stays : Booking → Bool = λ b. not (is_gone m p.reservations b.key) in
+    let here : stays (booked_for a) ≡ true = ap (λ (n : ℕ). not (is_gone m p.reservations (Reservation (record { 0 = n })))) number ∙ ap not (next-stays m p.next_reservation p.reservations fit.accepted.below) in
+    subst (λ (bs : List Booking). IsTied (record s { bookings = bs }) (with_reservation a (advance_plan entry at p))) (sym (filter-push stays s.bookings (booked_for a) here))
+    (tied-accepted (let_go_of m p.reservations s) (advance_plan entry at p) a (tied-advance s entry at p fit tied))

@@ -61,18 +61,23 @@ cancelled_last Same job s = s
 cancelled_last (Books b) job s = s
 cancelled_last Cancels job s = record s { bookings = without (Job job) s.bookings }
 
--- the booking that a move makes may be made
-pub record MayBook (s : Schedule) (b : Booking) : Type 0 where
+-- A booking may be made: it has a moment, the slots fit, and its key is not booked.
+pub record IsFree (s : Schedule) (b : Booking) : Type 0 where
   pub lasting : IsTrue (is_before b.from b.until)
   pub fits : Fits s b.slots b.from b.until
   pub fresh : is_booked s.bookings b.key ≡ false
-  -- it is not that of a reservation
-  pub stays : (moment : ℕ) (rs : List Accepted) → is_gone moment rs b.key ≡ false
 
+-- the booking that a move makes, where it makes one, may be made
 abbrev pub MayMake : Schedule → Booked → Type 0
 MayMake s Same = Unit {0}
-MayMake s (Books b) = MayBook s b
+MayMake s (Books b) = IsFree s b
 MayMake s Cancels = Unit {0}
+
+-- and it is not that of one of these reservations
+abbrev pub IsBeside : List Accepted → Booked → Type 0
+IsBeside rs Same = Unit {0}
+IsBeside rs (Books b) = (moment : ℕ) → is_gone moment rs b.key ≡ false
+IsBeside rs Cancels = Unit {0}
 
 abbrev pub is_booking : Booked → Bool
 is_booking Same = false

@@ -2,12 +2,19 @@
 //! operations change it.
 #![tactic(auto)]
 
+mod advances;
+mod arrivals;
 mod book;
+mod bookings;
 pub mod courses;
+mod makes;
 mod moves;
+mod orders;
+mod reservations;
 mod rooms;
 mod rows;
 pub mod states;
+mod targets;
 mod time;
 
 pub use book::Book;

@@ -13,6 +13,10 @@ pub enum Edit {
     Ask(SignalKind),
     /// Those for the job go.
     Clear,
+    /// The first one for the job of this kind that was not handed out is handed out.
+    Take(SignalKind),
+    /// The first one for the job of this kind that was handed out goes.
+    Drop(SignalKind),
 }
 
 /// What becomes of the job's booking in the calendar.
@@ -75,6 +79,6 @@ fn asked(edit: Edit) -> usize
 {
     match edit {
         Edit::Ask(_) => 1,
-        Edit::Keep | Edit::Clear => 0,
+        Edit::Keep | Edit::Clear | Edit::Take(_) | Edit::Drop(_) => 0,
     }
 }

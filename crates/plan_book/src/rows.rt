@@ -1,5 +1,7 @@
 //! The rows, as a plain list that is scanned.
-ghost use Rattle.std.specs.Prelude.{◌≡◌, ◌+◌, ◌^◌, ◌<◌, ◌≤◌, ◌&&◌, nat_le, map, filter};
+ghost use Rattle.drmaa_model.specs.Fit.{IsRising, number_of};
+ghost use Rattle.plan_book.specs.Places.{IsAt};
+ghost use Rattle.std.specs.Prelude.{IfOk, IfErr, None, ◌≡◌, ◌+◌, ◌^◌, ◌<◌, ◌≤◌, ◌&&◌, nat_le, map, filter};
 ghost use Rattle.std.specs.Option.{option_copied, option_map, option_map_or};
 ghost use Rattle.drmaa_types.specs.declared.states.JobState.TheVariants.{Undetermined};
 ghost use Rattle.drmaa_model.specs.declared.rows.Row.{Row};
@@ -22,26 +24,34 @@ pub struct Facts {
     pub rerunnable: bool,
 }
 
+/// Where the row of this job stands. It is found by halves.
+fn place_of(rows: &Vec<Row>, job: JobId) -> Result<usize, usize>
+    requires rising { IsRising number_of rows.now.items }
+    ensures found { IfOk result (IsAt number_of job.0 rows.now.items) }
+    ensures absent { IfErr result (λ _. row_of job rows.now.items ≡ None) }
+{
+    rows.binary_search_by_key(&job.0, |row| row.job.0)
+}
+
 /// The row of this job, if it is kept.
 pub fn row_of(rows: &Vec<Row>, job: JobId) -> Option<&Row>
+    requires { IsRising number_of rows.now.items }
     ensures { option_copied result ≡ row_of job rows.now.items }
 {
-    for row in rows {
-        if row.job.0 == job.0 {
-            return Some(row);
-        }
+    match place_of(rows, job) {
+        Ok(place) => Some(&rows[place]),
+        Err(_) => None,
     }
-    None
 }
 
 /// Gives the row of this job another course.
 pub fn put_course(rows: &mut Vec<Row>, job: JobId, course: &Course)
+    requires { IsRising number_of rows.old.items }
     ensures { rows.new.items ≡ map (with_course job course.now) rows.old.items }
 {
-    for row in rows.iter_mut() {
-        if row.job.0 == job.0 {
-            row.course = *course;
-        }
+    match place_of(rows, job) {
+        Ok(place) => rows[place].course = *course,
+        Err(_) => {}
     }
 }
 

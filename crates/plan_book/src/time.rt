@@ -6,26 +6,18 @@ ghost use Rattle.drmaa_model.specs.Time.{lasts, is_late, is_past, is_over, is_ac
 ghost use Rattle.std.specs.Option.{option_copied, option_map};
 ghost use Rattle.drmaa_model.specs.TimeLaws.{expiry, timed};
 ghost use Rattle.reservation_calendar.specs.Schedules.{without};
+ghost use Rattle.plan_book.specs.Places.{AreInOrder};
 ghost use Rattle.plan_book.specs.Ties.{let_go_of};
 
 use crate::courses::{called, failed, is_unasked};
+use crate::reservations::{is_accepted, is_lasting};
 use crate::states::{is_started, is_waiting};
 use drmaa_model::{Accepted, Course, Order, Row};
-use drmaa_types::{Change, End, JobState, Moment, Note, ReservationId, SignalKind};
+use drmaa_types::{Change, End, JobState, Moment, Note, SignalKind};
 use reservation_calendar::{Calendar, Key};
 
-fn is_accepted(rs: &Vec<Accepted>, number: ReservationId) -> bool
-    ensures { result ≡ is_accepted rs.now.items number }
-{
-    for r in rs {
-        if r.reservation.0 == number.0 {
-            return true;
-        }
-    }
-    false
-}
-
 fn is_stranded(rs: &Vec<Accepted>, row: &Row) -> bool
+    requires order { AreInOrder rs.now.items }
     ensures { result ≡ is_stranded rs.now.items row.now }
 {
     match row.wants.reservation {
@@ -63,6 +55,7 @@ fn is_over(row: &Row, moment: Moment) -> bool
 
 /// Whether a waiting job's time is over.
 fn lapses(rs: &Vec<Accepted>, row: &Row, moment: Moment) -> bool
+    requires order { AreInOrder rs.now.items }
     ensures { result ≡ lapses moment rs.now.items row.now }
 {
     lapses_where(row, moment, is_stranded(rs, row))
@@ -77,19 +70,8 @@ fn lapses_where(row: &Row, moment: Moment, stranded: bool) -> bool
     is_late(row, moment) || stranded
 }
 
-/// Whether a reservation is accepted that lasts at this moment.
-pub fn is_lasting(rs: &Vec<Accepted>, number: ReservationId, moment: Moment) -> bool
-    ensures { result ≡ is_accepted (filter (lasts moment) rs.now.items) number }
-{
-    for r in rs {
-        if moment.number() < r.until.number() && r.reservation.0 == number.0 {
-            return true;
-        }
-    }
-    false
-}
-
 fn is_stranded_at(rs: &Vec<Accepted>, row: &Row, moment: Moment) -> bool
+    requires order { AreInOrder rs.now.items }
     ensures { result ≡ is_stranded (filter (lasts moment) rs.now.items) row.now }
 {
     match row.wants.reservation {
@@ -100,6 +82,7 @@ fn is_stranded_at(rs: &Vec<Accepted>, row: &Row, moment: Moment) -> bool
 
 /// A job's course once time has come to this moment.
 pub fn course_at(rs: &Vec<Accepted>, row: &Row, moment: Moment) -> Course
+    requires order { AreInOrder rs.now.items }
     ensures { result ≡ (called_in moment (filter (lasts moment) rs.now.items) (lapsed moment (filter (lasts moment) rs.now.items) row.now)).course }
 {
     let stranded = is_stranded_at(rs, row, moment);
@@ -113,6 +96,7 @@ pub fn course_at(rs: &Vec<Accepted>, row: &Row, moment: Moment) -> Course
 }
 
 fn lapse(rs: &Vec<Accepted>, row: &mut Row, moment: Moment)
+    requires order { AreInOrder rs.now.items }
     ensures { row.new ≡ lapsed moment rs.now.items row.old }
 {
     if lapses(rs, row, moment) {
@@ -133,7 +117,10 @@ fn lapse_note(row: &Row, moment: Moment) -> Note
 
 /// Ends the waiting jobs whose time is over.
 pub fn expire_rows(rs: &Vec<Accepted>, rows: &mut Vec<Row>, moment: Moment)
-    ensures { rows.new.items ≡ map (lapsed moment rs.now.items) rows.old.items }
+    requires order { AreInOrder rs.now.items }
+    ensures items { rows.new.items ≡ map (lapsed moment rs.now.items) rows.old.items }
+    ensures len { vec_len rows.new ≡ vec_len rows.old }
+    ensures capacity { vec_capacity rows.new ≡ vec_capacity rows.old }
 {
     for row in rows.iter_mut() {
         lapse(rs, row, moment);
@@ -148,7 +135,8 @@ pub fn note_expiries(
     moment: Moment,
     entry: u64,
 )
-    requires { vec_len changes.old + length (filter (lapses moment rs.now.items) rows.now.items) ≤ vec_capacity changes.old }
+    requires order { AreInOrder rs.now.items }
+    requires room { vec_len changes.old + length (filter (lapses moment rs.now.items) rows.now.items) ≤ vec_capacity changes.old }
     ensures items { changes.new.items ≡ changes.old.items ++ map (expiry entry) (filter (lapses moment rs.now.items) rows.now.items) }
     ensures capacity { vec_capacity changes.new ≡ vec_capacity changes.old }
     ensures len { vec_len changes.new ≡ vec_len changes.old + length (filter (lapses moment rs.now.items) rows.now.items) }
@@ -167,6 +155,7 @@ pub fn note_expiries(
 }
 
 fn is_due(rs: &Vec<Accepted>, row: &Row, moment: Moment) -> bool
+    requires order { AreInOrder rs.now.items }
     ensures { result ≡ is_due moment rs.now.items row.now }
 {
     is_due_where(row, moment, is_stranded(rs, row))
@@ -195,6 +184,7 @@ fn due_note(row: &Row, moment: Moment) -> Note
 }
 
 fn call_in_row(rs: &Vec<Accepted>, row: &mut Row, moment: Moment)
+    requires order { AreInOrder rs.now.items }
     ensures { row.new ≡ called_in moment rs.now.items row.old }
 {
     if is_due(rs, row, moment) {
@@ -205,7 +195,10 @@ fn call_in_row(rs: &Vec<Accepted>, row: &mut Row, moment: Moment)
 
 /// Asks for the end of the started jobs whose time is over.
 pub fn call_in_rows(rs: &Vec<Accepted>, rows: &mut Vec<Row>, moment: Moment)
-    ensures { rows.new.items ≡ map (called_in moment rs.now.items) rows.old.items }
+    requires order { AreInOrder rs.now.items }
+    ensures items { rows.new.items ≡ map (called_in moment rs.now.items) rows.old.items }
+    ensures len { vec_len rows.new ≡ vec_len rows.old }
+    ensures capacity { vec_capacity rows.new ≡ vec_capacity rows.old }
 {
     for row in rows.iter_mut() {
         call_in_row(rs, row, moment);
@@ -214,7 +207,8 @@ pub fn call_in_rows(rs: &Vec<Accepted>, rows: &mut Vec<Row>, moment: Moment)
 
 /// Adds the orders for them.
 pub fn order_kills(rs: &Vec<Accepted>, rows: &Vec<Row>, orders: &mut Vec<Order>, moment: Moment)
-    requires { vec_len orders.old + length (filter (is_due moment rs.now.items) rows.now.items) ≤ vec_capacity orders.old }
+    requires order { AreInOrder rs.now.items }
+    requires room { vec_len orders.old + length (filter (is_due moment rs.now.items) rows.now.items) ≤ vec_capacity orders.old }
     ensures items { orders.new.items ≡ orders.old.items ++ map kill_order (filter (is_due moment rs.now.items) rows.now.items) }
     ensures capacity { vec_capacity orders.new ≡ vec_capacity orders.old }
     ensures len { vec_len orders.new ≡ vec_len orders.old + length (filter (is_due moment rs.now.items) rows.now.items) }
@@ -232,7 +226,9 @@ pub fn order_kills(rs: &Vec<Accepted>, rows: &Vec<Row>, orders: &mut Vec<Order>,
 
 /// Lets the reservations go that are over.
 pub fn keep_lasting(rs: &mut Vec<Accepted>, moment: Moment)
-    ensures { rs.new.items ≡ filter (lasts moment) rs.old.items }
+    ensures items { rs.new.items ≡ filter (lasts moment) rs.old.items }
+    ensures len { vec_len rs.new ≤ vec_len rs.old }
+    ensures capacity { vec_capacity rs.new ≡ vec_capacity rs.old }
 {
     rs.retain(|r| moment.number() < r.until.number());
 }

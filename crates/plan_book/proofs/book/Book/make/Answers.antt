@@ -23,8 +23,8 @@ plan c = c.move_now.ensures.plan ∙ ap (moved c.args.entry c.args.m.now) (c.adv
 pub returns-clause-meets : goal.returns-clause-meets
 returns-clause-meets c = served (record { answered = refl; answers = tt; plan = plan c; within = omega arith })
 
-pub returns-clause-tied : goal.returns-clause-tied
-returns-clause-tied c =
+tied : (c : After-cancel_last) → IsTied c.cancel_last.new.calendar (plan_of c.move_now.new.self)
+tied c =
     let p = plan_of c.args.self.now in
     let at = c.args.at in
     let b = c.args.m.now.booked in
@@ -32,11 +32,16 @@ returns-clause-tied c =
     let s = c.args.self.now.calendar in
     let calendar : c.cancel_last.new.calendar ≡ cancelled_last b j (let_go_of (max p.moment at) p.reservations (booked_first b s)) =
     c.cancel_last.ensures ∙ ap (cancelled_last b j) (c.move_now.ensures.calendar ∙ c.advance.ensures.calendar
-    ∙ ap (λ (x : Plan). let_go_of (max x.moment at) x.reservations c.book_first.new.calendar) c.make_room.ensures.plan
-    ∙ ap (let_go_of (max p.moment at) p.reservations) ((c.in_ok-book_first.ensures {u = tt}).booked ∙ ap (booked_first b) c.make_room.ensures.calendar)) in
+      ∙ ap (λ (x : Plan). let_go_of (max x.moment at) x.reservations c.book_first.new.calendar) c.make_room.ensures.plan
+      ∙ ap (let_go_of (max p.moment at) p.reservations) ((c.in_ok-book_first.ensures {u = tt}).booked ∙ ap (booked_first b) c.make_room.ensures.calendar)) in
     subst (λ (t : Schedule). IsTied t (plan_of c.move_now.new.self)) (sym calendar)
     (subst (IsTied (cancelled_last b j (let_go_of (max p.moment at) p.reservations (booked_first b s)))) (sym (plan c))
-    (tied-made b j s c.args.entry at p (moved c.args.entry c.args.m.now (advance_plan c.args.entry at p)) c.requires.may c.requires.kept.fit c.requires.kept.tied c.requires.tie))
+    (tied-made b j s c.args.entry at p (moved c.args.entry c.args.m.now (advance_plan c.args.entry at p)) c.requires.beside c.requires.kept.fit c.requires.kept.tied c.requires.tie))
 
-pub returns-clause-light : goal.returns-clause-light
-returns-clause-light c = λ most. omega (arith, ap weight (plan c), most)
+pub returns-clause-kept : goal.returns-clause-kept
+returns-clause-kept c = record {
+  room = record { changes = c.move_now.ensures.room.changes; orders = c.move_now.ensures.room.orders };
+  fit = subst IsFit (sym (plan c)) c.requires.fit;
+  light = (let most = c.requires.limit in omega (arith, ap weight (plan c), most));
+  tied = tied c;
+}
