@@ -1,0 +1,5 @@
+pub mod ArrivalLaws
+pub mod FirstOrder
+pub mod MoveLaws
+pub mod RoomLaws
+pub mod Searched

@@ -1,0 +1,125 @@
+-- What a search by halves finds in a list that is in order of number.
+use Rattle.std.proofs.Common.{◌≡◌, ◌≢◌, ℕ, zero, suc, ◌<◌, ◌≤◌, Bool, true, false, cond, eqb, List, [], ◌∷◌, length, get_or, set, map, filter, find, Option, Some, None, Result, Ok, Err, IfOk, IfErr, refl, sym, ◌∙◌, ap, arith}
+use Rattle.std.specs.Prelude.{is_some}
+use Rattle.std.specs.Option.{option_map_or}
+use Rattle.std.specs.List.{AllByRecursion}
+use Rattle.std.specs.List.Sorted.{IsSearchInRange, IsBinarySearchResult, IsNonDecreasingBy}
+use Rattle.std.specs.Ordering.{nat_cmp, ordering_index}
+use Rattle.std.proofs.lemmas.Bool.{eqb-true, eq-eqb, ne_eqb}
+use Rattle.std.proofs.lemmas.Bool.Decides.{nat_tests}
+use Rattle.std.proofs.lemmas.Cmp.{ranked}
+use Rattle.drmaa_model.specs.Fit.{IsRising}
+use Rattle.drmaa_model.specs.RowLaws.{all-filter, all-implied}
+use Rattle.plan_book.specs.Places.{IsAt}
+
+module _ {X : Type 0} (number : X → ℕ) where
+  pub all-at : (P : X → Type 0) (xs : List X) → AllByRecursion P xs → (i : ℕ) (d : X) → i < length xs → P (get_or xs i d)
+  all-at P [] all i d within = absurd (omega (arith, within))
+  all-at P (x ∷ xs) all zero d within = all.0
+  all-at P (x ∷ xs) all (suc i) d within = all-at P xs all.1 i d (omega (arith, within))
+
+  pub rising-at : (xs : List X) → IsRising number xs → (i j : ℕ) (d : X) → i < j → j < length xs → number (get_or xs i d) < number (get_or xs j d)
+  rising-at [] rising i j d less within = absurd (omega (arith, within))
+  rising-at (x ∷ xs) rising i zero d less within = absurd (omega (arith, less))
+  rising-at (x ∷ xs) rising zero (suc j) d less within = all-at (λ y. number x < number y) xs rising.0 j d (omega (arith, within))
+  rising-at (x ∷ xs) rising (suc i) (suc j) d less within = rising-at xs rising.1 i j d (omega (arith, less)) (omega (arith, within))
+
+  at-tail : (n : ℕ) (x : X) (xs : List X) (i : ℕ) → IsAt number n (x ∷ xs) (suc i) → IsAt number n xs i
+  at-tail n x xs i at = record { within = omega (arith, at.within); there = λ d. at.there d }
+
+  below : (n : ℕ) (x : X) (xs : List X) (i : ℕ) → IsRising number (x ∷ xs) → IsAt number n (x ∷ xs) (suc i) → number x < n
+  below n x xs i rising at =
+      (let less = all-at (λ y. number x < number y) xs rising.0 i x (omega (arith, at.within)) in
+      let is = at.there x in omega (arith, less, is))
+
+  -- the element at the place is the one that is found
+  pub find-at : (n : ℕ) (xs : List X) (i : ℕ) (d : X) → IsRising number xs → IsAt number n xs i → find (λ x. eqb (number x) n) xs ≡ Some (get_or xs i d)
+  find-at n [] i d rising at = absurd (omega (arith, at.within))
+  find-at n (x ∷ xs) zero d rising at = ap (λ b. cond b (Some x) (find (λ y. eqb (number y) n) xs)) (eq-eqb (number x) n (at.there x))
+  find-at n (x ∷ xs) (suc i) d rising at =
+      (let less = below n x xs i rising at in
+      ap (λ b. cond b (Some x) (find (λ y. eqb (number y) n) xs)) (ne_eqb (number x) n (λ e. omega (arith, less, e)))
+      ∙ find-at n xs i d rising.1 (at-tail n x xs i at))
+
+  -- no element has the number, so none is found
+  pub find-none : (n : ℕ) (xs : List X) → ((k : ℕ) (d : X) → k < length xs → number (get_or xs k d) ≢ n) → find (λ x. eqb (number x) n) xs ≡ None
+  find-none n [] none = refl
+  find-none n (x ∷ xs) none =
+      ap (λ b. cond b (Some x) (find (λ y. eqb (number y) n) xs)) (ne_eqb (number x) n (none 0 x (omega arith)))
+      ∙ find-none n xs (λ k d within. none (suc k) d (omega (arith, within)))
+
+  find-above : (n : ℕ) (xs : List X) → AllByRecursion (λ y. n < number y) xs → find (λ x. eqb (number x) n) xs ≡ None
+  find-above n [] all = refl
+  find-above n (x ∷ xs) all =
+      ap (λ b. cond b (Some x) (find (λ y. eqb (number y) n) xs)) (ne_eqb (number x) n (λ e. (let above = all.0 in omega (arith, above, e))))
+      ∙ find-above n xs all.1
+
+  -- a search by halves ends at the element of the number, or there is none
+  pub searched : (xs : List X) → IsRising number xs → (n : ℕ) (r : Result ℕ ℕ) → IsSearchInRange r (length xs) → IsBinarySearchResult (λ x. nat_cmp (number x) n) xs r
+      → record { found : IfOk r (IsAt number n xs); absent : IfErr r (λ (i : ℕ). find (λ x. eqb (number x) n) xs ≡ None) }
+  searched xs rising n (Ok i) within equal = record { found = record { within = within; there = λ d. ranked _ n _ (sym (equal d)) }; absent = tt }
+  searched xs rising n (Err i) within parted =
+      (let rise : IsNonDecreasingBy (λ x. ordering_index (nat_cmp (number x) n)) xs =
+      (λ a b d le inside.
+        (let up : number (get_or xs a d) ≤ number (get_or xs b d) = grind (arith, rising-at xs rising a b d, λ (same : a ≡ b). ap (λ k. number (get_or xs k d)) same) in
+        grind (arith, nat_tests))) in
+      let point = parted rise in
+      record {
+        found = tt;
+        absent = find-none n xs (λ k d inside same. grind (arith, λ (low : k < i). ranked _ n _ (sym (point.0 k d (omega arith) low)), λ (high : i ≤ k). ranked _ n _ (sym (point.1 k d high inside))));
+      })
+
+  -- ---- writing at the place
+
+  map-above : (n : ℕ) (f : X → X) (xs : List X) → AllByRecursion (λ y. n < number y) xs → map (λ x. cond (eqb (number x) n) (f x) x) xs ≡ xs
+  map-above n f [] all = refl
+  map-above n f (x ∷ xs) all =
+      ap (λ b. cond b (f x) x ∷ map (λ y. cond (eqb (number y) n) (f y) y) xs) (ne_eqb (number x) n (λ e. (let above = all.0 in omega (arith, above, e))))
+      ∙ ap (λ ys. x ∷ ys) (map-above n f xs all.1)
+
+  pub set-at : (n : ℕ) (f : X → X) (xs : List X) (i : ℕ) (d : X) → IsRising number xs → IsAt number n xs i → set xs i (f (get_or xs i d)) ≡ map (λ x. cond (eqb (number x) n) (f x) x) xs
+  set-at n f [] i d rising at = absurd (omega (arith, at.within))
+  set-at n f (x ∷ xs) zero d rising at =
+      sym (ap (λ b. cond b (f x) x ∷ map (λ y. cond (eqb (number y) n) (f y) y) xs) (eq-eqb (number x) n (at.there x))
+      ∙ ap (λ ys. f x ∷ ys) (map-above n f xs (all-implied (λ y. number x < number y) (λ y. n < number y) (λ y less. (let is = at.there x in omega (arith, less, is))) xs rising.0)))
+  set-at n f (x ∷ xs) (suc i) d rising at =
+      (let less = below n x xs i rising at in
+      ap (λ ys. x ∷ ys) (set-at n f xs i d rising.1 (at-tail n x xs i at))
+      ∙ sym (ap (λ b. cond b (f x) x ∷ map (λ y. cond (eqb (number y) n) (f y) y) xs) (ne_eqb (number x) n (λ e. omega (arith, less, e)))))
+
+  pub map-absent : (n : ℕ) (f : X → X) (xs : List X) → find (λ x. eqb (number x) n) xs ≡ None → map (λ x. cond (eqb (number x) n) (f x) x) xs ≡ xs
+  map-absent n f [] none = refl
+  map-absent n f (x ∷ xs) none =
+      (elim (eqb (number x) n) as (λ b. cond b (Some x) (find (λ y. eqb (number y) n) xs) ≡ None → cond b (f x) x ∷ map (λ y. cond (eqb (number y) n) (f y) y) xs ≡ x ∷ xs) [
+        | true ↦ λ e. absurd (cc)
+        | false ↦ λ e. ap (λ ys. x ∷ ys) (map-absent n f xs e)
+      ]) none
+
+  -- ---- what is found among those that pass a test
+
+  pub rising-filter : (test : X → Bool) (xs : List X) → IsRising number xs → IsRising number (filter test xs)
+  rising-filter test [] rising = tt
+  rising-filter test (x ∷ xs) rising =
+      elim (test x) as (λ b. IsRising number (cond b (x ∷ filter test xs) (filter test xs))) [
+        | true ↦ (all-filter (λ y. number x < number y) test xs rising.0, rising-filter test xs rising.1)
+        | false ↦ rising-filter test xs rising.1
+      ]
+
+  pub found-passing : (n : ℕ) (test : X → Bool) (xs : List X) → IsRising number xs
+      → is_some (find (λ x. eqb (number x) n) (filter test xs)) ≡ option_map_or test (find (λ x. eqb (number x) n) xs) false
+  found-passing n test [] rising = refl
+  found-passing n test (x ∷ xs) rising =
+      (elim (eqb (number x) n) as (λ b. eqb (number x) n ≡ b → is_some (find (λ y. eqb (number y) n) (cond (test x) (x ∷ filter test xs) (filter test xs))) ≡ option_map_or test (cond b (Some x) (find (λ y. eqb (number y) n) xs)) false) [
+        | true ↦ λ e.
+            (let is = eqb-true (number x) n e in
+            let above : AllByRecursion (λ y. n < number y) xs = all-implied (λ y. number x < number y) (λ y. n < number y) (λ y less. omega (arith, less, is)) xs rising.0 in
+            (elim (test x) as (λ t. is_some (find (λ y. eqb (number y) n) (cond t (x ∷ filter test xs) (filter test xs))) ≡ t) [
+              | true ↦ ap (λ b. is_some (cond b (Some x) (find (λ y. eqb (number y) n) (filter test xs)))) e
+              | false ↦ found-passing n test xs rising.1 ∙ ap (λ (o : Option X). option_map_or test o false) (find-above n xs above)
+            ]))
+        | false ↦ λ e.
+            (elim (test x) as (λ t. is_some (find (λ y. eqb (number y) n) (cond t (x ∷ filter test xs) (filter test xs))) ≡ option_map_or test (find (λ y. eqb (number y) n) xs) false) [
+              | true ↦ ap (λ b. is_some (cond b (Some x) (find (λ y. eqb (number y) n) (filter test xs)))) e ∙ found-passing n test xs rising.1
+              | false ↦ found-passing n test xs rising.1
+            ])
+      ]) refl

@@ -1,0 +1,62 @@
+use Rattle.std.proofs.Common.{◌≡◌, ◌+◌, ◌∷◌, [], ◌++◌, ℕ, max, refl, sym, ◌∙◌, ap, subst, arith}
+use Rattle.std.specs.Prelude.{Result, Err}
+use Rattle.drmaa_types.specs.declared.refusals.Refusal.{Refusal}
+use Rattle.drmaa_types.specs.declared.refusals.Refusal.TheVariants.{OutOfResource}
+use Rattle.drmaa_types.specs.declared.refusals.Limit.TheVariants as resource
+use Rattle.drmaa_model.specs.Fit.{IsFit}
+use Rattle.drmaa_model.specs.Operation.Meets.{served, full}
+use Rattle.drmaa_model.specs.Plan.{Plan}
+use Rattle.drmaa_model.specs.Requests.{with_reservation}
+use Rattle.drmaa_model.specs.Size.{weight}
+use Rattle.drmaa_model.specs.Time.{advance_plan}
+use Rattle.drmaa_model.specs.TimeLaws.{weight-advance}
+use Rattle.reservation_calendar.specs.Schedules.{Schedule}
+use Rattle.plan_book.specs.Book.{plan_of}
+use Rattle.plan_book.specs.Ties.{IsTied, booked_for, let_go_of}
+use Rattle.plan_book.specs.TieLaws.{tied-reserved}
+use Rattle.plan_book.proofs.book.Book.accept.Goals as goal
+use Rattle.plan_book.proofs.book.Book.accept.Goals.{After-put_reservation}
+
+plan : (c : After-put_reservation) → plan_of c.put_reservation.new.self ≡ with_reservation c.args.accepted (advance_plan c.args.entry c.args.at (plan_of c.args.self.now))
+plan c = c.put_reservation.ensures.plan ∙ ap (with_reservation c.args.accepted) (c.advance.ensures.plan ∙ ap (advance_plan c.args.entry c.args.at) c.make_place.ensures.plan)
+
+pub returns-clause-meets : goal.returns-clause-meets
+returns-clause-meets c =
+    let size = weight-advance c.args.entry c.args.at (plan_of c.args.self.now) in
+    served (record { answered = refl; answers = tt; plan = plan c; within = omega (arith, size, c.weight.ensures) })
+
+tied : (c : After-put_reservation) → IsTied c.put_reservation.new.self.calendar (plan_of c.put_reservation.new.self)
+tied c =
+    let p = plan_of c.args.self.now in
+    let at = c.args.at in
+    let s = c.args.self.now.calendar in
+    let booked : Schedule = record s { bookings = s.bookings ++ booked_for c.args.accepted ∷ [] } in
+    let calendar : c.put_reservation.new.self.calendar ≡ let_go_of (max p.moment at) p.reservations booked =
+    c.put_reservation.ensures.calendar ∙ c.advance.ensures.calendar
+      ∙ ap (λ (x : Plan). let_go_of (max x.moment at) x.reservations c.book_accepted.new.calendar) c.make_place.ensures.plan
+      ∙ ap (let_go_of (max p.moment at) p.reservations) ((c.in_ok-book_accepted.ensures {u = tt}).booked
+      ∙ ap (λ (x : Schedule). let t : Schedule = record x { bookings = x.bookings ++ booked_for c.args.accepted ∷ [] } in t) c.make_place.ensures.calendar) in
+    subst (λ (t : Schedule). IsTied t (plan_of c.put_reservation.new.self)) (sym calendar)
+    (subst (IsTied (let_go_of (max p.moment at) p.reservations booked)) (sym (plan c))
+    (tied-reserved s c.args.entry at p c.args.accepted c.requires.kept.fit c.requires.kept.tied c.requires.number))
+
+pub returns-clause-kept : goal.returns-clause-kept
+returns-clause-kept c =
+    let size = weight-advance c.args.entry c.args.at (plan_of c.args.self.now) in
+    record {
+      room = c.put_reservation.ensures.room;
+      fit = subst IsFit (sym (plan c)) c.requires.fit;
+      light = omega (arith, ap weight (plan c), size, c.requires.kept.light);
+      tied = tied c;
+    }
+
+pub returns-then-size-limit-clause-meets : goal.returns-then-size-limit-clause-meets
+returns-then-size-limit-clause-meets c =
+    let p = plan_of c.args.self.now in
+    let size = weight-advance c.args.entry c.args.at p in
+    let eq : c.args.entry + c.weight.result ≡ c.args.entry + weight (advance_plan c.args.entry c.args.at p) = omega (arith, size, c.weight.ensures) in
+    full (record {
+      answered = ap (λ (n : ℕ). let r : Result (Unit {0}) Refusal = Err (OutOfResource (resource.Journal n)) in r) eq;
+      above = omega (arith, eq, c.if-size-limit.true);
+      plan = refl;
+    })

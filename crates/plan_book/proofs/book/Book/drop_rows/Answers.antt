@@ -1,0 +1,85 @@
+use Rattle.std.proofs.Common.{◌≡◌, ◌+◌, ℕ, List, filter, not, ◌&&◌, refl, sym, ◌∙◌, ap, subst, arith}
+use Rattle.std.specs.Prelude.{Result, Err}
+use Rattle.drmaa_types.specs.declared.refusals.Refusal.{Refusal}
+use Rattle.drmaa_types.specs.declared.refusals.Refusal.TheVariants.{OutOfResource}
+use Rattle.drmaa_types.specs.declared.refusals.Limit.TheVariants as resource
+use Rattle.drmaa_model.specs.declared.rows.Row.{Row}
+use Rattle.drmaa_model.specs.Controlling.{is_done, reap}
+use Rattle.drmaa_model.specs.Fit.{IsFit}
+use Rattle.drmaa_model.specs.FitLaws.{advance-fit}
+use Rattle.drmaa_model.specs.Operation.Meets.{served, full}
+use Rattle.drmaa_model.specs.Plan.{Plan}
+use Rattle.drmaa_model.specs.Size.{weight}
+use Rattle.drmaa_model.specs.Targets.{is_meant}
+use Rattle.drmaa_model.specs.Time.{advance_plan}
+use Rattle.drmaa_model.specs.TimeLaws.{weight-advance}
+use Rattle.plan_book.specs.Book.{plan_of, owed, askable}
+use Rattle.plan_book.specs.Ties.{IsTied}
+use Rattle.plan_book.specs.TieLaws.{tied-then}
+use Rattle.plan_book.proofs.ArrivalLaws.{left-owed, left-askable, reaped-weight, tied-reaped}
+use Rattle.plan_book.proofs.book.Book.drop_rows.Goals as goal
+use Rattle.plan_book.proofs.book.Book.drop_rows.Goals.{After-drop_done}
+
+abbrev left : (c : After-drop_done) → Plan
+left c = (reap c.args.target.now).effect c.args.entry (advance_plan c.args.entry c.args.at (plan_of c.args.self.now))
+
+abbrev after : (c : After-drop_done) → Plan
+after c = record (plan_of c.advance.new.self) { rows = c.drop_done.new.rows.items }
+
+plan : (c : After-drop_done) → after c ≡ left c
+plan c =
+    ap (λ (rs : List Row). let p : Plan = record (plan_of c.advance.new.self) { rows = rs } in p) c.drop_done.ensures
+    ∙ ap (λ (p : Plan). let q : Plan = record p { rows = filter (λ (r : Row). not (is_meant c.args.target.now r && is_done r)) p.rows } in q) c.advance.ensures.plan
+
+fit : (c : After-drop_done) → IsFit (advance_plan c.args.entry c.args.at (plan_of c.args.self.now))
+fit c = advance-fit c.args.entry c.args.at (plan_of c.args.self.now) c.requires.kept.fit
+
+fit-then : (c : After-drop_done) → IsFit (plan_of c.advance.new.self)
+fit-then c = subst IsFit (sym c.advance.ensures.plan) (fit c)
+
+pub returns-clause-meets : goal.returns-clause-meets
+returns-clause-meets c =
+    let p = plan_of c.args.self.now in
+    let q = advance_plan c.args.entry c.args.at p in
+    let size = weight-advance c.args.entry c.args.at p in
+    let same = reaped-weight c.args.target.now q (fit c) in
+    served (record { answered = refl; answers = tt; plan = plan c; within = omega (arith, size, same, c.weight.ensures) })
+
+pub returns-clause-kept : goal.returns-clause-kept
+returns-clause-kept c =
+    let p = plan_of c.args.self.now in
+    let q = advance_plan c.args.entry c.args.at p in
+    let t = c.args.target.now in
+    let sound = (fit-then c).sound in
+    let rows = c.advance.new.self.rows.items in
+    let size = weight-advance c.args.entry c.args.at p in
+    let same = reaped-weight t q (fit c) in
+    record {
+      room = record {
+        changes = omega (arith, ap owed c.drop_done.ensures, left-owed t rows sound, c.advance.ensures.room.changes);
+        orders = omega (arith, ap askable c.drop_done.ensures, left-askable t rows sound, c.advance.ensures.room.orders);
+      };
+      fit = subst IsFit (sym (plan c)) c.requires.fit;
+      light = omega (arith, ap weight (plan c), size, same, c.requires.kept.light);
+      tied = subst (IsTied c.advance.new.self.calendar) (sym (plan c))
+          (tied-reaped c.advance.new.self.calendar t q (fit c)
+          (tied-then c.args.self.now.calendar c.advance.new.self.calendar c.args.entry c.args.at p q c.requires.kept.fit c.requires.kept.tied c.advance.ensures.calendar refl));
+    }
+
+pub returns-clause-spare : goal.returns-clause-spare
+returns-clause-spare c =
+    let same = left-owed c.args.target.now c.advance.new.self.rows.items (fit-then c).sound in
+    omega (arith, ap owed c.drop_done.ensures, same, c.advance.ensures.spare)
+
+pub returns-then-size-limit-clause-meets : goal.returns-then-size-limit-clause-meets
+returns-then-size-limit-clause-meets c =
+    let p = plan_of c.args.self.now in
+    let q = advance_plan c.args.entry c.args.at p in
+    let size = weight-advance c.args.entry c.args.at p in
+    let same = reaped-weight c.args.target.now q (advance-fit c.args.entry c.args.at p c.requires.kept.fit) in
+    let eq : c.args.entry + c.weight.result ≡ c.args.entry + weight ((reap c.args.target.now).effect c.args.entry q) = omega (arith, size, same, c.weight.ensures) in
+    full (record {
+      answered = ap (λ (n : ℕ). let r : Result (Unit {0}) Refusal = Err (OutOfResource (resource.Journal n)) in r) eq;
+      above = omega (arith, eq, c.if-size-limit.true);
+      plan = refl;
+    })

@@ -1,0 +1,43 @@
+use Rattle.std.proofs.Common.{List, sym, ◌∙◌, ap, arith}
+use Rattle.drmaa_types.specs.declared.changes.Change.{Change}
+use Rattle.drmaa_model.specs.declared.courses.Order.{Order}
+use Rattle.drmaa_model.specs.declared.rows.Row.{Row}
+use Rattle.drmaa_model.specs.Plan.{Plan}
+use Rattle.plan_book.specs.Book.{plan_of, moved, owed, askable, owes, may_ask}
+use Rattle.plan_book.proofs.MoveLaws.{moved-changes, moved-owed, moved-askable, part-of}
+use Rattle.plan_book.proofs.book.Book.move_now.Goals as goal
+
+pub push_change-requires : goal.push_change-requires
+push_change-requires c =
+    let part = part-of c.args.entry (plan_of c.args.self.now) c.args.m.now c.requires.fit c.requires.move_is owes in
+    omega (arith, part, c.requires.room.changes, c.requires.changes)
+
+pub edit_orders-requires : goal.edit_orders-requires
+edit_orders-requires c =
+    let part = part-of c.args.entry (plan_of c.args.self.now) c.args.m.now c.requires.fit c.requires.move_is may_ask in
+    omega (arith, part, c.requires.room.orders, c.requires.orders)
+
+pub returns-clause-plan : goal.returns-clause-plan
+returns-clause-plan c =
+    let p = plan_of c.args.self.now in
+    let changes = c.push_change.ensures.items ∙ sym (moved-changes c.args.entry p c.args.m.now c.requires.fit c.requires.move_is) in
+    ap (λ (cs : List Change). let q : Plan = record p { rows = c.put_course.new.rows.items; orders = c.edit_orders.new.orders.items; changes = cs } in q) changes
+    ∙ ap (λ (rs : List Row). let q : Plan = record (moved c.args.entry c.args.m.now p) { rows = rs; orders = c.edit_orders.new.orders.items } in q) c.put_course.ensures
+    ∙ ap (λ (os : List Order). let q : Plan = record (moved c.args.entry c.args.m.now p) { orders = os } in q) c.edit_orders.ensures.items
+
+pub returns-clause-room : goal.returns-clause-room
+returns-clause-room c =
+    let p = plan_of c.args.self.now in
+    let sum = moved-owed c.args.entry p c.args.m.now c.requires.fit c.requires.move_is in
+    let asks = moved-askable c.args.entry p c.args.m.now c.requires.fit c.requires.move_is in
+    let rows = c.put_course.ensures in
+    record {
+      changes = omega (arith, ap owed rows, sum, c.requires.room.changes, c.requires.changes, c.push_change.ensures.len, c.push_change.ensures.capacity);
+      orders = omega (arith, ap askable rows, asks, c.requires.room.orders, c.requires.orders, c.edit_orders.ensures.len, c.edit_orders.ensures.capacity);
+    }
+
+pub returns-clause-spare : goal.returns-clause-spare
+returns-clause-spare c =
+    let p = plan_of c.args.self.now in
+    let sum = moved-owed c.args.entry p c.args.m.now c.requires.fit c.requires.move_is in
+    omega (arith, ap owed c.put_course.ensures, sum, c.requires.room.changes, c.requires.changes, c.push_change.ensures.len, c.push_change.ensures.capacity)

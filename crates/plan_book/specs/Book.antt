@@ -1,0 +1,139 @@
+-- How a core's own fields are read: the plan that a book keeps, and the room that it has.
+use Rattle.std.specs.Prelude.{◌≡◌, ℕ, ◌+◌, ◌-◌, ◌<◌, ◌≤◌, ◌&&◌, ◌==◌, not, true, false, Bool, List, ◌++◌, Option, Some, None, sum_by, length, vec_len, vec_capacity, if◌then◌else◌}
+use Rattle.drmaa_types.specs.States.{is_waiting, is_started, is_state}
+use Rattle.drmaa_types.specs.declared.identifiers.JobId.{JobId}
+use Rattle.drmaa_types.specs.declared.states.SignalKind.{SignalKind}
+use Rattle.drmaa_model.specs.declared.courses.Course.{Course}
+use Rattle.drmaa_model.specs.declared.courses.Order.{Order}
+use Rattle.drmaa_model.specs.declared.rows.Row.{Row}
+use Rattle.drmaa_model.specs.Courses.{is_unasked}
+use Rattle.drmaa_model.specs.Fit.{IsFit}
+use Rattle.drmaa_types.specs.declared.refusals.Refusal.{Refusal}
+use Rattle.drmaa_types.specs.declared.refusals.Refusal.TheVariants.{OutOfResource}
+use Rattle.drmaa_types.specs.declared.refusals.Limit.TheVariants as resource
+use Rattle.drmaa_model.specs.Controlling.{orders_for}
+use Rattle.drmaa_model.specs.Operation.{is_answer, size_at}
+use Rattle.drmaa_model.specs.Launching.{take_first}
+use Rattle.drmaa_model.specs.Reporting.{orders_without, drop_first, signal_number}
+use Rattle.drmaa_model.specs.Plan.{Plan}
+use Rattle.drmaa_model.specs.Rows.{row_of, go_on}
+use Rattle.drmaa_model.specs.Size.{weight}
+use Rattle.plan_book.specs.Ties.{IsTied}
+use Rattle.plan_book.specs.declared.book.Book.{Book}
+use Rattle.plan_book.specs.declared.moves.Move.{Move}
+use Rattle.plan_book.specs.declared.moves.Edit.{Edit}
+use Rattle.plan_book.specs.declared.moves.Edit.TheVariants.{Keep, Ask, Clear, Take, Drop}
+
+-- The plan of a book. The one place that knows how it is kept.
+abbrev pub plan_of : Book → Plan
+plan_of b = record {
+  total = b.total;
+  moment = b.moment;
+  rows = b.rows.items;
+  reservations = b.reservations.items;
+  orders = b.orders.items;
+  changes = b.changes.items;
+  next_job = b.next_job;
+  next_array = b.next_array;
+  next_reservation = b.next_reservation;
+}
+
+-- The changes that a job may still make with no memory: to its end, or to the queue and then to its end.
+abbrev pub owes : Course → ℕ
+owes course = if is_waiting course.state then 1 else if is_started course.state then 2 else 0
+
+-- the order that time may ask
+abbrev pub may_ask : Course → ℕ
+may_ask course = if is_started course.state && is_unasked course.kill then 1 else 0
+
+abbrev pub owed : List Row → ℕ
+owed rows = sum_by (λ (row : Row). owes row.course) rows
+
+abbrev pub askable : List Row → ℕ
+askable rows = sum_by (λ (row : Row). may_ask row.course) rows
+
+pub record HasRoom (b : Book) : Type 0 where
+  pub changes : vec_len b.changes + owed b.rows.items ≤ vec_capacity b.changes
+  pub orders : vec_len b.orders + askable b.rows.items ≤ vec_capacity b.orders
+
+-- for how many jobs more there is memory
+abbrev pub spare_rows : Book → ℕ
+spare_rows b = vec_capacity b.rows - vec_len b.rows
+
+-- there is memory for one more reservation
+abbrev pub HasPlace : Book → Type 0
+HasPlace b = vec_len b.reservations < vec_capacity b.reservations
+
+-- how many changes more there is room for
+abbrev pub spare : Book → ℕ
+spare b = vec_capacity b.changes - (vec_len b.changes + owed b.rows.items)
+
+-- what every book keeps
+pub record IsKept (b : Book) : Type 0 where
+  pub room : HasRoom b
+  pub fit : IsFit (plan_of b)
+  pub light : weight (plan_of b) ≤ 4_000_000
+  pub tied : IsTied b.calendar (plan_of b)
+
+-- the order is of this kind and for this job, and was handed out or was not
+abbrev pub is_order : JobId → SignalKind → Bool → Order → Bool
+is_order job kind taken order = (if taken then order.taken else not order.taken) && (order.job.0 == job.0) && (signal_number order.kind == signal_number kind)
+
+-- what a move does to the orders
+abbrev pub edited : Edit → JobId → List Order → List Order
+edited Keep job orders = orders
+edited (Ask kind) job orders = orders ++ orders_for job (Some kind)
+edited Clear job orders = orders_without job orders
+edited (Take kind) job orders = take_first (is_order job kind false) orders
+edited (Drop kind) job orders = drop_first (is_order job kind true) orders
+
+-- one job goes on
+abbrev pub moved : ℕ → Move → Plan → Plan
+moved entry m p = record (go_on entry m.job m.after p) { orders = edited m.orders m.job p.orders }
+
+-- how many orders more there is room for
+abbrev pub spare_orders : Book → ℕ
+spare_orders b = vec_capacity b.orders - (vec_len b.orders + askable b.rows.items)
+
+-- a move is of a kept job, from the course that it has
+pub record IsMove (p : Plan) (m : Move) : Type 0 where
+  pub row : Row
+  pub found : row_of m.job p.rows ≡ Some row
+  pub home : m.home ≡ row.home
+  pub before : m.before ≡ row.course
+
+-- how many changes a move adds
+abbrev pub changed : Move → ℕ
+changed m = if is_state m.before.state m.after.state then 0 else 1
+
+-- how many orders it adds
+abbrev pub asked : Edit → ℕ
+asked Keep = 0
+asked (Ask kind) = 1
+asked Clear = 0
+asked (Take kind) = 0
+asked (Drop kind) = 0
+
+-- how much room it wants beside what is promised
+abbrev pub grows : Move → ℕ
+grows m = (owes m.after + changed m) - owes m.before
+
+abbrev pub asks : Move → ℕ
+asks m = (may_ask m.after + asked m.orders) - may_ask m.before
+
+-- A refusal is told in the plan that has come to its moment, or the journal would be too large even for that.
+pub data Refuses (why : Refusal) (q old : Plan) (entry limit : ℕ) (told : Refusal) (new : Plan) : Type 0 where
+  refuses : told ≡ why → is_answer why ≡ true → new ≡ q → size_at entry q ≤ limit → Refuses why q old entry limit told new
+  overfull : told ≡ OutOfResource (resource.Journal (size_at entry q)) → limit < size_at entry q → new ≡ old → Refuses why q old entry limit told new
+
+abbrev pub edit_of : Option SignalKind → Edit
+edit_of None = Keep
+edit_of (Some kind) = Ask kind
+
+-- Jobs come in, and so many array numbers are used.
+abbrev pub joined : List Row → ℕ → Plan → Plan
+joined rows arrays p = record p {
+  rows = p.rows ++ rows;
+  next_job = p.next_job + length rows;
+  next_array = p.next_array + arrays;
+}

@@ -1,0 +1,94 @@
+//! Time goes on: the four rules of time, over the plan as it is kept. None of it takes memory.
+ghost use Rattle.std.specs.Prelude.{◌≡◌, max};
+ghost use Rattle.drmaa_model.specs.Time.{advance_plan, come_to, let_go, expire, call_in};
+ghost use Rattle.plan_book.specs.Book.{plan_of, HasPlace, HasRoom, spare, spare_orders, spare_rows};
+ghost use Rattle.plan_book.specs.Places.{AreInOrder};
+ghost use Rattle.plan_book.specs.Ties.{let_go_of};
+
+use crate::book::Book;
+use crate::time::{
+    call_in_rows, cancel_ended, expire_rows, keep_lasting, note_expiries, order_kills,
+};
+use drmaa_types::Moment;
+
+impl Book {
+    fn come_to(&mut self, at: Moment)
+        requires room { HasRoom self.old }
+        requires order { AreInOrder self.old.reservations.items }
+        ensures plan { plan_of self.new ≡ let_go (come_to at (plan_of self.old)) }
+        ensures order { AreInOrder self.new.reservations.items }
+        ensures calendar { self.new.calendar ≡ let_go_of (max self.old.moment at) self.old.reservations.items self.old.calendar }
+        ensures room { HasRoom self.new }
+        ensures spare { spare self.new ≡ spare self.old }
+        ensures spare_orders { spare_orders self.new ≡ spare_orders self.old }
+        ensures place { HasPlace self.old → HasPlace self.new }
+        ensures spare_rows { spare_rows self.new ≡ spare_rows self.old }
+    {
+        self.moment = self.moment_at(at);
+        cancel_ended(&self.reservations, &mut self.calendar, self.moment);
+        keep_lasting(&mut self.reservations, self.moment);
+    }
+
+    /// The waiting jobs whose time is over end.
+    pub fn expire(&mut self, entry: u64)
+        requires room { HasRoom self.old }
+        requires order { AreInOrder self.old.reservations.items }
+        ensures plan { plan_of self.new ≡ expire entry (plan_of self.old) }
+        ensures order { AreInOrder self.new.reservations.items }
+        ensures calendar { self.new.calendar ≡ self.old.calendar }
+        ensures room { HasRoom self.new }
+        ensures spare { spare self.new ≡ spare self.old }
+        ensures spare_orders { spare_orders self.new ≡ spare_orders self.old }
+        ensures place { HasPlace self.old → HasPlace self.new }
+        ensures spare_rows { spare_rows self.new ≡ spare_rows self.old }
+    {
+        note_expiries(
+            &self.reservations,
+            &self.rows,
+            &mut self.changes,
+            self.moment,
+            entry,
+        );
+        expire_rows(&self.reservations, &mut self.rows, self.moment);
+    }
+
+    /// The started jobs whose time is over are asked to end.
+    pub fn call_in(&mut self)
+        requires room { HasRoom self.old }
+        requires order { AreInOrder self.old.reservations.items }
+        ensures plan { plan_of self.new ≡ call_in (plan_of self.old) }
+        ensures order { AreInOrder self.new.reservations.items }
+        ensures calendar { self.new.calendar ≡ self.old.calendar }
+        ensures room { HasRoom self.new }
+        ensures spare { spare self.new ≡ spare self.old }
+        ensures spare_orders { spare_orders self.new ≡ spare_orders self.old }
+        ensures place { HasPlace self.old → HasPlace self.new }
+        ensures spare_rows { spare_rows self.new ≡ spare_rows self.old }
+    {
+        order_kills(
+            &self.reservations,
+            &self.rows,
+            &mut self.orders,
+            self.moment,
+        );
+        call_in_rows(&self.reservations, &mut self.rows, self.moment);
+    }
+
+    /// Time goes on. It takes no memory.
+    pub fn advance(&mut self, at: Moment, entry: u64)
+        requires room { HasRoom self.old }
+        requires order { AreInOrder self.old.reservations.items }
+        ensures plan { plan_of self.new ≡ advance_plan entry at (plan_of self.old) }
+        ensures order { AreInOrder self.new.reservations.items }
+        ensures calendar { self.new.calendar ≡ let_go_of (max self.old.moment at) self.old.reservations.items self.old.calendar }
+        ensures room { HasRoom self.new }
+        ensures spare { spare self.new ≡ spare self.old }
+        ensures spare_orders { spare_orders self.new ≡ spare_orders self.old }
+        ensures place { HasPlace self.old → HasPlace self.new }
+        ensures spare_rows { spare_rows self.new ≡ spare_rows self.old }
+    {
+        self.come_to(at);
+        self.expire(entry);
+        self.call_in();
+    }
+}

@@ -1,0 +1,126 @@
+//! Jobs that come in, and ended ones that are forgotten.
+ghost use Rattle.std.specs.Prelude.{◌≡◌, ◌≢◌, ◌+◌, ◌^◌, ◌<◌, ◌≤◌, ◌&&◌, ◌++◌, not, true, filter, length, vec_len, vec_capacity, Ok, Err, OnOk, IsOk};
+ghost use Rattle.std.specs.List.{AllByRecursion};
+ghost use Rattle.drmaa_types.specs.States.{is_waiting};
+ghost use Rattle.drmaa_model.specs.declared.rows.Row.{Row};
+ghost use Rattle.drmaa_model.specs.Controlling.{reap, is_done};
+ghost use Rattle.drmaa_model.specs.Fit.{IsFit};
+ghost use Rattle.drmaa_model.specs.Operation.{Meets};
+ghost use Rattle.drmaa_model.specs.Targets.{is_meant};
+ghost use Rattle.drmaa_model.specs.Time.{advance_plan};
+ghost use Rattle.plan_book.specs.Book.{plan_of, HasRoom, IsKept, joined, spare, spare_orders, spare_rows};
+ghost use Rattle.plan_book.specs.Waiting.{AreWaiting};
+
+use crate::book::Book;
+use crate::rows::owed;
+use crate::targets::{is_done, is_meant};
+use drmaa_model::{Row, Target};
+use drmaa_types::{Limit, Moment, Refusal};
+use std::alloc::AllocError;
+
+impl Book {
+    /// Takes jobs in at a moment, where the journal and the memory have room for them. They wait, and have the next numbers;
+    /// `arrays` says how many array numbers they use.
+    ///
+    /// # Errors
+    ///
+    /// A journal that would be too large, and want of memory. Nothing has changed then.
+    pub fn push_rows(&mut self, at: Moment, entry: u64, limit: u64, rows: Vec<Row>, arrays: u64) -> Result<(), Refusal>
+        requires kept { IsKept self.old }
+        requires entry { entry ≤ 4_000_001 }
+        requires limit { limit ≤ 4_000_000 }
+        requires few { length rows.items < 2 ^ 32 }
+        requires waits { AreWaiting rows.items }
+        requires next_job { self.old.next_job + length rows.items < 2 ^ 64 }
+        requires next_array { self.old.next_array + arrays < 2 ^ 64 }
+        requires fit { IsFit (joined rows.items arrays (advance_plan entry at (plan_of self.old))) }
+        ensures meets { Meets (record { answer = Ok tt; plan = joined rows.items arrays (advance_plan entry at (plan_of self.old)) })
+            (plan_of self.old) entry limit result (plan_of self.new) }
+        ensures kept { IsKept self.new }
+        ensures spare { spare self.old ≤ spare self.new + length rows.items }
+    {
+        let size = entry + self.weight() + rows.len() as u64;
+        if size > limit {
+            return Err(Refusal::OutOfResource(Limit::Journal { size }));
+        }
+        if self.make_seats(rows.len()).is_err() {
+            return Err(Refusal::OutOfMemory);
+        }
+        self.advance(at, entry);
+        self.put_rows(rows, arrays);
+        Ok(())
+    }
+
+    /// Takes the memory for so many waiting jobs.
+    fn make_seats(&mut self, n: usize) -> Result<(), AllocError>
+        requires room { HasRoom self.old }
+        requires few { n < 2 ^ 32 }
+        ensures plan { plan_of self.new ≡ plan_of self.old }
+        ensures calendar { self.new.calendar ≡ self.old.calendar }
+        ensures room { HasRoom self.new }
+        ensures more { spare self.old ≤ spare self.new }
+        ensures rows { OnOk result (n ≤ spare_rows self.new) }
+        ensures changes { OnOk result (n ≤ spare self.new) }
+    {
+        self.changes.reserve(owed(&self.rows) + n)?;
+        self.rows.reserve(n)
+    }
+
+    fn put_rows(&mut self, rows: Vec<Row>, arrays: u64)
+        requires room { HasRoom self.old }
+        requires waits { AreWaiting rows.items }
+        requires seats { length rows.items ≤ spare_rows self.old }
+        requires changes { length rows.items ≤ spare self.old }
+        requires next_job { self.old.next_job + length rows.items < 2 ^ 64 }
+        requires next_array { self.old.next_array + arrays < 2 ^ 64 }
+        ensures plan { plan_of self.new ≡ joined rows.items arrays (plan_of self.old) }
+        ensures calendar { self.new.calendar ≡ self.old.calendar }
+        ensures room { HasRoom self.new }
+        ensures spare { spare self.old ≤ spare self.new + length rows.items }
+    {
+        self.next_job += rows.len() as u64;
+        self.next_array += arrays;
+        append_rows(&mut self.rows, rows);
+    }
+
+    /// Forgets the ended ones of the jobs that are meant, at a moment, where the journal has room for that. It takes no memory.
+    ///
+    /// # Errors
+    ///
+    /// A journal that would be too large. Nothing has changed then.
+    pub fn drop_rows(&mut self, at: Moment, entry: u64, limit: u64, target: &Target) -> Result<(), Refusal>
+        requires kept { IsKept self.old }
+        requires entry { entry ≤ 4_000_001 }
+        requires limit { limit ≤ 4_000_000 }
+        requires fit { IsFit ((reap target.now).effect entry (advance_plan entry at (plan_of self.old))) }
+        ensures meets { Meets (record { answer = Ok tt; plan = (reap target.now).effect entry (advance_plan entry at (plan_of self.old)) })
+            (plan_of self.old) entry limit result (plan_of self.new) }
+        ensures kept { IsKept self.new }
+        ensures spare { spare self.new ≡ spare self.old }
+        ensures memory { result ≢ Err Refusal.OutOfMemory }
+    {
+        let size = entry + self.weight();
+        if size > limit {
+            return Err(Refusal::OutOfResource(Limit::Journal { size }));
+        }
+        self.advance(at, entry);
+        drop_done(&mut self.rows, target);
+        Ok(())
+    }
+}
+
+fn append_rows(rows: &mut Vec<Row>, more: Vec<Row>)
+    requires { vec_len rows.old + vec_len more ≤ vec_capacity rows.old }
+    ensures { rows.new.items ≡ rows.old.items ++ more.items }
+{
+    let mut more = more;
+    let appended = rows.append(&mut more);
+    prove!(appended.is_ok());
+}
+
+/// Forgets the ended ones of the jobs that are meant.
+fn drop_done(rows: &mut Vec<Row>, target: &Target)
+    ensures { rows.new.items ≡ filter (λ (row : Row). not (is_meant target.now row && is_done row)) rows.old.items }
+{
+    rows.retain(|row| !(is_meant(target, row) && is_done(row)));
+}

@@ -1,0 +1,198 @@
+//! The plan as it is kept, and what is read of it.
+ghost use Rattle.std.specs.Prelude.{◌≡◌, ◌≤◌, max, filter, OnOk, IfErr};
+ghost use Rattle.std.specs.Option.{option_copied, option_map};
+ghost use Rattle.drmaa_model.specs.Plan.{opening_plan};
+ghost use Rattle.drmaa_model.specs.Rows.{row_of};
+ghost use Rattle.drmaa_model.specs.Size.{weight};
+ghost use Rattle.drmaa_model.specs.Time.{rows_at, lasts, lapsed, called_in};
+ghost use Rattle.plan_book.specs.Book.{plan_of, IsKept, spare};
+ghost use Rattle.plan_book.specs.Facts.{facts_of};
+ghost use Rattle.plan_book.specs.Places.{AreInOrder};
+
+use crate::rows::{Facts, owed, promised, row_of};
+use crate::time::course_at;
+use drmaa_model::{Accepted, Order, Row};
+use drmaa_types::{Change, JobId, Moment, Refusal};
+use reservation_calendar::Calendar;
+use std::alloc::Global;
+
+/// The plan as it is kept. Contracts see it as `plan_of` of it, and as the room that it has.
+#[derive(Drop)]
+pub struct Book {
+    pub total: u32,
+    pub moment: Moment,
+    pub rows: Vec<Row>,
+    pub reservations: Vec<Accepted>,
+    /// The bookings of the accepted reservations and of the started ordinary jobs.
+    pub calendar: Calendar,
+    pub orders: Vec<Order>,
+    pub changes: Vec<Change>,
+    pub next_job: u64,
+    pub next_array: u64,
+    pub next_reservation: u64,
+}
+
+impl Book {
+    /// No jobs; it takes no memory.
+    pub fn new(alloc: Global, slots: u32) -> Book
+        ensures plan { plan_of result ≡ opening_plan slots }
+        ensures kept { IsKept result }
+    {
+        Book {
+            total: slots,
+            moment: opening_moment(),
+            rows: Vec::new(alloc),
+            reservations: Vec::new(alloc),
+            calendar: Calendar::new(alloc, slots),
+            orders: Vec::new(alloc),
+            changes: Vec::new(alloc),
+            next_job: 1,
+            next_array: 1,
+            next_reservation: 1,
+        }
+    }
+
+    /// Takes the memory for so many further changes.
+    pub fn reserve(&mut self, n: u32) -> Result<(), Refusal>
+        requires kept { IsKept self.old }
+        ensures plan { plan_of self.new ≡ plan_of self.old }
+        ensures kept { IsKept self.new }
+        ensures spare { OnOk result (n ≤ spare self.new) }
+        ensures more { spare self.old ≤ spare self.new }
+        ensures err { IfErr result (λ why. why ≡ Refusal.OutOfMemory) }
+    {
+        let wanted = owed(&self.rows) + n as usize;
+        match self.changes.reserve(wanted) {
+            Ok(()) => Ok(()),
+            Err(_) => Err(Refusal::OutOfMemory),
+        }
+    }
+
+    /// The changes and the promised room.
+    pub fn weight(&self) -> u64
+        requires { weight (plan_of self.now) ≤ 4_000_000 }
+        ensures { result ≡ weight (plan_of self.now) }
+    {
+        self.changes.len() as u64 + promised(&self.rows)
+    }
+
+    /// The moment to which time comes by this one: it never falls.
+    pub fn moment_at(&self, at: Moment) -> Moment
+        ensures { result ≡ max self.now.moment at }
+    {
+        if self.moment.number() < at.number() {
+            at
+        } else {
+            self.moment
+        }
+    }
+
+    /// What is known of a job once time has come to this moment.
+    pub fn facts_at(&self, at: Moment, job: JobId) -> Option<Facts>
+        requires kept { IsKept self.now }
+        ensures { result ≡ option_map facts_of (row_of job (rows_at at (plan_of self.now))) }
+    {
+        let moment = self.moment_at(at);
+        match row_of(&self.rows, job) {
+            None => None,
+            Some(row) => Some(facts_then(&self.reservations, row, moment)),
+        }
+    }
+
+    /// The machine's slots.
+    pub fn total(&self) -> u32
+        ensures { result ≡ (plan_of self.now).total }
+    {
+        self.total
+    }
+
+    /// The moment to which time has come.
+    pub fn moment(&self) -> Moment
+        ensures { result ≡ (plan_of self.now).moment }
+    {
+        self.moment
+    }
+
+    /// The kept jobs, in order of number.
+    pub fn rows(&self) -> &Vec<Row>
+        ensures { result.now.items ≡ (plan_of self.now).rows }
+    {
+        &self.rows
+    }
+
+    /// The accepted reservations, in order of number.
+    pub fn reservations(&self) -> &Vec<Accepted>
+        ensures { result.now.items ≡ (plan_of self.now).reservations }
+    {
+        &self.reservations
+    }
+
+    /// The signals that are still to be delivered, in order of asking.
+    pub fn orders(&self) -> &Vec<Order>
+        ensures { result.now.items ≡ (plan_of self.now).orders }
+    {
+        &self.orders
+    }
+
+    /// What became of the jobs' states, in order.
+    pub fn changes(&self) -> &Vec<Change>
+        ensures { result.now.items ≡ (plan_of self.now).changes }
+    {
+        &self.changes
+    }
+
+    /// The bookings of the accepted reservations and of the started ordinary jobs.
+    pub fn calendar(&self) -> &Calendar
+        ensures { result.now ≡ self.now.calendar }
+    {
+        &self.calendar
+    }
+
+    /// The number of the next job.
+    pub fn next_job(&self) -> u64
+        ensures { result ≡ (plan_of self.now).next_job }
+    {
+        self.next_job
+    }
+
+    /// The number of the next array.
+    pub fn next_array(&self) -> u64
+        ensures { result ≡ (plan_of self.now).next_array }
+    {
+        self.next_array
+    }
+
+    /// The number of the next reservation.
+    pub fn next_reservation(&self) -> u64
+        ensures { result ≡ (plan_of self.now).next_reservation }
+    {
+        self.next_reservation
+    }
+
+    /// The row of this job as it is now, before time goes on, if the job is kept.
+    pub fn row(&self, job: JobId) -> Option<&Row>
+        requires kept { IsKept self.now }
+        ensures { option_copied result ≡ row_of job (plan_of self.now).rows }
+    {
+        row_of(&self.rows, job)
+    }
+}
+
+fn opening_moment() -> Moment
+    ensures { result ≡ 0 }
+{
+    Moment::new(0).unwrap_or(Moment::greatest())
+}
+
+/// What is known of a job's row once time has come to this moment.
+fn facts_then(rs: &Vec<Accepted>, row: &Row, moment: Moment) -> Facts
+    requires order { AreInOrder rs.now.items }
+    ensures { result ≡ facts_of (called_in moment (filter (lasts moment) rs.now.items) (lapsed moment (filter (lasts moment) rs.now.items) row.now)) }
+{
+    Facts {
+        job: row.job,
+        home: row.home,
+        course: course_at(rs, row, moment),
+        rerunnable: row.wants.rerunnable,
+    }
+}

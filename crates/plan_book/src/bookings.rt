@@ -1,0 +1,137 @@
+//! Reservations that come and go, each with its booking in the calendar.
+ghost use Rattle.std.specs.Prelude.{◌≡◌, ◌≢◌, ◌+◌, ◌^◌, ◌<◌, ◌≤◌, ◌++◌, ◌∷◌, [], filter, true, Ok, Err, OnOk, OnErr, IfErr};
+ghost use Rattle.drmaa_model.specs.Fit.{IsFit};
+ghost use Rattle.drmaa_model.specs.Operation.{Meets};
+ghost use Rattle.drmaa_model.specs.Requests.{is_other, end_reservation, with_reservation, without_reservation};
+ghost use Rattle.drmaa_model.specs.Time.{advance_plan};
+ghost use Rattle.reservation_calendar.specs.Schedules.{without};
+ghost use Rattle.plan_book.specs.Book.{plan_of, HasPlace, HasRoom, IsKept, spare, spare_orders};
+ghost use Rattle.plan_book.specs.Places.{AreInOrder};
+ghost use Rattle.plan_book.specs.Ties.{IsFree, booked_for};
+
+use crate::book::Book;
+use drmaa_model::Accepted;
+use drmaa_types::{End, Limit, Moment, Refusal, ReservationId};
+use reservation_calendar::{Calendar, Key};
+use std::alloc::AllocError;
+
+impl Book {
+    /// Accepts a reservation at a moment, where the journal and the memory have room for that. It has the next number, and its
+    /// slots fit.
+    ///
+    /// # Errors
+    ///
+    /// A journal that would be too large, and want of memory. Nothing has changed then.
+    pub fn accept(&mut self, at: Moment, entry: u64, limit: u64, accepted: Accepted) -> Result<(), Refusal>
+        requires kept { IsKept self.old }
+        requires entry { entry ≤ 4_000_001 }
+        requires limit { limit ≤ 4_000_000 }
+        requires number { accepted.reservation.0 ≡ self.old.next_reservation }
+        requires next { self.old.next_reservation + 1 < 2 ^ 64 }
+        requires free { IsFree self.old.calendar (booked_for accepted) }
+        requires fit { IsFit (with_reservation accepted (advance_plan entry at (plan_of self.old))) }
+        ensures meets { Meets (record { answer = Ok tt; plan = with_reservation accepted (advance_plan entry at (plan_of self.old)) })
+            (plan_of self.old) entry limit result (plan_of self.new) }
+        ensures kept { IsKept self.new }
+        ensures spare { spare self.new ≡ spare self.old }
+    {
+        let size = entry + self.weight();
+        if size > limit {
+            return Err(Refusal::OutOfResource(Limit::Journal { size }));
+        }
+        if self.make_place().is_err() {
+            return Err(Refusal::OutOfMemory);
+        }
+        book_accepted(&mut self.calendar, &accepted)?;
+        self.advance(at, entry);
+        self.put_reservation(accepted);
+        Ok(())
+    }
+
+    /// Takes the memory for one more reservation.
+    fn make_place(&mut self) -> Result<(), AllocError>
+        requires room { HasRoom self.old }
+        ensures plan { plan_of self.new ≡ plan_of self.old }
+        ensures calendar { self.new.calendar ≡ self.old.calendar }
+        ensures room { HasRoom self.new }
+        ensures spare { spare self.new ≡ spare self.old }
+        ensures place { OnOk result (HasPlace self.new) }
+    {
+        self.reservations.reserve(1)
+    }
+
+    fn put_reservation(&mut self, accepted: Accepted)
+        requires room { HasRoom self.old }
+        requires place { HasPlace self.old }
+        requires next { self.old.next_reservation + 1 < 2 ^ 64 }
+        ensures plan { plan_of self.new ≡ with_reservation accepted (plan_of self.old) }
+        ensures calendar { self.new.calendar ≡ self.old.calendar }
+        ensures room { HasRoom self.new }
+        ensures spare { spare self.new ≡ spare self.old }
+    {
+        self.reservations.push_reserved(accepted);
+        self.next_reservation += 1;
+    }
+
+    /// Ends a reservation at a moment, where the journal has room for that. The waiting jobs that name it end with it, and the
+    /// started ones are asked to end. It takes no memory.
+    ///
+    /// # Errors
+    ///
+    /// A journal that would be too large. Nothing has changed then.
+    pub fn end_reservation(&mut self, at: Moment, entry: u64, limit: u64, reservation: ReservationId) -> Result<(), Refusal>
+        requires kept { IsKept self.old }
+        requires entry { entry ≤ 4_000_001 }
+        requires limit { limit ≤ 4_000_000 }
+        ensures meets { Meets (record { answer = Ok tt; plan = (end_reservation reservation).effect entry (advance_plan entry at (plan_of self.old)) })
+            (plan_of self.old) entry limit result (plan_of self.new) }
+        ensures kept { IsKept self.new }
+        ensures spare { spare self.new ≡ spare self.old }
+        ensures memory { result ≢ Err Refusal.OutOfMemory }
+    {
+        let size = entry + self.weight();
+        if size > limit {
+            return Err(Refusal::OutOfResource(Limit::Journal { size }));
+        }
+        self.advance(at, entry);
+        self.drop_reservation(reservation);
+        self.expire(entry);
+        self.call_in();
+        Ok(())
+    }
+
+    fn drop_reservation(&mut self, reservation: ReservationId)
+        requires room { HasRoom self.old }
+        requires order { AreInOrder self.old.reservations.items }
+        ensures plan { plan_of self.new ≡ without_reservation reservation (plan_of self.old) }
+        ensures calendar { self.new.calendar ≡ record self.old.calendar { bookings = without (Key.Reservation reservation) self.old.calendar.bookings } }
+        ensures order { AreInOrder self.new.reservations.items }
+        ensures room { HasRoom self.new }
+        ensures spare { spare self.new ≡ spare self.old }
+    {
+        self.calendar.cancel(Key::Reservation(reservation));
+        keep_others(&mut self.reservations, reservation);
+    }
+}
+
+/// Keeps the reservations of all other numbers.
+fn keep_others(rs: &mut Vec<Accepted>, reservation: ReservationId)
+    ensures { rs.new.items ≡ filter (is_other reservation) rs.old.items }
+{
+    rs.retain(|r| r.reservation.0 != reservation.0);
+}
+
+/// Books an accepted reservation.
+fn book_accepted(calendar: &mut Calendar, accepted: &Accepted) -> Result<(), Refusal>
+    requires { IsFree calendar.old (booked_for accepted.now) }
+    ensures booked { OnOk result (calendar.new ≡ record calendar.old { bookings = calendar.old.bookings ++ booked_for accepted.now ∷ [] }) }
+    ensures err { OnErr result (calendar.new ≡ calendar.old) }
+    ensures memory { IfErr result (λ why. why ≡ Refusal.OutOfMemory) }
+{
+    calendar.book(
+        Key::Reservation(accepted.reservation),
+        accepted.slots,
+        accepted.from,
+        End::At(accepted.until),
+    )
+}

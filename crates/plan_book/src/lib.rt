@@ -1,0 +1,22 @@
+//! The plan as it is kept: jobs, reservations, orders and changes, with the room that is promised, and the ways in which all
+//! operations change it.
+#![tactic(auto)]
+
+mod advances;
+mod arrivals;
+mod book;
+mod bookings;
+pub mod courses;
+mod makes;
+mod moves;
+mod orders;
+mod reservations;
+mod rooms;
+mod rows;
+pub mod states;
+mod targets;
+mod time;
+
+pub use book::Book;
+pub use moves::{Booked, Edit, Move};
+pub use rows::Facts;

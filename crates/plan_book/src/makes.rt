@@ -1,0 +1,161 @@
+//! How one job goes on: its move is made at a moment, where the journal and the memory have room for it, or nothing changes.
+ghost use Rattle.std.specs.Prelude.{false, ◌≡◌, ◌≢◌, ◌+◌, ◌≤◌, vec_len, vec_capacity, IsOk, true, IfErr, OnOk, OnErr, Ok, Err, if◌then◌else◌, [], ◌∷◌, ◌++◌};
+ghost use Rattle.drmaa_types.specs.States.{is_state};
+ghost use Rattle.drmaa_model.specs.Fit.{IsFit};
+ghost use Rattle.drmaa_model.specs.Operation.{size_at, Meets, is_answer};
+ghost use Rattle.drmaa_model.specs.Size.{weight};
+ghost use Rattle.drmaa_model.specs.Time.{advance_plan};
+ghost use Rattle.plan_book.specs.Book.{plan_of, HasRoom, spare, spare_orders, IsMove, IsKept, Refuses, grows, asks, moved};
+ghost use Rattle.plan_book.specs.Ties.{MayMake, IsBeside, KeepsTie, booked_first, cancelled_last, is_booking};
+
+use crate::book::Book;
+use crate::moves::{Booked, Move};
+use crate::orders::edit_orders;
+use crate::rooms::room_of;
+use crate::rows::{askable, owed, put_course};
+use crate::states::is_state;
+use drmaa_types::{Change, JobId, Limit, Moment, Refusal};
+use reservation_calendar::{Calendar, Key};
+use std::alloc::AllocError;
+
+impl Book {
+    /// The size of the journal after a move.
+    fn size_after(&self, at: Moment, entry: u64, m: &Move) -> u64
+        requires kept { IsKept self.now }
+        requires entry { entry ≤ 4_000_001 }
+        requires move_is { IsMove (advance_plan entry at (plan_of self.now)) m.now }
+        ensures { result ≡ size_at entry (moved entry m.now (advance_plan entry at (plan_of self.now))) }
+    {
+        let _ = at;
+        entry + self.weight() + room_of(&m.after) + m.changed() as u64 - room_of(&m.before)
+    }
+
+    /// Takes the memory that a move wants.
+    fn make_room(&mut self, m: &Move) -> Result<(), AllocError>
+        requires room { HasRoom self.old }
+        ensures calendar { self.new.calendar ≡ self.old.calendar }
+        ensures plan { plan_of self.new ≡ plan_of self.old }
+        ensures room { HasRoom self.new }
+        ensures changes { OnOk result (grows m.now ≤ spare self.new) }
+        ensures orders { OnOk result (asks m.now ≤ spare_orders self.new) }
+        ensures more { spare self.old ≤ spare self.new }
+        ensures enough { grows m.now ≤ spare self.old → asks m.now ≤ spare_orders self.old → IsOk result }
+    {
+        self.changes.reserve(owed(&self.rows) + m.grows())?;
+        self.orders.reserve(askable(&self.rows) + m.asks())
+    }
+
+    /// Refuses at a moment, where the journal has room for that.
+    pub fn refuse(&mut self, at: Moment, entry: u64, limit: u64, why: &Refusal) -> Refusal
+        requires kept { IsKept self.old }
+        requires entry { entry ≤ 4_000_001 }
+        requires answer { is_answer why.now ≡ true }
+        ensures refuses { Refuses why.now (advance_plan entry at (plan_of self.old)) (plan_of self.old) entry limit result (plan_of self.new) }
+        ensures kept { IsKept self.new }
+        ensures spare { spare self.new ≡ spare self.old }
+    {
+        let size = entry + self.weight();
+        if size > limit {
+            return Refusal::OutOfResource(Limit::Journal { size });
+        }
+        self.advance(at, entry);
+        *why
+    }
+
+    /// Makes a move at a moment, where the journal and the memory have room for it.
+    pub fn make(&mut self, at: Moment, entry: u64, limit: u64, m: &Move) -> Result<(), Refusal>
+        requires kept { IsKept self.old }
+        requires entry { entry ≤ 4_000_001 }
+        requires move_is { IsMove (advance_plan entry at (plan_of self.old)) m.now }
+        requires limit { limit ≤ 4_000_000 }
+        requires may { MayMake self.old.calendar m.now.booked }
+        requires beside { IsBeside self.old.reservations.items m.now.booked }
+        requires fit { IsFit (moved entry m.now (advance_plan entry at (plan_of self.old))) }
+        requires tie { KeepsTie m.now.booked m.now.job (advance_plan entry at (plan_of self.old)) (moved entry m.now (advance_plan entry at (plan_of self.old))) }
+        ensures meets { Meets (record { answer = Ok tt; plan = moved entry m.now (advance_plan entry at (plan_of self.old)) })
+            (plan_of self.old) entry limit result (plan_of self.new) }
+        ensures kept { IsKept self.new }
+        ensures spare { spare self.old ≤ spare self.new + grows m.now }
+        ensures memory { grows m.now ≤ spare self.old → asks m.now ≡ 0 → is_booking m.now.booked ≡ false → result ≢ Err Refusal.OutOfMemory }
+    {
+        let size = self.size_after(at, entry, m);
+        if size > limit {
+            return Err(Refusal::OutOfResource(Limit::Journal { size }));
+        }
+        if self.make_room(m).is_err() {
+            return Err(Refusal::OutOfMemory);
+        }
+        book_first(&mut self.calendar, &m.booked)?;
+        self.advance(at, entry);
+        self.move_now(entry, m);
+        cancel_last(&mut self.calendar, m.job, &m.booked);
+        Ok(())
+    }
+
+    /// Makes a move that there is room for.
+    fn move_now(&mut self, entry: u64, m: &Move)
+        requires room { HasRoom self.old }
+        requires fit { IsFit (plan_of self.old) }
+        requires move_is { IsMove (plan_of self.old) m.now }
+        requires changes { grows m.now ≤ spare self.old }
+        requires orders { asks m.now ≤ spare_orders self.old }
+        ensures plan { plan_of self.new ≡ moved entry m.now (plan_of self.old) }
+        ensures calendar { self.new.calendar ≡ self.old.calendar }
+        ensures room { HasRoom self.new }
+        ensures spare { spare self.old ≤ spare self.new + grows m.now }
+    {
+        let change = Change {
+            entry,
+            job: m.job,
+            home: m.home,
+            from: m.before.state,
+            to: m.after.state,
+        };
+        push_change(&mut self.changes, change);
+        edit_orders(&mut self.orders, m.job, m.orders);
+        put_course(&mut self.rows, m.job, &m.after);
+    }
+}
+
+/// Adds a change, unless it leads to the state that it comes from.
+fn push_change(changes: &mut Vec<Change>, change: Change)
+    requires { vec_len changes.old + (if is_state change.from change.to then 0 else 1) ≤ vec_capacity changes.old }
+    ensures items { changes.new.items ≡ changes.old.items ++ (if is_state change.from change.to then [] else change ∷ []) }
+    ensures len { vec_len changes.new ≡ vec_len changes.old + (if is_state change.from change.to then 0 else 1) }
+    ensures capacity { vec_capacity changes.new ≡ vec_capacity changes.old }
+{
+    if !is_state(change.from, change.to) {
+        changes.push_reserved(change);
+    }
+}
+
+/// Makes the booking of a move, where it has one.
+fn book_first(calendar: &mut Calendar, booked: &Booked) -> Result<(), Refusal>
+    requires { MayMake calendar.old booked.now }
+    ensures booked { OnOk result (calendar.new ≡ booked_first booked.now calendar.old) }
+    ensures err { OnErr result (calendar.new ≡ calendar.old) }
+    ensures memory { IfErr result (λ why. why ≡ Refusal.OutOfMemory) }
+    ensures no_booking { is_booking booked.now ≡ false → result ≡ Ok tt }
+{
+    match booked {
+        Booked::Books(booking) => calendar.book(
+            booking.key,
+            booking.slots,
+            booking.from,
+            booking.until,
+        ),
+        Booked::Same | Booked::Cancels => Ok(()),
+    }
+}
+
+/// Cancels the booking of a job, where a move does so. It takes no memory.
+fn cancel_last(calendar: &mut Calendar, job: JobId, booked: &Booked)
+    ensures { calendar.new ≡ cancelled_last booked.now job calendar.old }
+{
+    match booked {
+        Booked::Cancels => {
+            calendar.cancel(Key::Job(job));
+        }
+        Booked::Same | Booked::Books(_) => {}
+    }
+}
