@@ -1,3 +1,4 @@
 pub mod Loads
 pub mod Fitting
 pub mod Schedules
+pub mod Timelines
