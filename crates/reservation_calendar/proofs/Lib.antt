@@ -6,3 +6,5 @@ pub mod Edges
 pub mod Places
 pub mod Raising
 pub mod Opening
+pub mod Crossing
+pub mod Runs

@@ -2,3 +2,4 @@ pub mod Loads
 pub mod Fitting
 pub mod Schedules
 pub mod Timelines
+pub mod Heights

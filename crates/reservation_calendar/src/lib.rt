@@ -4,6 +4,7 @@
 mod bookings;
 mod boundaries;
 mod calendar;
+mod heights;
 mod laws;
 mod loads;
 mod searches;
