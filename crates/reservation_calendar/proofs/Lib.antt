@@ -1,6 +1,5 @@
 pub mod Ends
 pub mod LoadLaws
-pub mod Walks
 pub mod Keeping
 pub mod Edges
 pub mod Places
@@ -8,3 +7,5 @@ pub mod Raising
 pub mod Opening
 pub mod Crossing
 pub mod Runs
+pub mod Numbering
+pub mod Ties

@@ -3,3 +3,5 @@ pub mod Fitting
 pub mod Schedules
 pub mod Timelines
 pub mod Heights
+pub mod Keys
+pub mod Calendars

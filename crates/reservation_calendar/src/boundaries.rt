@@ -4,7 +4,7 @@ ghost use Rattle.std.specs.Prelude.{◌≡◌, ℕ, ◌+◌, ◌^◌, ◌<◌, �
 ghost use Rattle.reservation_calendar.specs.Loads.{is_before};
 ghost use Rattle.reservation_calendar.specs.Timelines.{IsRising, IsPlace, IsRaised, IsAt, IsGapFor, load_before, load_of};
 
-use crate::loads::is_before;
+use crate::bookings::is_before;
 use drmaa_types::{End, Moment};
 
 /// A moment at which bookings start or end.

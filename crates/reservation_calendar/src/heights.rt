@@ -5,8 +5,8 @@ ghost use Rattle.std.specs.Option.{option_or};
 ghost use Rattle.reservation_calendar.specs.Timelines.{IsTimeline};
 ghost use Rattle.reservation_calendar.specs.Heights.{IsLow, IsAbove, IsLowStart};
 
+use crate::bookings::is_before;
 use crate::boundaries::{Boundary, count_before, count_until, load_before};
-use crate::loads::is_before;
 use drmaa_types::{End, Moment};
 
 /// The least moment of the interval at which the load is above so many slots.

@@ -5,9 +5,8 @@ mod bookings;
 mod boundaries;
 mod calendar;
 mod heights;
+mod keyed;
 mod laws;
-mod loads;
-mod searches;
 #[cfg(test)]
 mod tests;
 mod timeline;

@@ -1,12 +1,13 @@
 //! The timeline of bookings: the moments at which they start or end, each with the load from it to the next.
-ghost use Rattle.std.specs.Prelude.{◌≡◌, ℕ, ◌+◌, ◌^◌, ◌<◌, ◌≤◌, ◌-◌, ◌==◌, [], OnOk, IsTrue, if◌then◌else◌, vec_len, vec_capacity};
+ghost use Rattle.std.specs.Prelude.{◌≡◌, ℕ, ◌+◌, ◌^◌, ◌<◌, ◌≤◌, ◌-◌, ◌==◌, [], OnOk, IfSome, IfNone, IsTrue, if◌then◌else◌, vec_len, vec_capacity};
 ghost use Rattle.std.specs.List.{insert};
 ghost use Rattle.reservation_calendar.specs.Loads.{is_before, is_end, slots_at};
 ghost use Rattle.reservation_calendar.specs.Fitting.{IsIn};
 ghost use Rattle.reservation_calendar.specs.Timelines.{load_at, edges_at, edges_of, IsLevel, IsBounded};
+ghost use Rattle.reservation_calendar.specs.Heights.{IsLow, IsAbove, IsLowStart};
 
-use crate::Booking;
 use crate::boundaries::{Boundary, count_before, load_before, lower, raise, search};
+use crate::{Booking, heights};
 use drmaa_types::{End, Moment};
 use std::alloc::{AllocError, Global};
 use std::marker::Model;
@@ -78,6 +79,36 @@ impl Timeline {
         self.lower(booking);
         self.shut(booking.from);
         self.shut_end(&booking.until);
+    }
+
+    /// The least moment of the interval at which the load is above so many slots.
+    pub fn first_above(&self, most: u32, from: Moment, until: &End) -> Option<Moment>
+        ensures above { IfSome result (IsAbove self.now.steps most from until.now) }
+        ensures least { IfSome result
+            (λ x. (y : ℕ) → IsAbove self.now.steps most from until.now y → x ≤ y) }
+        ensures none { IfNone result (IsLow self.now.steps most from until.now) }
+    {
+        heights::first_above(&self.steps, most, from, until)
+    }
+
+    /// The greatest load in the interval; 0 where it has no moment.
+    pub fn greatest_in(&self, from: Moment, until: &End) -> u32
+        ensures high { IsLow self.now.steps result from until.now }
+        ensures least { (most : ℕ) → IsLow self.now.steps most from until.now → result ≤ most }
+    {
+        heights::greatest_in(&self.steps, from, until)
+    }
+
+    /// The least start at or after `from` from which the load is at most so many slots for `span` seconds, where
+    /// these end at or before `until`.
+    pub fn earliest(&self, most: u32, from: Moment, until: Moment, span: u64) -> Option<Moment>
+        requires { 0 < span }
+        ensures low { IfSome result (IsLowStart self.now.steps most from until span) }
+        ensures least { IfSome result
+            (λ x. (y : ℕ) → IsLowStart self.now.steps most from until span y → x ≤ y) }
+        ensures none { IfNone result ((y : ℕ) → IsLowStart self.now.steps most from until span y → ⊥) }
+    {
+        heights::earliest(&self.steps, most, from, until, span)
     }
 
     // One more booking starts or ends at the moment; a boundary for it has room.
