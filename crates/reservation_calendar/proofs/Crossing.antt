@@ -1,11 +1,10 @@
 -- A walk over the boundaries of an interval: what is known of the moments that it has passed.
-use Rattle.std.proofs.Common.{◌≡◌, ℕ, zero, suc, ◌+◌, ◌<◌, ◌≤◌, Bool, true, false, leb, ltb, List, [], ◌∷◌, length, get_or, max, inl, inr, refl, sym, ap, ◌∙◌, subst, arith}
-use Rattle.std.proofs.lemmas.Bool.{cases_lt, both_ways, lt-ltb, ltb-true, le-leb, leb-true}
+use Rattle.std.proofs.Common.{◌≡◌, ℕ, ◌+◌, ◌<◌, ◌≤◌, true, leb, List, length, get_or, inl, inr, sym, ap, subst, arith}
+use Rattle.std.proofs.lemmas.Bool.{cases_lt, both_ways, leb-true}
 use Rattle.std.proofs.lemmas.Bool.Decides.{nat_tests}
 use Rattle.std.proofs.lemmas.List.{get_or_default}
 use Rattle.drmaa_types.specs.Moments.{greatest}
 use Rattle.drmaa_types.specs.declared.moments.End.{End}
-use Rattle.drmaa_types.specs.declared.moments.End.TheVariants.{At, Never}
 use Rattle.reservation_calendar.specs.declared.boundaries.Boundary.{Boundary}
 use Rattle.reservation_calendar.specs.Loads.{is_before}
 use Rattle.reservation_calendar.specs.Fitting.{IsIn}
@@ -13,7 +12,6 @@ use Rattle.reservation_calendar.specs.Timelines.{IsTimeline, IsPlace, load_at, l
 use Rattle.reservation_calendar.specs.Heights.{IsLow, IsAbove}
 use Rattle.reservation_calendar.proofs.Ends.{is_before-le}
 use Rattle.reservation_calendar.proofs.Places.{ordered, load_there, load_piece}
-use Rattle.reservation_calendar.proofs.Raising.{load_here}
 
 -- a moment comes before the boundary at place k, if there is one
 abbrev pub IsPassed : List Boundary → ℕ → ℕ → Type 0

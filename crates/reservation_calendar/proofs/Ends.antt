@@ -1,10 +1,8 @@
 -- Which moments are before an end.
-use Rattle.std.proofs.Common.{◌≡◌, ℕ, ◌≤◌, true, false, refl, arith}
-use Rattle.std.proofs.lemmas.Bool.Decides.{nat_tests}
+use Rattle.std.proofs.Common.{◌≡◌, ℕ, ◌≤◌, true, refl, arith}
 use Rattle.std.proofs.lemmas.Bool.{ltb-true, lt-ltb}
 use Rattle.drmaa_types.specs.declared.moments.End.{End}
 use Rattle.drmaa_types.specs.declared.moments.End.TheVariants.{At, Never}
-use Rattle.reservation_calendar.specs.declared.bookings.Booking.{Booking}
 use Rattle.reservation_calendar.specs.Loads.{is_before}
 
 -- what is not after a moment before the end is before it too

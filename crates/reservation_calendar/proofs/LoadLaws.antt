@@ -1,14 +1,10 @@
 -- Where a load may rise and fall.
-use Rattle.std.proofs.Common.{◌≡◌, ℕ, ◌≤◌, true, false, leb, List, [], ◌∷◌, All, inl, inr, refl, arith}
-use Rattle.std.proofs.lemmas.Bool.{lt-ltb, leb-true, le-leb, and_parts, and_from, cases_Bool, cond-true, cond-false, cases_lt}
-use Rattle.std.proofs.lemmas.Bool.Decides.{nat_tests}
+use Rattle.std.proofs.Common.{◌≡◌, ℕ, ◌≤◌, true, leb, List, [], ◌∷◌, All, inl, inr, arith}
+use Rattle.std.proofs.lemmas.Bool.{leb-true, le-leb, and_parts, and_from, cases_Bool, cond-true, cond-false}
 use Rattle.std.proofs.lemmas.List.Sums.{sum_by-cons}
-use Rattle.std.proofs.lemmas.List.Elements.{All-head, All-tail, All-weaker}
-use Rattle.drmaa_types.specs.declared.moments.End.{End}
-use Rattle.drmaa_types.specs.declared.moments.End.TheVariants.{At, Never}
+use Rattle.std.proofs.lemmas.List.Elements.{All-head, All-tail}
 use Rattle.reservation_calendar.specs.declared.bookings.Booking.{Booking}
 use Rattle.reservation_calendar.specs.Loads.{is_before, covers, slots_at, load}
-use Rattle.reservation_calendar.proofs.Ends.{is_before-le}
 
 -- what a booking covers, in parts
 pub covers-from : (x : ℕ) (b : Booking) → covers x b ≡ true → b.from ≤ x

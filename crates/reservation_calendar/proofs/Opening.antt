@@ -1,17 +1,16 @@
 -- A boundary that is put among others, counted once more or less, or taken out.
-use Rattle.std.proofs.Common.{◌≡◌, ℕ, zero, suc, ◌+◌, ◌-◌, ◌<◌, ◌≤◌, ◌≢◌, Bool, true, false, leb, ltb, eqb, List, [], ◌∷◌, length, get_or, set, sum_by, if◌then◌else◌, inl, inr, refl, sym, ap, ◌∙◌, arith}
+use Rattle.std.proofs.Common.{◌≡◌, ℕ, zero, suc, ◌-◌, ◌<◌, ◌≤◌, ◌≢◌, true, false, leb, eqb, List, [], ◌∷◌, length, get_or, set, if◌then◌else◌, inl, inr, refl, sym, ap, ◌∙◌, arith}
 use Rattle.std.specs.List.{insert, remove, All, AllPairs}
-use Rattle.std.proofs.lemmas.Bool.{cases_lt, cases_Bool, both_ways, lt-ltb, le-leb, leb-true, ltb-true, eqb-true, eq-eqb, eqb-false, cond-true, cond-false}
+use Rattle.std.proofs.lemmas.Bool.{cases_lt, cases_Bool, le-leb, eq-eqb, cond-true, cond-false}
 use Rattle.std.proofs.lemmas.Bool.Decides.{nat_tests}
 use Rattle.std.proofs.lemmas.List.{get_or_default}
-use Rattle.std.proofs.lemmas.List.Sums.{sum_by-cons, sum_by-set, sum_by-insert, sum_by-remove}
+use Rattle.std.proofs.lemmas.List.Sums.{sum_by-cons}
 use Rattle.std.proofs.lemmas.List.Elements.{All-cons, All-take, All-drop, All-append}
 use Rattle.std.proofs.lemmas.List.Kept.{AllPairs-cons}
-use Rattle.std.proofs.lemmas.List.Quantifiers.{all_pairs_remove}
 use Rattle.drmaa_types.specs.Moments.{greatest}
 use Rattle.reservation_calendar.specs.declared.boundaries.Boundary.{Boundary}
-use Rattle.reservation_calendar.specs.Timelines.{IsTimeline, IsRising, IsPlace, IsAt, IsGapFor, IsLevel, load_after, load_at, load_before, load_of, moment_of, edges_at, nowhere}
-use Rattle.reservation_calendar.proofs.Places.{ordered, load_zero, load_there, load_piece}
+use Rattle.reservation_calendar.specs.Timelines.{IsTimeline, IsRising, IsPlace, IsAt, IsGapFor, IsLevel, load_after, load_at, load_of, moment_of, edges_at, nowhere}
+use Rattle.reservation_calendar.proofs.Places.{ordered, load_zero, load_piece}
 use Rattle.reservation_calendar.proofs.Raising.{load_here}
 
 -- how often a boundary is counted at a moment

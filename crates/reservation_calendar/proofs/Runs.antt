@@ -1,18 +1,17 @@
 -- The one pass that finds the least low start: since when the load is low, from boundary to boundary.
-use Rattle.std.proofs.Common.{◌≡◌, ℕ, zero, suc, ◌+◌, ◌<◌, ◌≤◌, Bool, true, false, leb, ltb, List, [], ◌∷◌, length, Option, Some, None, IsSomeAnd, if◌then◌else◌, inl, inr, refl, sym, ap, ◌∙◌, subst, arith}
+use Rattle.std.proofs.Common.{◌≡◌, ℕ, suc, ◌+◌, ◌<◌, ◌≤◌, leb, List, length, Option, Some, None, IsSomeAnd, if◌then◌else◌, inl, inr, subst, arith}
 use Rattle.std.specs.Option.{option_or, IfSome}
-use Rattle.std.proofs.lemmas.Bool.{cases_lt, cases_Bool, lt-ltb, ltb-true, le-leb, leb-true}
+use Rattle.std.proofs.lemmas.Bool.{cases_lt, cases_Bool, lt-ltb, ltb-true, leb-true}
 use Rattle.std.proofs.lemmas.Bool.Decides.{nat_tests}
 use Rattle.drmaa_types.specs.Moments.{greatest}
-use Rattle.drmaa_types.specs.declared.moments.End.{End}
-use Rattle.drmaa_types.specs.declared.moments.End.TheVariants.{At, Never}
+use Rattle.drmaa_types.specs.declared.moments.End.TheVariants.{At}
 use Rattle.reservation_calendar.specs.declared.boundaries.Boundary.{Boundary}
 use Rattle.reservation_calendar.specs.Loads.{is_before}
 use Rattle.reservation_calendar.specs.Timelines.{IsTimeline, IsPlace, load_at, load_before, load_of, moment_of, nowhere}
-use Rattle.reservation_calendar.specs.Heights.{IsLow, IsLowStart}
+use Rattle.reservation_calendar.specs.Heights.{IsLowStart}
 use Rattle.reservation_calendar.proofs.Places.{load_piece}
 use Rattle.reservation_calendar.proofs.Raising.{load_here}
-use Rattle.reservation_calendar.proofs.Crossing.{IsPassed, LowUntil, first_piece, low_first, low_more, all_passed}
+use Rattle.reservation_calendar.proofs.Crossing.{IsPassed, LowUntil, first_piece, low_first, low_more}
 
 module _ (steps : List Boundary) (most from until span : ℕ) where
   -- the load is low from this start until the boundary at place k, and no low start comes before it

@@ -1,15 +1,14 @@
 -- A timeline that agrees with bookings: what one says of the other.
-use Rattle.std.proofs.Common.{◌≡◌, ℕ, ◌+◌, ◌-◌, ◌*◌, ◌<◌, ◌≤◌, Bool, true, false, ◌&&◌, eqb, List, [], ◌∷◌, ◌++◌, length, get_or, sum_by, Contains, All, if◌then◌else◌, inl, inr, refl, sym, ap, ◌∙◌, subst, arith}
-use Rattle.std.specs.List.{list_any, list_all}
+use Rattle.std.proofs.Common.{◌≡◌, ℕ, ◌+◌, ◌-◌, ◌*◌, ◌≤◌, true, false, eqb, List, [], ◌∷◌, ◌++◌, length, get_or, Contains, if◌then◌else◌, inl, inr, refl, sym, ap, ◌∙◌, subst, arith}
+use Rattle.std.specs.List.{list_all}
 use Rattle.std.proofs.lemmas.Bool.{cases_Bool, cond_both, cond-true, cond-false, eq-eqb, or_from}
 use Rattle.std.proofs.lemmas.List.Sums.{sum_by-cons, sum_by_push, sum_by-le, AllPass-from_list_all}
-use Rattle.drmaa_types.specs.Moments.{greatest}
 use Rattle.drmaa_types.specs.declared.moments.End.{End}
-use Rattle.drmaa_types.specs.declared.moments.End.TheVariants.{At, Never}
+use Rattle.drmaa_types.specs.declared.moments.End.TheVariants.{At}
 use Rattle.reservation_calendar.specs.declared.bookings.Booking.{Booking}
 use Rattle.reservation_calendar.specs.declared.boundaries.Boundary.{Boundary}
 use Rattle.reservation_calendar.specs.Loads.{is_before, covers, load, slots_at, is_end, starts_at, ends_at}
-use Rattle.reservation_calendar.specs.Schedules.{Schedule, schedule, without, booked_once, IsSound}
+use Rattle.reservation_calendar.specs.Schedules.{schedule, without, IsSound}
 use Rattle.reservation_calendar.specs.Fitting.{IsIn, IsOverfull, Fits, IsFittingStart}
 use Rattle.reservation_calendar.specs.Timelines.{load_at, edges_at, edges_of, edges, IsLevel}
 use Rattle.reservation_calendar.specs.Heights.{IsLow, IsAbove, IsLowStart}

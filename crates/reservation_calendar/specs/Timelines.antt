@@ -5,8 +5,7 @@ use Rattle.drmaa_types.specs.declared.moments.End.{End}
 use Rattle.drmaa_types.specs.declared.moments.End.TheVariants.{At, Never}
 use Rattle.reservation_calendar.specs.declared.bookings.Booking.{Booking}
 use Rattle.reservation_calendar.specs.declared.boundaries.Boundary.{Boundary}
-use Rattle.reservation_calendar.specs.Loads.{is_before, is_end}
-use Rattle.reservation_calendar.specs.Fitting.{IsIn}
+use Rattle.reservation_calendar.specs.Loads.{is_end}
 
 -- each boundary comes before all later ones
 abbrev pub IsRising : List Boundary → Type 0

@@ -1,11 +1,11 @@
-use Rattle.std.proofs.Common.{◌≡◌, ◌≤◌, ◌<◌, ◌+◌, ℕ, length, true, false, rules, refl, sym, Option, IsSomeAnd, arith}
+use Rattle.std.proofs.Common.{◌≡◌, ◌≤◌, ◌<◌, ◌+◌, ℕ, length, true, rules, IsSomeAnd, arith}
 use Rattle.std.proofs.lemmas.Bool.{both_ways}
 use Rattle.std.proofs.lemmas.Bool.Decides.{nat_tests}
 use Rattle.drmaa_types.specs.Moments.{greatest}
 use Rattle.drmaa_types.specs.declared.moments.End.TheVariants.{At}
 use Rattle.reservation_calendar.specs.Loads.{is_before}
 use Rattle.reservation_calendar.specs.Timelines.{moment_of}
-use Rattle.reservation_calendar.proofs.Crossing.{in_order, all_passed, read_load, read_moment}
+use Rattle.reservation_calendar.proofs.Crossing.{in_order, read_load, read_moment}
 use Rattle.reservation_calendar.proofs.Runs.{run_start, run_more, run_low, run_least, run_none}
 use Rattle.reservation_calendar.proofs.heights.earliest.Goals as goal
 

@@ -1,6 +1,5 @@
-use Rattle.std.proofs.Common.{◌≡◌, ◌≤◌, ◌<◌, ◌+◌, length, rules, sym, arith}
+use Rattle.std.proofs.Common.{◌≡◌, ◌≤◌, ◌<◌, length, rules, sym, arith}
 use Rattle.drmaa_types.specs.Moments.{greatest}
-use Rattle.reservation_calendar.specs.Heights.{IsAbove}
 use Rattle.reservation_calendar.proofs.Raising.{load_here}
 use Rattle.reservation_calendar.proofs.Crossing.{low_first, low_more, low_all, in_order, step_inside, read_load, read_moment, start_inside, load_first, above_later}
 use Rattle.reservation_calendar.proofs.heights.first_above.Goals as goal

@@ -1,4 +1,4 @@
-use Rattle.std.proofs.Common.{◌≡◌, ◌≤◌, ◌<◌, ◌+◌, length, rules, sym, arith}
+use Rattle.std.proofs.Common.{◌≡◌, ◌≤◌, ◌<◌, length, rules, sym, arith}
 use Rattle.drmaa_types.specs.Moments.{greatest}
 use Rattle.reservation_calendar.proofs.Raising.{load_here}
 use Rattle.reservation_calendar.proofs.Crossing.{low_first, low_more, low_all, low_raise, in_order, step_inside, read_load, start_inside, load_first}

@@ -1,5 +1,5 @@
-use Rattle.std.proofs.Common.{◌≡◌, sym, ap, ◌∙◌}
-use Rattle.reservation_calendar.specs.Schedules.{schedule, without}
+use Rattle.std.proofs.Common.{sym, ap, ◌∙◌}
+use Rattle.reservation_calendar.specs.Schedules.{schedule}
 use Rattle.reservation_calendar.proofs.Keeping.{IsSound-without, without_absent}
 use Rattle.reservation_calendar.proofs.Ties.{kept_without, off_level}
 use Rattle.reservation_calendar.proofs.calendar.Calendar.cancel.Goals as goal

@@ -1,4 +1,4 @@
-use Rattle.std.proofs.Common.{◌≡◌, ◌≤◌, rules, refl, sym, arith}
+use Rattle.std.proofs.Common.{◌≤◌, rules, refl, sym, arith}
 use Rattle.drmaa_types.specs.Moments.{greatest}
 use Rattle.reservation_calendar.proofs.Crossing.{start_inside}
 use Rattle.reservation_calendar.proofs.Ties.{low_total, room_most}

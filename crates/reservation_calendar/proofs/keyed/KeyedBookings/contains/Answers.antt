@@ -1,4 +1,4 @@
-use Rattle.std.proofs.Common.{is_some, sym, ap, ◌∙◌}
+use Rattle.std.proofs.Common.{is_some, ap, ◌∙◌}
 use Rattle.reservation_calendar.specs.Schedules.{is_booked}
 use Rattle.reservation_calendar.proofs.Numbering.{number_some}
 use Rattle.reservation_calendar.proofs.keyed.KeyedBookings.contains.Goals as goal

@@ -1,8 +1,6 @@
-use Rattle.std.proofs.Common.{◌≡◌, ℕ, false, Result, Ok, Err, sym, ap, ◌∙◌, cond, Some, arith}
+use Rattle.std.proofs.Common.{◌≡◌, false, Result, Ok, Err, sym, ap, ◌∙◌, arith}
 use Rattle.std.specs.Result.{OnOk, is_err}
-use Rattle.std.specs.Ordering.{is_eq}
 use Rattle.std.specs.BTreeMap as tree
-use Rattle.reservation_calendar.specs.declared.bookings.Key.{Key}
 use Rattle.reservation_calendar.specs.Schedules.{is_booked}
 use Rattle.reservation_calendar.specs.Keys.{key_order}
 use Rattle.reservation_calendar.proofs.Numbering.{pushed_keyed}

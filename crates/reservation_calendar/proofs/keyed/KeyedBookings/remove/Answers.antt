@@ -1,4 +1,4 @@
-use Rattle.std.proofs.Common.{◌≡◌, ◌<◌, true, false, length, get_or, Option, Some, None, is_some, sym, ap, ◌∙◌, refl, arith}
+use Rattle.std.proofs.Common.{◌≡◌, false, is_some, sym, ap, ◌∙◌, arith}
 use Rattle.reservation_calendar.specs.declared.bookings.Booking.{Booking}
 use Rattle.reservation_calendar.specs.Schedules.{is_booked, without}
 use Rattle.reservation_calendar.proofs.Keeping.{without_absent}

@@ -1,8 +1,8 @@
-use Rattle.std.proofs.Common.{◌≡◌, ◌≤◌, rules, get_or, sym, ap, ◌∙◌, refl, arith}
+use Rattle.std.proofs.Common.{◌≡◌, ◌≤◌, rules, get_or, ap, ◌∙◌, refl, arith}
 use Rattle.std.proofs.lemmas.List.{get_or_default}
 use Rattle.drmaa_types.specs.Moments.{greatest}
 use Rattle.reservation_calendar.specs.declared.boundaries.Boundary.{Boundary}
-use Rattle.reservation_calendar.specs.Timelines.{Line, edges_at, load_at, nowhere}
+use Rattle.reservation_calendar.specs.Timelines.{load_at, nowhere}
 use Rattle.reservation_calendar.proofs.Places.{load_there}
 use Rattle.reservation_calendar.proofs.Opening.{set_loads, inserted_loads, gap_place, opened_sound}
 use Rattle.reservation_calendar.proofs.timeline.Timeline.open.Goals as goal

@@ -1,5 +1,5 @@
-use Rattle.std.proofs.Common.{◌≡◌, ◌+◌, ◌<◌, ◌^◌, sym, ap, ◌∙◌, arith}
-use Rattle.reservation_calendar.specs.Timelines.{Line, load_at, load_of, moment_of}
+use Rattle.std.proofs.Common.{◌≡◌, sym, ap, arith}
+use Rattle.reservation_calendar.specs.Timelines.{Line, load_at, moment_of}
 use Rattle.reservation_calendar.proofs.Raising.{places_in_order, between_places, load_here, raised_loads, raised_edges, raised_sound}
 use Rattle.reservation_calendar.proofs.timeline.Timeline.raise.Goals as goal
 

@@ -1,7 +1,7 @@
 use Rattle.std.proofs.Common.{◌≡◌, get_or, sym, ap, ◌∙◌, arith}
 use Rattle.std.proofs.lemmas.List.{get_or_default}
 use Rattle.reservation_calendar.specs.declared.boundaries.Boundary.{Boundary}
-use Rattle.reservation_calendar.specs.Timelines.{Line, edges_at, nowhere}
+use Rattle.reservation_calendar.specs.Timelines.{edges_at, nowhere}
 use Rattle.reservation_calendar.proofs.Opening.{set_loads, shut_loads, edges_found, gap_edges}
 use Rattle.reservation_calendar.proofs.timeline.Timeline.shut.Goals as goal
 
