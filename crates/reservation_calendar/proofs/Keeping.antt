@@ -57,13 +57,13 @@ shorter_without {X} p (x ∷ xs) =
     ]
 
 -- keys
-same_key-comm : (a b : Key) → same_key a b ≡ same_key b a
+pub same_key-comm : (a b : Key) → same_key a b ≡ same_key b a
 same_key-comm (Job a) (Job b) = grind (arith, nat_tests)
 same_key-comm (Job a) (Reservation b) = refl
 same_key-comm (Reservation a) (Job b) = refl
 same_key-comm (Reservation a) (Reservation b) = grind (arith, nat_tests)
 
-once-filter : (p : Booking → Bool) (bs : List Booking) → booked_once bs ≡ true → booked_once (filter p bs) ≡ true
+pub once-filter : (p : Booking → Bool) (bs : List Booking) → booked_once bs ≡ true → booked_once (filter p bs) ≡ true
 once-filter p [] h = refl
 once-filter p (b ∷ bs) h =
     let parts = and_parts (not (is_booked bs b.key)) (booked_once bs) h in
@@ -79,7 +79,7 @@ is_booked-push (a ∷ bs) b key absent other =
     let parts = or_parts (same_key a.key key) (is_booked bs key) absent in
     or_from (same_key a.key key) (is_booked (bs ++ b ∷ []) key) parts.0 (is_booked-push bs b key parts.1 other)
 
-once-push : (bs : List Booking) (b : Booking) → booked_once bs ≡ true → is_booked bs b.key ≡ false → booked_once (bs ++ b ∷ []) ≡ true
+pub once-push : (bs : List Booking) (b : Booking) → booked_once bs ≡ true → is_booked bs b.key ≡ false → booked_once (bs ++ b ∷ []) ≡ true
 once-push [] b once absent = refl
 once-push (a ∷ bs) b once absent =
     let parts = and_parts (not (is_booked bs a.key)) (booked_once bs) once in
@@ -122,7 +122,7 @@ without_absent (b ∷ bs) key absent =
     let parts = or_parts (same_key b.key key) (is_booked bs key) absent in
     cond-true (not (same_key b.key key)) (b ∷ without key bs) (without key bs) (not_from_false _ parts.0) ∙ ap (λ ys. b ∷ ys) (without_absent bs key parts.1)
 
-same_key-refl : (a : Key) → same_key a a ≡ true
+pub same_key-refl : (a : Key) → same_key a a ≡ true
 same_key-refl (Job a) = eq-eqb a.0 a.0 refl
 same_key-refl (Reservation a) = eq-eqb a.0 a.0 refl
 
@@ -131,23 +131,27 @@ booked_at [] b k inside at = absurd (omega arith)
 booked_at (a ∷ bs) b zero inside at = or_left (same_key a.key b.key) (is_booked bs b.key) (rw at (same_key-refl b.key))
 booked_at (a ∷ bs) b (suc k) inside at = or_right (same_key a.key b.key) (is_booked bs b.key) (booked_at bs b k (omega arith) at)
 
--- without a booking's key the load is less by what that booking takes
-load-without : (bs : List Booking) (b : Booking) (x k : ℕ) → booked_once bs ≡ true → k < length bs → get_or bs k b ≡ b → load (without b.key bs) x + slots_at x b ≡ load bs x
-load-without [] b x k once inside at = absurd (omega arith)
-load-without (a ∷ bs) b x zero once inside at =
+-- a sum over bookings is less without one by what is summed for it
+sum_without_at : (f : Booking → ℕ) (bs : List Booking) (b : Booking) (k : ℕ) → booked_once bs ≡ true → k < length bs → get_or bs k b ≡ b → sum_by f (without b.key bs) + f b ≡ sum_by f bs
+sum_without_at f [] b k once inside at = absurd (omega arith)
+sum_without_at f (a ∷ bs) b zero once inside at =
     let parts = and_parts (not (is_booked bs a.key)) (booked_once bs) once in
     let absent : is_booked bs b.key ≡ false = rw (← at) (not-true (is_booked bs a.key) parts.0) in
     let gone : not (same_key a.key b.key) ≡ false = not_from_true (same_key a.key b.key) (rw at (same_key-refl b.key)) in
     let rest : without b.key (a ∷ bs) ≡ bs = cond-false (not (same_key a.key b.key)) (a ∷ without b.key bs) (without b.key bs) gone ∙ without_absent bs b.key absent in
-    let takes : slots_at x a ≡ slots_at x b = ap (slots_at x) at in
-    rw rest (omega (arith, sum_by-cons (slots_at x) a bs))
-load-without (a ∷ bs) b x (suc k) once inside at =
+    let takes : f a ≡ f b = ap f at in
+    rw rest (omega (arith, sum_by-cons f a bs))
+sum_without_at f (a ∷ bs) b (suc k) once inside at =
     let parts = and_parts (not (is_booked bs a.key)) (booked_once bs) once in
     let fresh = all_fail (λ (o : Booking). same_key o.key a.key) bs (not-true (is_booked bs a.key) parts.0) k b (omega arith) in
     let apart : same_key a.key b.key ≡ false = same_key-comm a.key b.key ∙ (sym (ap (λ (o : Booking). same_key o.key a.key) at) ∙ fresh) in
     let rest : without b.key (a ∷ bs) ≡ a ∷ without b.key bs = cond-true (not (same_key a.key b.key)) (a ∷ without b.key bs) (without b.key bs) (not_from_false _ apart) in
-    let tail = load-without bs b x k parts.1 (omega arith) at in
-    rw rest (omega (arith, sum_by-cons (slots_at x) a bs, sum_by-cons (slots_at x) a (without b.key bs)))
+    let tail = sum_without_at f bs b k parts.1 (omega arith) at in
+    rw rest (omega (arith, sum_by-cons f a bs, sum_by-cons f a (without b.key bs)))
 
+pub sum-without : (f : Booking → ℕ) (bs : List Booking) (b : Booking) → booked_once bs ≡ true → Contains bs b → sum_by f (without b.key bs) + f b ≡ sum_by f bs
+sum-without f bs b once there = sum_without_at f bs b there.0 once there.1 there.2
+
+-- and so is the load
 pub load-cancelled : (s : Schedule) (b : Booking) (x : ℕ) → IsSound s → Contains s.bookings b → load (without b.key s.bookings) x + slots_at x b ≡ load s.bookings x
-load-cancelled s b x sound booked = load-without s.bookings b x booked.0 sound.once booked.1 booked.2
+load-cancelled s b x sound booked = sum-without (slots_at x) s.bookings b sound.once booked

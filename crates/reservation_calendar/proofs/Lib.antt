@@ -1,5 +1,11 @@
 pub mod Ends
 pub mod LoadLaws
-pub mod Walks
 pub mod Keeping
 pub mod Edges
+pub mod Places
+pub mod Raising
+pub mod Opening
+pub mod Crossing
+pub mod Runs
+pub mod Numbering
+pub mod Ties

@@ -1,5 +1,5 @@
 -- Which moments a booking covers, and the slots that bookings take at a moment: our profile.
-use Rattle.std.specs.Prelude.{◌≡◌, ℕ, ◌<◌, Bool, true, false, ◌&&◌, ◌==◌, nat_lt, nat_le, List, sum_by, if◌then◌else◌, IsTrue}
+use Rattle.std.specs.Prelude.{ℕ, Bool, true, false, ◌&&◌, ◌==◌, nat_lt, nat_le, List, sum_by, if◌then◌else◌}
 use Rattle.std.specs.List.{list_any}
 use Rattle.drmaa_types.specs.declared.moments.End.{End}
 use Rattle.drmaa_types.specs.declared.moments.End.TheVariants.{At, Never}
@@ -34,16 +34,3 @@ starts_at bookings x = list_any (λ b. b.from == x) bookings
 -- whether a booking ends at a moment
 abbrev pub ends_at : List Booking → ℕ → Bool
 ends_at bookings x = list_any (λ b. is_end x b.until) bookings
-
--- The booking does not start after the moment and before the end.
-abbrev pub StartsOutside : ℕ → End → Booking → Type 0
-StartsOutside x next b = x < b.from → IsTrue (is_before b.from next) → ⊥
-
--- whether an end is after the moment and before the next end
-abbrev pub ends_between : ℕ → End → End → Bool
-ends_between x (At end) next = nat_lt x end && is_before end next
-ends_between x Never next = false
-
--- The booking does not end after the moment and before the next end.
-abbrev pub EndsOutside : ℕ → End → Booking → Type 0
-EndsOutside x next b = ends_between x b.until next ≡ false

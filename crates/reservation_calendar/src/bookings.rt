@@ -1,10 +1,11 @@
 //! A booking: slots from a moment until an end, under the key of a job or of a reservation.
+ghost use Rattle.std.specs.Prelude.{◌≡◌};
+ghost use Rattle.reservation_calendar.specs.Loads.{is_before};
 
-use crate::loads::is_before;
 use drmaa_types::{End, JobId, Moment, ReservationId};
 
 /// What a booking is for.
-#[derive(Clone, Copy, Debug, PartialEq, Eq)]
+#[derive(Clone, Copy, Debug, PartialEq, Eq, PartialOrd, Ord)]
 pub enum Key {
     Job(JobId),
     Reservation(ReservationId),
@@ -28,5 +29,15 @@ impl Booking {
         ensures { result ≡ covers x self.now }
     {
         self.from <= x && is_before(x, &self.until)
+    }
+}
+
+/// Whether the moment is before the end: it is before `Never`.
+pub fn is_before(x: Moment, until: &End) -> bool
+    ensures { result ≡ is_before x until.now }
+{
+    match until {
+        End::At(end) => x < *end,
+        End::Never => true,
     }
 }

@@ -4,7 +4,10 @@ ghost use Rattle.reservation_calendar.specs.Loads.{is_before};
 ghost use Rattle.reservation_calendar.specs.Schedules.{schedule, IsSound, is_booked, without};
 ghost use Rattle.reservation_calendar.specs.Fitting.{IsOverfull, Fits, IsFittingStart};
 
-use crate::{Booking, Key, searches};
+use crate::bookings::is_before;
+use crate::keyed::KeyedBookings;
+use crate::timeline::Timeline;
+use crate::{Booking, Key};
 use drmaa_types::{End, Moment, Refusal};
 use std::alloc::Global;
 use std::marker::Model;
@@ -13,18 +16,20 @@ use std::marker::Model;
 /// booking starts before its end, and no key is booked twice.
 #[derive(Drop)]
 pub struct Calendar {
-    bookings: Vec<Booking>,
+    bookings: KeyedBookings,
+    timeline: Timeline,
     total: u32,
 }
 
 impl Model for Calendar {
-    ghost use Rattle.reservation_calendar.specs.Schedules.{Schedule, schedule, IsSound};
+    ghost use Rattle.reservation_calendar.specs.Schedules.{Schedule, schedule};
+    ghost use Rattle.reservation_calendar.specs.Calendars.{IsCalendar};
 
     ghost Value = { Schedule };
 
-    ghost view = { λ c. schedule c.bookings.items c.total };
+    ghost view = { λ c. schedule c.bookings c.total };
 
-    ghost invariant = { λ c. IsSound (schedule c.bookings.items c.total) };
+    ghost invariant = { λ c. IsCalendar c.bookings c.timeline.steps c.total };
 }
 
 impl Calendar {
@@ -33,7 +38,8 @@ impl Calendar {
         ensures { result ≡ schedule [] total }
     {
         Calendar {
-            bookings: Vec::new(alloc),
+            bookings: KeyedBookings::new(alloc),
+            timeline: Timeline::new(alloc),
             total,
         }
     }
@@ -57,7 +63,7 @@ impl Calendar {
     pub fn is_booked(&self, key: Key) -> bool
         ensures { result ≡ is_booked self.now.bookings key }
     {
-        contains_key(&self.bookings, key)
+        self.bookings.contains(key)
     }
 
     /// The least moment of the interval at which so many slots more pass the total. It takes no memory.
@@ -67,7 +73,14 @@ impl Calendar {
             (λ x. (y : ℕ) → IsOverfull self.now slots from until y → x ≤ y) }
         ensures none { IsNone result ↔ Fits self.now slots from until }
     {
-        searches::first_overfull(&self.bookings, self.total, slots, from, &until)
+        let Some(most) = self.total.checked_sub(slots) else {
+            return if is_before(from, &until) {
+                Some(from)
+            } else {
+                None
+            };
+        };
+        self.timeline.first_above(most, from, &until)
     }
 
     /// Whether so many slots fit the interval. It takes no memory.
@@ -87,7 +100,10 @@ impl Calendar {
         ensures none { IsNone result
             ↔ ((y : ℕ) → IsFittingStart self.now slots from until span y → ⊥) }
     {
-        searches::earliest(&self.bookings, self.total, slots, from, until, span)
+        let Some(most) = self.total.checked_sub(slots) else {
+            return None;
+        };
+        self.timeline.earliest(most, from, until, span)
     }
 
     /// The greatest number of slots from `min` to `max` that fits the interval; none where `min` does not
@@ -101,7 +117,15 @@ impl Calendar {
             (λ n. (m : ℕ) → m ≤ max → Fits self.now m from until → m ≤ n) }
         ensures none { IsNone result ↔ ¬ Fits self.now min from until }
     {
-        searches::largest(&self.bookings, self.total, min, max, from, &until)
+        if !is_before(from, &until) {
+            return Some(max);
+        }
+        let room = self.total - self.timeline.greatest_in(from, &until);
+        if room < min {
+            None
+        } else {
+            Some(max.min(room))
+        }
     }
 
     /// Books slots for an interval that they fit, under a key that is not booked.
@@ -127,10 +151,18 @@ impl Calendar {
             from,
             until,
         };
-        match self.bookings.push(booking) {
-            Ok(()) => Ok(()),
-            Err(_) => Err(Refusal::OutOfMemory),
+        let made = &booking;
+        if self.timeline.reserve().is_err() {
+            return Err(Refusal::OutOfMemory);
         }
+        if let Err(refusal) = self
+            .bookings
+            .push(made.key, made.slots, made.from, made.until)
+        {
+            return Err(refusal);
+        }
+        self.timeline.add(made);
+        Ok(())
     }
 
     /// Removes the booking of a key; false where there is none. It takes no memory.
@@ -140,23 +172,10 @@ impl Calendar {
         ensures same { result ≡ false → self.new ≡ self.old }
         ensures sound { IsSound self.new }
     {
-        remove_key(&mut self.bookings, key)
+        let Some(booking) = self.bookings.remove(key) else {
+            return false;
+        };
+        self.timeline.take_off(&booking);
+        true
     }
-}
-
-/// Whether a booking stands under the key.
-fn contains_key(bookings: &[Booking], key: Key) -> bool
-    ensures { result ≡ is_booked bookings.now key }
-{
-    bookings.iter().any(|booking| booking.key == key)
-}
-
-/// Removes the bookings of the key, and says whether there were any.
-fn remove_key(bookings: &mut Vec<Booking>, key: Key) -> bool
-    ensures found { result ≡ is_booked bookings.old.items key }
-    ensures others { bookings.new.items ≡ without key bookings.old.items }
-{
-    let before = bookings.len();
-    bookings.retain(|booking| booking.key != key);
-    bookings.len() < before
 }

@@ -2,12 +2,14 @@
 #![tactic(auto)]
 
 mod bookings;
+mod boundaries;
 mod calendar;
+mod heights;
+mod keyed;
 mod laws;
-mod loads;
-mod searches;
 #[cfg(test)]
 mod tests;
+mod timeline;
 
 pub use bookings::{Booking, Key};
 pub use calendar::Calendar;
