@@ -1,4 +1,4 @@
--- What the callbacks of this crate are seen as: our profile.
+-- What a `MemoryCallback` is seen as: our profile.
 use Rattle.std.specs.Prelude.{ℕ, nat_lt, nat_le, List, [], ◌∷◌, ◌++◌, Option, Some, None, if◌then◌else◌}
 use Rattle.drmaa_types.specs.Readings.{counted_on}
 use Rattle.drmaa_types.specs.declared.changes.Notification.{Notification}
@@ -22,8 +22,3 @@ with_call kept n = record {
   calls = counted_on kept.calls;
   items = if nat_lt kept.calls capacity then kept.items ++ n ∷ [] else kept.items;
 }
-
--- a `ClosureCallback`: the closure, and the number of calls
-pub record Counted (F : Type 0) : Type 0 where
-  pub closure : F
-  pub calls : ℕ

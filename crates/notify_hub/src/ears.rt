@@ -1,6 +1,6 @@
 //! Ears: a caller's callbacks with their places, and what each of them heard.
 ghost use Rattle.std.specs.Prelude.{◌≡◌, ℕ, ◌+◌, ◌-◌, ◌≤◌, ◌++◌, length, slice_set, Some, None, IfOk, IfErr};
-ghost use Rattle.notify_hub.specs.Ears.{Listening, HaveHeard, EachHeard, silent, place_at, due, calls_for};
+ghost use Rattle.notify_hub.specs.Ears.{Listening, HaveHeard, EachHeard, silent, place_at, from_place, due, calls_for};
 
 use crate::handed::Handed;
 use crate::handing::tell_all;
@@ -15,19 +15,19 @@ const NUMBERS: usize = 64;
 
 /// Callbacks, the places from which they hear, and the number of changes that they were handed. Contracts
 /// see the callbacks as they were at first and as they are, the places, and the changes handed over.
-/// By its invariant each callback heard, since the ears were made, exactly the changes from its place
-/// up to the number handed.
+/// Each call keeps `HaveHeard`: each callback heard, since the ears were made, exactly the changes from its
+/// place up to the number handed. The struct has no bound, so that a callback may hold a boxed closure.
 #[derive(Drop)]
-pub struct Ears<B: Callback> {
+pub struct Ears<B> {
     begun: Snapshot<Callbacks<B>>,
     callbacks: Vec<B>,
     places: Vec<Option<u64>>,
     handed: Handed,
 }
 
-impl<B: Callback> Model for Ears<B> {
+impl<B> Model for Ears<B> {
     ghost use Rattle.std.specs.Prelude.{◌≡◌, vec_len};
-    ghost use Rattle.notify_hub.specs.Ears.{Listening, EachHeard, from_place};
+    ghost use Rattle.notify_hub.specs.Ears.{Listening};
 
     ghost Value = { Listening B };
 
@@ -38,7 +38,7 @@ impl<B: Callback> Model for Ears<B> {
       handed = e.handed.changes;
     } };
 
-    ghost invariant = { λ e. (vec_len e.places ≡ 64) × EachHeard B.counted B.told (from_place e.handed.changes) e.places.items e.begun.value e.callbacks.items };
+    ghost invariant = { λ e. vec_len e.places ≡ 64 };
 }
 
 impl<B: Callback> Ears<B> {
@@ -68,7 +68,7 @@ impl<B: Callback> Ears<B> {
         requires unplaced { place_at self.old.places (n - 1) ≡ None }
         requires ahead { length self.old.handed ≤ place }
         ensures placed { self.new ≡ record self.old { places = slice_set self.old.places (n - 1) (Some place) } }
-        ensures heard { HaveHeard B.counted B.told self.new }
+        ensures heard { HaveHeard B.counted B.told self.old → HaveHeard B.counted B.told self.new }
     {
         self.places[n as usize - 1] = Some(place);
     }
@@ -80,7 +80,7 @@ impl<B: Callback> Ears<B> {
         requires { from ≡ length self.old.handed }
         ensures handed { self.new ≡ record self.old { callbacks = self.new.callbacks; handed = self.old.handed ++ batch.now } }
         ensures hears { EachHeard B.counted B.told (due from batch.now) self.old.places self.old.callbacks self.new.callbacks }
-        ensures heard { HaveHeard B.counted B.told self.new }
+        ensures heard { HaveHeard B.counted B.told self.old → HaveHeard B.counted B.told self.new }
         ensures answer { result ≡ calls_for self.old from batch.now }
     {
         let calls = tell_all(&mut self.callbacks, &self.places, from, batch.as_slice());
@@ -91,7 +91,7 @@ impl<B: Callback> Ears<B> {
     /// The callbacks, as many as there were, in their order. It takes no memory.
     pub fn take_back(self) -> Callbacks<B>
         ensures callbacks { result ≡ self.callbacks }
-        ensures heard { HaveHeard B.counted B.told self }
+        ensures heard { HaveHeard B.counted B.told self → EachHeard B.counted B.told (from_place self.handed) self.places self.begun result }
     {
         Callbacks::from_vec(self.callbacks)
     }

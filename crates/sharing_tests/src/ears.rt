@@ -1,0 +1,123 @@
+//! Ears hand changes to callbacks: what each of them heard.
+use drmaa_types::{Change, ChangeBatch, Event, JobId, JobState, Notification};
+use notify_hub::{Callback, Callbacks, ClosureCallback, Ears, MemoryCallback};
+use std::test::Fail;
+
+fn change(entry: u64, job: u64, from: JobState, to: JobState) -> Change {
+    Change {
+        entry,
+        job: JobId(job),
+        home: None,
+        from,
+        to,
+    }
+}
+
+fn heard(job: u64, state: JobState) -> Option<Notification> {
+    Some(Notification {
+        event: Event::NewState,
+        job: JobId(job),
+        home: None,
+        state,
+    })
+}
+
+/// One callback is there from the start. The second one is placed after job 1 was held and released; then
+/// job 1 is launched and fails to start, and job 2 is terminated while it is queued.
+#[test]
+fn the_second_callback_hears_from_its_place_on(rt: HostRuntime) -> Result<(), Fail> {
+    let alloc = rt.alloc();
+    let mut both = Vec::new(alloc);
+    both.push(MemoryCallback::new(alloc)?)?;
+    both.push(MemoryCallback::new(alloc)?)?;
+    let Ok(mut ears) = Ears::new(alloc, Callbacks::from_vec(both)) else {
+        assert!(rt; false, "there is memory");
+        return Ok(());
+    };
+
+    ears.place(1, 0);
+    let mut batch = ChangeBatch::new();
+    batch.push(change(3, 1, JobState::Queued, JobState::QueuedHeld));
+    batch.push(change(4, 1, JobState::QueuedHeld, JobState::Queued));
+    assert_eq!(rt; ears.hand(0, &batch), 2);
+
+    ears.place(2, 2);
+    // A number without a callback hears nothing.
+    ears.place(64, 2);
+    let mut batch = ChangeBatch::new();
+    batch.push(change(6, 1, JobState::Queued, JobState::Running));
+    batch.push(change(7, 1, JobState::Running, JobState::Failed));
+    batch.push(change(9, 2, JobState::Queued, JobState::Failed));
+    assert_eq!(rt; ears.hand(2, &batch), 6);
+
+    let both = ears.take_back();
+    let lists = [
+        [
+            heard(1, JobState::QueuedHeld),
+            heard(1, JobState::Queued),
+            heard(1, JobState::Running),
+            heard(1, JobState::Failed),
+            heard(2, JobState::Failed),
+        ],
+        [
+            heard(1, JobState::Running),
+            heard(1, JobState::Failed),
+            heard(2, JobState::Failed),
+            None,
+            None,
+        ],
+    ];
+    assert_eq!(rt; both.as_slice().len(), 2);
+    for ((callback, list), calls) in both.as_slice().iter().zip(&lists).zip([5, 3]) {
+        assert_eq!(rt; callback.calls(), calls);
+        assert_eq!(rt; callback.heard(0), None);
+        assert_eq!(rt; callback.heard(6), None);
+        for (n, item) in (1..).zip(list) {
+            assert_eq!(rt; callback.heard(n), *item, "item {n}");
+        }
+    }
+    Ok(())
+}
+
+#[test]
+fn a_list_is_told_up_to_its_capacity(rt: HostRuntime) -> Result<(), Fail> {
+    let mut callback = MemoryCallback::new(rt.alloc())?;
+    assert_eq!(rt; callback.heard(1), None);
+    for job in 1..=4_096 {
+        let told = Notification::of(&change(job, job, JobState::Queued, JobState::Running));
+        callback.notify(&told);
+    }
+    assert_eq!(rt; callback.calls(), 4_096);
+    assert_eq!(rt; callback.heard(4_096), heard(4_096, JobState::Running));
+
+    callback.notify(&Notification::of(&change(9, 9, JobState::Running, JobState::Done)));
+    assert_eq!(rt; callback.calls(), 4_097);
+    assert_eq!(rt; callback.heard(1), None);
+    assert_eq!(rt; callback.heard(4_097), None);
+    Ok(())
+}
+
+#[test]
+fn closures_are_called_with_each_notification(rt: HostRuntime) -> Result<(), Fail> {
+    let alloc = rt.alloc();
+    let mut two = Vec::new(alloc);
+    two.push(ClosureCallback::new(Box::new(alloc, |_n: &Notification| {})?))?;
+    let mut last = 0;
+    let keeps = move |n: &Notification| last = n.job.0;
+    two.push(ClosureCallback::new(Box::new(alloc, keeps)?))?;
+    let Ok(mut ears) = Ears::new(alloc, Callbacks::from_vec(two)) else {
+        assert!(rt; false, "there is memory");
+        return Ok(());
+    };
+    ears.place(2, 0);
+    let mut batch = ChangeBatch::new();
+    batch.push(change(2, 1, JobState::Queued, JobState::Failed));
+    batch.push(change(4, 7, JobState::Queued, JobState::Failed));
+    assert_eq!(rt; ears.hand(0, &batch), 2);
+    let two = ears.take_back();
+    for (callback, calls) in two.as_slice().iter().zip([0, 2]) {
+        assert_eq!(rt; callback.calls(), calls);
+        assert_eq!(rt; callback.heard(1), None);
+    }
+    Ok(())
+}

@@ -1,0 +1,5 @@
+//! Tests of what stands between threads and callbacks: ears, and later the lock, the history and the hub.
+#![tactic(auto)]
+
+#[cfg(test)]
+mod ears;
