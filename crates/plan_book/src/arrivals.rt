@@ -92,7 +92,6 @@ impl Book {
         requires kept { IsKept self.old }
         requires entry { entry ≤ 4_000_001 }
         requires limit { limit ≤ 4_000_000 }
-        requires fit { IsFit ((reap target.now).effect entry (advance_plan entry at (plan_of self.old))) }
         ensures meets { Meets (record { answer = Ok tt; plan = (reap target.now).effect entry (advance_plan entry at (plan_of self.old)) })
             (plan_of self.old) entry limit result (plan_of self.new) }
         ensures kept { IsKept self.new }

@@ -6,6 +6,8 @@ mod advances;
 mod arrivals;
 mod book;
 mod bookings;
+mod changes;
+mod controls;
 pub mod courses;
 mod makes;
 mod moves;
@@ -14,6 +16,7 @@ mod reservations;
 mod rooms;
 mod rows;
 pub mod states;
+mod sweeps;
 mod targets;
 mod time;
 

@@ -9,11 +9,11 @@ ghost use Rattle.plan_book.specs.Book.{plan_of, HasRoom, spare, spare_orders, Is
 ghost use Rattle.plan_book.specs.Ties.{MayMake, IsBeside, KeepsTie, booked_first, cancelled_last, is_booking};
 
 use crate::book::Book;
+use crate::changes::push_change;
 use crate::moves::{Booked, Move};
 use crate::orders::edit_orders;
 use crate::rooms::room_of;
 use crate::rows::{askable, owed, put_course};
-use crate::states::is_state;
 use drmaa_types::{Change, JobId, Limit, Moment, Refusal};
 use reservation_calendar::{Calendar, Key};
 use std::alloc::AllocError;
@@ -114,18 +114,6 @@ impl Book {
         push_change(&mut self.changes, change);
         edit_orders(&mut self.orders, m.job, m.orders);
         put_course(&mut self.rows, m.job, &m.after);
-    }
-}
-
-/// Adds a change, unless it leads to the state that it comes from.
-fn push_change(changes: &mut Vec<Change>, change: Change)
-    requires { vec_len changes.old + (if is_state change.from change.to then 0 else 1) ≤ vec_capacity changes.old }
-    ensures items { changes.new.items ≡ changes.old.items ++ (if is_state change.from change.to then [] else change ∷ []) }
-    ensures len { vec_len changes.new ≡ vec_len changes.old + (if is_state change.from change.to then 0 else 1) }
-    ensures capacity { vec_capacity changes.new ≡ vec_capacity changes.old }
-{
-    if !is_state(change.from, change.to) {
-        changes.push_reserved(change);
     }
 }
 

@@ -5,6 +5,7 @@ use Rattle.drmaa_types.specs.declared.refusals.Refusal.TheVariants.{OutOfResourc
 use Rattle.drmaa_types.specs.declared.refusals.Limit.TheVariants as resource
 use Rattle.drmaa_model.specs.declared.rows.Row.{Row}
 use Rattle.drmaa_model.specs.Controlling.{is_done, reap}
+use Rattle.drmaa_model.specs.ControlLaws.{reap-fit}
 use Rattle.drmaa_model.specs.Fit.{IsFit}
 use Rattle.drmaa_model.specs.FitLaws.{advance-fit}
 use Rattle.drmaa_model.specs.Operation.Meets.{served, full}
@@ -59,7 +60,7 @@ returns-clause-kept c =
         changes = omega (arith, ap owed c.drop_done.ensures, left-owed t rows sound, c.advance.ensures.room.changes);
         orders = omega (arith, ap askable c.drop_done.ensures, left-askable t rows sound, c.advance.ensures.room.orders);
       };
-      fit = subst IsFit (sym (plan c)) c.requires.fit;
+      fit = subst IsFit (sym (plan c)) (reap-fit t c.args.entry q (fit c));
       light = omega (arith, ap weight (plan c), size, same, c.requires.kept.light);
       tied = subst (IsTied c.advance.new.self.calendar) (sym (plan c))
           (tied-reaped c.advance.new.self.calendar t q (fit c)

@@ -1,0 +1,152 @@
+//! A control call, on one job or on the members of an array: all jobs that it acts on go on in one step, or nothing changes.
+ghost use Rattle.std.specs.Prelude.{◌≡◌, ◌≢◌, ◌+◌, ◌^◌, ◌<◌, ◌≤◌, ◌++◌, false, map, filter, length, vec_len, vec_capacity, Ok, Err, OnOk, IsOk};
+ghost use Rattle.std.specs.List.{flat_map};
+ghost use Rattle.drmaa_model.specs.Controlling.{control, control_step, is_controlled, asked_orders};
+ghost use Rattle.drmaa_model.specs.Fit.{IsFit};
+ghost use Rattle.drmaa_model.specs.Growth.{is_growing};
+ghost use Rattle.drmaa_model.specs.Operation.{Meets};
+ghost use Rattle.drmaa_model.specs.Time.{advance_plan, lasts, rows_at};
+ghost use Rattle.drmaa_model.specs.TimeLaws.{timed};
+ghost use Rattle.plan_book.specs.Book.{plan_of, HasRoom, IsKept, spare, spare_orders};
+ghost use Rattle.plan_book.specs.Places.{AreInOrder};
+ghost use Rattle.plan_book.specs.Sweeps.{acted, growth, asking, is_asking};
+
+use crate::book::Book;
+use crate::rows::{askable, owed};
+use crate::sweeps::{ask_controls, control_rows, is_controlled, note_controls};
+use crate::time::course_at;
+use drmaa_model::{Accepted, Row, Target};
+use drmaa_types::{Control, Limit, Moment, Refusal};
+use std::alloc::AllocError;
+
+impl Book {
+    /// Hold, release, suspend, resume or terminate each job that is meant and whose state permits it, at a moment, where the
+    /// journal and the memory have room for that.
+    ///
+    /// # Errors
+    ///
+    /// A journal that would be too large, and want of memory. Nothing has changed then.
+    pub fn control(&mut self, at: Moment, entry: u64, limit: u64, target: &Target, what: Control) -> Result<(), Refusal>
+        requires kept { IsKept self.old }
+        requires entry { entry ≤ 4_000_001 }
+        requires limit { limit ≤ 4_000_000 }
+        ensures meets { Meets (record { answer = Ok tt; plan = (control target.now what).effect entry (advance_plan entry at (plan_of self.old)) })
+            (plan_of self.old) entry limit result (plan_of self.new) }
+        ensures kept { IsKept self.new }
+        ensures spare { spare self.old ≤ spare self.new + growth what (acted target.now what (rows_at at (plan_of self.old))) }
+        ensures memory { growth what (acted target.now what (rows_at at (plan_of self.old))) ≤ spare self.old → is_asking what ≡ false
+            → result ≢ Err Refusal.OutOfMemory }
+    {
+        let acted = self.acted(at, target, what);
+        let size = entry + self.weight() + growth(what, acted) as u64;
+        if size > limit {
+            return Err(Refusal::OutOfResource(Limit::Journal { size }));
+        }
+        if self
+            .make_share(growth(what, acted), asking(what, acted))
+            .is_err()
+        {
+            return Err(Refusal::OutOfMemory);
+        }
+        self.advance(at, entry);
+        self.control_now(entry, target, what);
+        Ok(())
+    }
+
+    /// On how many jobs the call will act.
+    fn acted(&self, at: Moment, target: &Target, what: Control) -> usize
+        requires kept { IsKept self.now }
+        ensures value { result ≡ acted target.now what (rows_at at (plan_of self.now)) }
+        ensures few { result ≤ 4_000_000 }
+    {
+        acted_then(
+            &self.reservations,
+            &self.rows,
+            self.moment_at(at),
+            target,
+            what,
+        )
+    }
+
+    /// Takes the memory for so many changes and orders more.
+    fn make_share(&mut self, changes: usize, orders: usize) -> Result<(), AllocError>
+        requires room { HasRoom self.old }
+        requires few_changes { changes < 2 ^ 32 }
+        requires few_orders { orders < 2 ^ 32 }
+        ensures plan { plan_of self.new ≡ plan_of self.old }
+        ensures calendar { self.new.calendar ≡ self.old.calendar }
+        ensures room { HasRoom self.new }
+        ensures more { spare self.old ≤ spare self.new }
+        ensures changes { OnOk result (changes ≤ spare self.new) }
+        ensures orders { OnOk result (orders ≤ spare_orders self.new) }
+        ensures enough { changes ≤ spare self.old → orders ≤ spare_orders self.old → IsOk result }
+    {
+        self.changes.reserve(owed(&self.rows) + changes)?;
+        self.orders.reserve(askable(&self.rows) + orders)
+    }
+
+    /// The jobs go on, where there is room for that.
+    fn control_now(&mut self, entry: u64, target: &Target, what: Control)
+        requires room { HasRoom self.old }
+        requires fit { IsFit (plan_of self.old) }
+        requires changes { growth what (acted target.now what self.old.rows.items) ≤ spare self.old }
+        requires orders { asking what (acted target.now what self.old.rows.items) ≤ spare_orders self.old }
+        ensures plan { plan_of self.new ≡ (control target.now what).effect entry (plan_of self.old) }
+        ensures calendar { self.new.calendar ≡ self.old.calendar }
+        ensures room { HasRoom self.new }
+        ensures spare { spare self.old ≤ spare self.new + growth what (acted target.now what self.old.rows.items) }
+    {
+        note_controls(
+            &self.rows,
+            &mut self.changes,
+            self.moment,
+            entry,
+            target,
+            what,
+        );
+        ask_controls(&self.rows, &mut self.orders, target, what);
+        control_rows(&mut self.rows, self.moment, target, what);
+    }
+}
+
+fn growth(what: Control, n: usize) -> usize
+    ensures value { result ≡ growth what n }
+    ensures few { result ≤ n }
+{
+    match what {
+        Control::Suspend | Control::Resume | Control::Hold | Control::Release => n,
+        Control::Terminate => 0,
+    }
+}
+
+fn asking(what: Control, n: usize) -> usize
+    ensures value { result ≡ asking what n }
+    ensures few { result ≤ n }
+{
+    match what {
+        Control::Suspend | Control::Resume | Control::Terminate => n,
+        Control::Hold | Control::Release => 0,
+    }
+}
+
+/// On how many jobs the call will act, once time has come to this moment.
+fn acted_then(rs: &Vec<Accepted>, rows: &Vec<Row>, moment: Moment, target: &Target, what: Control) -> usize
+    requires order { AreInOrder rs.now.items }
+    ensures { result ≡ length (filter (λ row. is_controlled target.now what (timed moment (filter (lasts moment) rs.now.items) row)) rows.now.items) }
+{
+    let mut acted = 0;
+    for row in rows {
+        if is_controlled_then(rs, row, moment, target, what) {
+            acted += 1;
+        }
+    }
+    acted
+}
+
+/// Whether the call will act on this job, once time has come to this moment.
+fn is_controlled_then(rs: &Vec<Accepted>, row: &Row, moment: Moment, target: &Target, what: Control) -> bool
+    requires order { AreInOrder rs.now.items }
+    ensures { result ≡ is_controlled target.now what (timed moment (filter (lasts moment) rs.now.items) row.now) }
+{
+    is_controlled(target, row, &course_at(rs, row, moment), what)
+}
