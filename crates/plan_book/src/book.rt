@@ -4,15 +4,18 @@ ghost use Rattle.std.specs.Option.{option_copied, option_map};
 ghost use Rattle.drmaa_model.specs.Plan.{opening_plan};
 ghost use Rattle.drmaa_model.specs.Rows.{row_of};
 ghost use Rattle.drmaa_model.specs.Size.{weight};
-ghost use Rattle.drmaa_model.specs.Time.{rows_at, lasts, lapsed, called_in};
+ghost use Rattle.drmaa_model.specs.Time.{advance_plan, is_accepted, rows_at, lasts, lapsed, called_in};
+ghost use Rattle.drmaa_model.specs.TimeLaws.{timed};
+ghost use Rattle.drmaa_model.specs.Load.{reservation_of};
 ghost use Rattle.plan_book.specs.Book.{plan_of, IsKept, spare};
 ghost use Rattle.plan_book.specs.Facts.{facts_of};
 ghost use Rattle.plan_book.specs.Places.{AreInOrder};
 
+use crate::reservations::{is_lasting, reservation_of};
 use crate::rows::{Facts, owed, promised, row_of};
 use crate::time::course_at;
-use drmaa_model::{Accepted, Order, Row};
-use drmaa_types::{Change, JobId, Moment, Refusal};
+use drmaa_model::{Accepted, Course, Order, Row};
+use drmaa_types::{Change, JobId, Moment, Refusal, ReservationId};
 use reservation_calendar::Calendar;
 use std::alloc::Global;
 
@@ -167,6 +170,30 @@ impl Book {
         ensures { result ≡ (plan_of self.now).next_reservation }
     {
         self.next_reservation
+    }
+
+    /// The course of a kept job once time has come to this moment.
+    pub fn course_at(&self, at: Moment, row: &Row) -> Course
+        requires kept { IsKept self.now }
+        ensures { result ≡ (timed (max self.now.moment at) (filter (lasts (max self.now.moment at)) self.now.reservations.items) row.now).course }
+    {
+        course_at(&self.reservations, row, self.moment_at(at))
+    }
+
+    /// The accepted reservation of this number as it is now, before time goes on, if there is one.
+    pub fn reservation(&self, number: ReservationId) -> Option<&Accepted>
+        requires kept { IsKept self.now }
+        ensures { option_copied result ≡ reservation_of number (plan_of self.now).reservations }
+    {
+        reservation_of(&self.reservations, number)
+    }
+
+    /// Whether a reservation will be accepted once time has come to this moment.
+    pub fn is_accepted_at(&self, at: Moment, number: ReservationId) -> bool
+        requires kept { IsKept self.now }
+        ensures { result ≡ is_accepted (advance_plan 0 at (plan_of self.now)).reservations number }
+    {
+        is_lasting(&self.reservations, number, self.moment_at(at))
     }
 
     /// The row of this job as it is now, before time goes on, if the job is kept.

@@ -62,6 +62,28 @@ impl Book {
         *why
     }
 
+    /// Time goes on to a moment and nothing else happens, where the journal has room for that. It takes no memory.
+    ///
+    /// # Errors
+    ///
+    /// A journal that would be too large. Nothing has changed then.
+    pub fn pass(&mut self, at: Moment, entry: u64, limit: u64) -> Result<(), Refusal>
+        requires kept { IsKept self.old }
+        requires entry { entry ≤ 4_000_001 }
+        ensures meets { Meets (record { answer = Ok tt; plan = advance_plan entry at (plan_of self.old) })
+            (plan_of self.old) entry limit result (plan_of self.new) }
+        ensures kept { IsKept self.new }
+        ensures spare { spare self.new ≡ spare self.old }
+        ensures memory { result ≢ Err Refusal.OutOfMemory }
+    {
+        let size = entry + self.weight();
+        if size > limit {
+            return Err(Refusal::OutOfResource(Limit::Journal { size }));
+        }
+        self.advance(at, entry);
+        Ok(())
+    }
+
     /// Makes a move at a moment, where the journal and the memory have room for it.
     pub fn make(&mut self, at: Moment, entry: u64, limit: u64, m: &Move) -> Result<(), Refusal>
         requires kept { IsKept self.old }
