@@ -69,10 +69,10 @@ module _ (meant : Row → Bool) (rows : List Row) (sound : AllByRecursion (λ (r
       sum-filter g (λ (r : Row). not (meant r && is_done r)) rows
       ∙ sum-each (λ r. cond (not (meant r && is_done r)) (g r) 0) g rows (all-implied (λ (r : Row). IsSound r.wants r.course) (λ (r : Row). cond (not (meant r && is_done r)) (g r) 0 ≡ g r)
       (λ r s.
-        (elim (meant r && is_done r) as (λ b. (meant r && is_done r) ≡ b → cond (not b) (g r) 0 ≡ g r) [
-          | true ↦ λ e. sym (none r s (and_parts (meant r) (is_done r) e).1)
-          | false ↦ λ e. refl
-        ]) refl) rows sound)
+      (elim (meant r && is_done r) as (λ b. (meant r && is_done r) ≡ b → cond (not b) (g r) 0 ≡ g r) [
+        | true ↦ λ e. sym (none r s (and_parts (meant r) (is_done r) e).1)
+        | false ↦ λ e. refl
+      ]) refl) rows sound)
 
   pub left-promised : promised (filter (λ (r : Row). not (meant r && is_done r)) rows) ≡ promised rows
   left-promised = left (λ r. room_of r.course) (λ r s done.

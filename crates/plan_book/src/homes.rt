@@ -20,7 +20,13 @@ impl Book {
     /// # Errors
     ///
     /// A journal that would be too large. Nothing has changed then.
-    pub fn forget_home(&mut self, at: Moment, entry: u64, limit: u64, home: u64) -> Result<(), Refusal>
+    pub fn forget_home(
+        &mut self,
+        at: Moment,
+        entry: u64,
+        limit: u64,
+        home: u64,
+    ) -> Result<(), Refusal>
         requires kept { IsKept self.old }
         requires entry { entry ≤ 4_000_001 }
         requires limit { limit ≤ 4_000_000 }

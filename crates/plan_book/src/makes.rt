@@ -5,7 +5,7 @@ ghost use Rattle.drmaa_model.specs.Fit.{IsFit};
 ghost use Rattle.drmaa_model.specs.Operation.{size_at, Meets, is_answer};
 ghost use Rattle.drmaa_model.specs.Size.{weight};
 ghost use Rattle.drmaa_model.specs.Time.{advance_plan};
-ghost use Rattle.plan_book.specs.Book.{plan_of, HasRoom, spare, spare_orders, IsMove, IsKept, Refuses, grows, asks, moved};
+ghost use Rattle.plan_book.specs.Book.{plan_of, calendar_of, HasRoom, spare, spare_orders, IsMove, IsKept, Refuses, grows, asks, moved};
 ghost use Rattle.plan_book.specs.Ties.{MayMake, IsBeside, KeepsTie, booked_first, cancelled_last, is_booking};
 
 use crate::book::Book;
@@ -90,8 +90,8 @@ impl Book {
         requires entry { entry ≤ 4_000_001 }
         requires move_is { IsMove (advance_plan entry at (plan_of self.old)) m.now }
         requires limit { limit ≤ 4_000_000 }
-        requires may { MayMake self.old.calendar m.now.booked }
-        requires beside { IsBeside self.old.reservations.items m.now.booked }
+        requires may { MayMake (calendar_of self.old) m.now.booked }
+        requires beside { IsBeside (plan_of self.old).reservations m.now.booked }
         requires fit { IsFit (moved entry m.now (advance_plan entry at (plan_of self.old))) }
         requires tie { KeepsTie m.now.booked m.now.job (advance_plan entry at (plan_of self.old)) (moved entry m.now (advance_plan entry at (plan_of self.old))) }
         ensures meets { Meets (record { answer = Ok tt; plan = moved entry m.now (advance_plan entry at (plan_of self.old)) })
