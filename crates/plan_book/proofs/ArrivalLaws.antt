@@ -1,5 +1,5 @@
 -- What jobs that come in, and ended ones that go, do to the sums over rows.
-use Rattle.std.proofs.Common.{◌≡◌, ℕ, ◌+◌, Bool, true, false, cond, not, ◌&&◌, List, [], ◌∷◌, ◌++◌, length, filter, sum_by, refl, sym, ◌∙◌, ap, arith}
+use Rattle.std.proofs.Common.{◌≡◌, ℕ, ◌+◌, Bool, true, false, cond, not, ◌&&◌, List, [], ◌∷◌, ◌++◌, length, map, filter, sum_by, Some, refl, sym, ◌∙◌, ap, arith}
 use Rattle.std.specs.List.{AllByRecursion}
 use Rattle.std.proofs.lemmas.Bool.{and_parts}
 use Rattle.std.proofs.lemmas.List.Sums.{sum_by-cons}
@@ -10,18 +10,21 @@ use Rattle.drmaa_model.specs.declared.rows.Row.{Row}
 use Rattle.drmaa_model.specs.declared.calls.Target.{Target}
 use Rattle.drmaa_model.specs.Controlling.{is_done}
 use Rattle.drmaa_model.specs.Courses.{is_unasked}
+use Rattle.drmaa_model.specs.declared.reservations.Accepted.{Accepted}
+use Rattle.drmaa_model.specs.Effects.{left_by, is_forgotten, forget_home}
+use Rattle.drmaa_model.specs.Homes.{is_same_home}
 use Rattle.drmaa_model.specs.Fit.{IsSound, IsFit}
 use Rattle.drmaa_model.specs.Plan.{Plan}
 use Rattle.drmaa_model.specs.FitLaws.{not-using}
 use Rattle.drmaa_model.specs.RowLaws.{all-implied}
 use Rattle.drmaa_model.specs.Size.{room_of, phase_room, promised, weight}
-use Rattle.drmaa_model.specs.SumLaws.{sum-each, sum-filter, sum-zero}
+use Rattle.drmaa_model.specs.SumLaws.{sum-each, sum-filter, sum-map, sum-zero}
 use Rattle.drmaa_model.specs.Targets.{is_meant}
 use Rattle.drmaa_model.specs.TimeLaws.{waits-not_started}
 use Rattle.reservation_calendar.specs.declared.bookings.Booking.{Booking}
 use Rattle.reservation_calendar.specs.Schedules.{Schedule}
 use Rattle.plan_book.specs.Book.{owes, may_ask, owed, askable, joined}
-use Rattle.plan_book.specs.Ties.{counted_of, booking_of, IsTied}
+use Rattle.plan_book.specs.Ties.{counted_of, counted_for, booking_of, IsTied}
 use Rattle.plan_book.specs.Waiting.{AreWaiting}
 
 pub sum-append : {X : Type 0} (g : X → ℕ) (xs ys : List X) → sum_by g (xs ++ ys) ≡ sum_by g xs + sum_by g ys
@@ -60,34 +63,31 @@ done-over RequeuedHeld h = absurd (cc)
 done-over Done h = (refl, refl)
 done-over Failed h = (refl, refl)
 
-module _ (t : Target) (rows : List Row) (sound : AllByRecursion (λ (r : Row). IsSound r.wants r.course) rows) where
-  stays : Row → Bool
-  stays r = not (is_meant t r && is_done r)
-
-  left : (g : Row → ℕ) → ((r : Row) → IsSound r.wants r.course → has_terminated r.course.state ≡ true → g r ≡ 0) → sum_by g (filter (λ (r : Row). not (is_meant t r && is_done r)) rows) ≡ sum_by g rows
+module _ (meant : Row → Bool) (rows : List Row) (sound : AllByRecursion (λ (r : Row). IsSound r.wants r.course) rows) where
+  left : (g : Row → ℕ) → ((r : Row) → IsSound r.wants r.course → has_terminated r.course.state ≡ true → g r ≡ 0) → sum_by g (filter (λ (r : Row). not (meant r && is_done r)) rows) ≡ sum_by g rows
   left g none =
-      sum-filter g (λ (r : Row). not (is_meant t r && is_done r)) rows
-      ∙ sum-each (λ r. cond (not (is_meant t r && is_done r)) (g r) 0) g rows (all-implied (λ (r : Row). IsSound r.wants r.course) (λ (r : Row). cond (not (is_meant t r && is_done r)) (g r) 0 ≡ g r)
+      sum-filter g (λ (r : Row). not (meant r && is_done r)) rows
+      ∙ sum-each (λ r. cond (not (meant r && is_done r)) (g r) 0) g rows (all-implied (λ (r : Row). IsSound r.wants r.course) (λ (r : Row). cond (not (meant r && is_done r)) (g r) 0 ≡ g r)
       (λ r s.
-        (elim (is_meant t r && is_done r) as (λ b. (is_meant t r && is_done r) ≡ b → cond (not b) (g r) 0 ≡ g r) [
-          | true ↦ λ e. sym (none r s (and_parts (is_meant t r) (is_done r) e).1)
-          | false ↦ λ e. refl
-        ]) refl) rows sound)
+      (elim (meant r && is_done r) as (λ b. (meant r && is_done r) ≡ b → cond (not b) (g r) 0 ≡ g r) [
+        | true ↦ λ e. sym (none r s (and_parts (meant r) (is_done r) e).1)
+        | false ↦ λ e. refl
+      ]) refl) rows sound)
 
-  pub left-promised : promised (filter (λ (r : Row). not (is_meant t r && is_done r)) rows) ≡ promised rows
+  pub left-promised : promised (filter (λ (r : Row). not (meant r && is_done r)) rows) ≡ promised rows
   left-promised = left (λ r. room_of r.course) (λ r s done.
       (let over = done-over r.course.state done in
       ap (λ b. cond {A = ℕ} b 1 (phase_room r.course.phase)) over.0 ∙ ap phase_room (s.idle over.1).0))
 
-  pub left-owed : owed (filter (λ (r : Row). not (is_meant t r && is_done r)) rows) ≡ owed rows
+  pub left-owed : owed (filter (λ (r : Row). not (meant r && is_done r)) rows) ≡ owed rows
   left-owed = left (λ r. owes r.course) (λ r s done.
       (let over = done-over r.course.state done in
       ap (λ b. cond {A = ℕ} b 1 (cond (is_started r.course.state) 2 0)) over.0 ∙ ap (λ b. cond {A = ℕ} b 2 0) over.1))
 
-  pub left-askable : askable (filter (λ (r : Row). not (is_meant t r && is_done r)) rows) ≡ askable rows
+  pub left-askable : askable (filter (λ (r : Row). not (meant r && is_done r)) rows) ≡ askable rows
   left-askable = left (λ r. may_ask r.course) (λ r s done. ap (λ b. cond {A = ℕ} (b && is_unasked r.course.kill) 1 0) (done-over r.course.state done).1)
 
-  pub left-counted : (f : Booking → ℕ) → sum_by (counted_of f) (filter (λ (r : Row). not (is_meant t r && is_done r)) rows) ≡ sum_by (counted_of f) rows
+  pub left-counted : (f : Booking → ℕ) → sum_by (counted_of f) (filter (λ (r : Row). not (meant r && is_done r)) rows) ≡ sum_by (counted_of f) rows
   left-counted f = left (counted_of f) (λ r s done. ap (λ b. cond b (f (booking_of r)) 0) (not-using r (done-over r.course.state done).1))
 
 -- ---- what that makes of a plan
@@ -110,10 +110,37 @@ tied-joined s rows arrays p wait tied = record {
 
 -- ended jobs take nothing with them
 pub reaped-weight : (t : Target) (p : Plan) → IsFit p → weight (record p { rows = filter (λ (r : Row). not (is_meant t r && is_done r)) p.rows }) ≡ weight p
-reaped-weight t p fit = omega (arith, left-promised t p.rows fit.sound)
+reaped-weight t p fit = omega (arith, left-promised (is_meant t) p.rows fit.sound)
 
 pub tied-reaped : (s : Schedule) (t : Target) (p : Plan) → IsFit p → IsTied s p → IsTied s (record p { rows = filter (λ (r : Row). not (is_meant t r && is_done r)) p.rows })
 tied-reaped s t p fit tied = record {
   total = tied.total;
-  same = λ f. (let all = tied.same f in let same = left-counted t p.rows fit.sound f in omega arith);
+  same = λ f. (let all = tied.same f in let same = left-counted (is_meant t) p.rows fit.sound f in omega arith);
+}
+
+-- ---- a home that is forgotten
+
+abbrev left_row : ℕ → Row → Row
+left_row home row = record row { home = left_by home row.home }
+
+abbrev of_home : ℕ → Row → Bool
+of_home home row = is_same_home (Some home) row.home
+
+pub forgot-owed : (home : ℕ) (rows : List Row) → AllByRecursion (λ (r : Row). IsSound r.wants r.course) rows
+    → owed (map (λ (row : Row). record row { home = left_by home row.home }) (filter (λ (row : Row). not (is_forgotten home row)) rows)) ≡ owed rows
+forgot-owed home rows sound = sum-map (λ (r : Row). owes r.course) (left_row home) (filter (λ (row : Row). not (is_forgotten home row)) rows) ∙ left-owed (of_home home) rows sound
+
+pub forgot-askable : (home : ℕ) (rows : List Row) → AllByRecursion (λ (r : Row). IsSound r.wants r.course) rows
+    → askable (map (λ (row : Row). record row { home = left_by home row.home }) (filter (λ (row : Row). not (is_forgotten home row)) rows)) ≡ askable rows
+forgot-askable home rows sound = sum-map (λ (r : Row). may_ask r.course) (left_row home) (filter (λ (row : Row). not (is_forgotten home row)) rows) ∙ left-askable (of_home home) rows sound
+
+pub tied-forgot : (s : Schedule) (home : ℕ) (p : Plan) → IsFit p → IsTied s p → IsTied s (forget_home home p)
+tied-forgot s home p fit tied = record {
+  total = tied.total;
+  same = λ f.
+      (let all = tied.same f in
+      let rows = sum-map (counted_of f) (left_row home) (filter (λ (row : Row). not (is_forgotten home row)) p.rows) in
+      let stay = left-counted (of_home home) p.rows fit.sound f in
+      let rs = sum-map (counted_for f) (λ (a : Accepted). record a { home = left_by home a.home }) p.reservations in
+      omega arith);
 }

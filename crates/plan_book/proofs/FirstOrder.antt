@@ -50,5 +50,8 @@ module _ (test : Order → Bool) where
   pub none-next : (xs : List Order) (i : ℕ) (e : Order) → i < length xs → test (get_or xs i e) ≡ false → ((k : ℕ) (d : Order) → k < i → test (get_or xs k d) ≡ false)
       → (k : ℕ) (d : Order) → k < i + 1 → test (get_or xs k d) ≡ false
   none-next xs i e within fails before k d low =
-      grind (arith, λ (less : k < i). before k d less,
-        λ (same : k ≡ i). ap (λ (n : ℕ). test (get_or xs n d)) same ∙ ap test (get_or_default xs i d e within) ∙ fails)
+      grind (
+        arith,
+        λ (less : k < i). before k d less,
+        λ (same : k ≡ i). ap (λ (n : ℕ). test (get_or xs n d)) same ∙ ap test (get_or_default xs i d e within) ∙ fails,
+      )

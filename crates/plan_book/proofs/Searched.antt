@@ -61,8 +61,8 @@ module _ {X : Type 0} (number : X → ℕ) where
   searched xs rising n (Err i) within parted =
       (let rise : IsNonDecreasingBy (λ x. ordering_index (nat_cmp (number x) n)) xs =
       (λ a b d le inside.
-        (let up : number (get_or xs a d) ≤ number (get_or xs b d) = grind (arith, rising-at xs rising a b d, λ (same : a ≡ b). ap (λ k. number (get_or xs k d)) same) in
-        grind (arith, nat_tests))) in
+      (let up : number (get_or xs a d) ≤ number (get_or xs b d) = grind (arith, rising-at xs rising a b d, λ (same : a ≡ b). ap (λ k. number (get_or xs k d)) same) in
+      grind (arith, nat_tests))) in
       let point = parted rise in
       record {
         found = tt;

@@ -1,5 +1,5 @@
 -- What a control call does to what is promised, owed and asked.
-use Rattle.std.proofs.Common.{◌≡◌, ◌≢◌, ℕ, ◌+◌, ◌≤◌, Bool, true, false, cond, not, ◌&&◌, List, [], ◌∷◌, ◌++◌, map, filter, length, sum_by, Option, Some, None, refl, sym, ◌∙◌, ap, subst, arith, length-append}
+use Rattle.std.proofs.Common.{◌≡◌, ◌≢◌, ℕ, ◌+◌, ◌≤◌, Bool, true, false, cond, ◌&&◌, List, [], ◌∷◌, map, filter, length, sum_by, Option, Some, None, refl, sym, ◌∙◌, ap, subst, arith, length-append}
 use Rattle.std.specs.Prelude.{is_some}
 use Rattle.std.specs.List.{AllByRecursion, flat_map}
 use Rattle.std.specs.Option.{option_map_or}
@@ -13,7 +13,6 @@ use Rattle.drmaa_types.specs.declared.states.JobState.{JobState}
 use Rattle.drmaa_types.specs.declared.states.JobState.TheVariants.{Undetermined, Queued, QueuedHeld, Running, Suspended, Requeued, RequeuedHeld, Done, Failed}
 use Rattle.drmaa_types.specs.declared.states.Note.{Note}
 use Rattle.drmaa_types.specs.declared.states.Note.TheVariants as note
-use Rattle.drmaa_types.specs.declared.states.SignalKind.{SignalKind}
 use Rattle.drmaa_types.specs.declared.states.SignalKind.TheVariants as signal
 use Rattle.drmaa_model.specs.declared.calls.Target.{Target}
 use Rattle.drmaa_model.specs.declared.courses.Course.{Course}
@@ -28,11 +27,11 @@ use Rattle.drmaa_model.specs.Fit.{IsSound, IsFit}
 use Rattle.drmaa_model.specs.FitLaws.{Eases, same-kind, SameKind, ends-waiting}
 use Rattle.drmaa_model.specs.Growth.{is_growing}
 use Rattle.drmaa_model.specs.Plan.{Plan}
-use Rattle.drmaa_model.specs.RowLaws.{all-implied, change_of-same}
+use Rattle.drmaa_model.specs.RowLaws.{all-implied}
 use Rattle.drmaa_model.specs.Rows.{change_of}
 use Rattle.drmaa_model.specs.Size.{room_of, phase_room, promised, weight}
 use Rattle.drmaa_model.specs.Targets.{is_meant}
-use Rattle.drmaa_model.specs.TimeLaws.{waits-not_started, waits-not_failed, started-waits}
+use Rattle.drmaa_model.specs.TimeLaws.{waits-not_failed}
 use Rattle.drmaa_model.specs.WeightLaws.{length-same}
 use Rattle.reservation_calendar.specs.Schedules.{Schedule}
 use Rattle.plan_book.specs.Book.{owes, may_ask, owed, askable}

@@ -1,5 +1,5 @@
 -- How a core's own fields are read: the plan that a book keeps, and the room that it has.
-use Rattle.std.specs.Prelude.{◌≡◌, ℕ, ◌+◌, ◌-◌, ◌<◌, ◌≤◌, ◌&&◌, ◌==◌, not, true, false, Bool, List, ◌++◌, Option, Some, None, sum_by, length, vec_len, vec_capacity, if◌then◌else◌}
+use Rattle.std.specs.Prelude.{◌≡◌, ℕ, max, filter, ◌+◌, ◌-◌, ◌<◌, ◌≤◌, ◌&&◌, ◌==◌, not, true, false, Bool, List, ◌++◌, Option, Some, None, sum_by, length, vec_len, vec_capacity, if◌then◌else◌}
 use Rattle.drmaa_types.specs.States.{is_waiting, is_started, is_state}
 use Rattle.drmaa_types.specs.declared.identifiers.JobId.{JobId}
 use Rattle.drmaa_types.specs.declared.states.SignalKind.{SignalKind}
@@ -18,6 +18,9 @@ use Rattle.drmaa_model.specs.Reporting.{orders_without, drop_first, signal_numbe
 use Rattle.drmaa_model.specs.Plan.{Plan}
 use Rattle.drmaa_model.specs.Rows.{row_of, go_on}
 use Rattle.drmaa_model.specs.Size.{weight}
+use Rattle.drmaa_model.specs.Time.{lasts}
+use Rattle.drmaa_model.specs.TimeLaws.{timed}
+use Rattle.reservation_calendar.specs.Schedules.{Schedule}
 use Rattle.plan_book.specs.Ties.{IsTied}
 use Rattle.plan_book.specs.declared.book.Book.{Book}
 use Rattle.plan_book.specs.declared.moves.Move.{Move}
@@ -37,6 +40,14 @@ plan_of b = record {
   next_array = b.next_array;
   next_reservation = b.next_reservation;
 }
+
+-- the bookings that it keeps beside it
+abbrev pub calendar_of : Book → Schedule
+calendar_of b = b.calendar
+
+-- the course of a job once time has come to a moment
+abbrev pub course_then : ℕ → Plan → Row → Course
+course_then at p row = (timed (max p.moment at) (filter (lasts (max p.moment at)) p.reservations) row).course
 
 -- The changes that a job may still make with no memory: to its end, or to the queue and then to its end.
 abbrev pub owes : Course → ℕ

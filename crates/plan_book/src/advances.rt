@@ -30,7 +30,7 @@ impl Book {
     }
 
     /// The waiting jobs whose time is over end.
-    pub fn expire(&mut self, entry: u64)
+    pub(crate) fn expire(&mut self, entry: u64)
         requires room { HasRoom self.old }
         requires order { AreInOrder self.old.reservations.items }
         ensures plan { plan_of self.new ≡ expire entry (plan_of self.old) }
@@ -53,7 +53,7 @@ impl Book {
     }
 
     /// The started jobs whose time is over are asked to end.
-    pub fn call_in(&mut self)
+    pub(crate) fn call_in(&mut self)
         requires room { HasRoom self.old }
         requires order { AreInOrder self.old.reservations.items }
         ensures plan { plan_of self.new ≡ call_in (plan_of self.old) }
@@ -75,7 +75,7 @@ impl Book {
     }
 
     /// Time goes on. It takes no memory.
-    pub fn advance(&mut self, at: Moment, entry: u64)
+    pub(crate) fn advance(&mut self, at: Moment, entry: u64)
         requires room { HasRoom self.old }
         requires order { AreInOrder self.old.reservations.items }
         ensures plan { plan_of self.new ≡ advance_plan entry at (plan_of self.old) }

@@ -25,14 +25,21 @@ impl Book {
     /// # Errors
     ///
     /// A journal that would be too large, and want of memory. Nothing has changed then.
-    pub fn push_rows(&mut self, at: Moment, entry: u64, limit: u64, rows: Vec<Row>, arrays: u64) -> Result<(), Refusal>
+    pub fn push_rows(
+        &mut self,
+        at: Moment,
+        entry: u64,
+        limit: u64,
+        rows: Vec<Row>,
+        arrays: u64,
+    ) -> Result<(), Refusal>
         requires kept { IsKept self.old }
         requires entry { entry ≤ 4_000_001 }
         requires limit { limit ≤ 4_000_000 }
         requires few { length rows.items < 2 ^ 32 }
         requires waits { AreWaiting rows.items }
-        requires next_job { self.old.next_job + length rows.items < 2 ^ 64 }
-        requires next_array { self.old.next_array + arrays < 2 ^ 64 }
+        requires next_job { (plan_of self.old).next_job + length rows.items < 2 ^ 64 }
+        requires next_array { (plan_of self.old).next_array + arrays < 2 ^ 64 }
         requires fit { IsFit (joined rows.items arrays (advance_plan entry at (plan_of self.old))) }
         ensures meets { Meets (record { answer = Ok tt; plan = joined rows.items arrays (advance_plan entry at (plan_of self.old)) })
             (plan_of self.old) entry limit result (plan_of self.new) }
@@ -88,7 +95,13 @@ impl Book {
     /// # Errors
     ///
     /// A journal that would be too large. Nothing has changed then.
-    pub fn drop_rows(&mut self, at: Moment, entry: u64, limit: u64, target: &Target) -> Result<(), Refusal>
+    pub fn drop_rows(
+        &mut self,
+        at: Moment,
+        entry: u64,
+        limit: u64,
+        target: &Target,
+    ) -> Result<(), Refusal>
         requires kept { IsKept self.old }
         requires entry { entry ≤ 4_000_001 }
         requires limit { limit ≤ 4_000_000 }

@@ -4,32 +4,34 @@ ghost use Rattle.std.specs.Option.{option_copied, option_map};
 ghost use Rattle.drmaa_model.specs.Plan.{opening_plan};
 ghost use Rattle.drmaa_model.specs.Rows.{row_of};
 ghost use Rattle.drmaa_model.specs.Size.{weight};
-ghost use Rattle.drmaa_model.specs.Time.{rows_at, lasts, lapsed, called_in};
-ghost use Rattle.plan_book.specs.Book.{plan_of, IsKept, spare};
+ghost use Rattle.drmaa_model.specs.Time.{advance_plan, is_accepted, rows_at, lasts, lapsed, called_in};
+ghost use Rattle.drmaa_model.specs.Load.{reservation_of};
+ghost use Rattle.plan_book.specs.Book.{plan_of, calendar_of, IsKept, spare, course_then};
 ghost use Rattle.plan_book.specs.Facts.{facts_of};
 ghost use Rattle.plan_book.specs.Places.{AreInOrder};
 
+use crate::reservations::{is_lasting, reservation_of};
 use crate::rows::{Facts, owed, promised, row_of};
 use crate::time::course_at;
-use drmaa_model::{Accepted, Order, Row};
-use drmaa_types::{Change, JobId, Moment, Refusal};
+use drmaa_model::{Accepted, Course, Order, Row};
+use drmaa_types::{Change, JobId, Moment, Refusal, ReservationId};
 use reservation_calendar::Calendar;
 use std::alloc::Global;
 
 /// The plan as it is kept. Contracts see it as `plan_of` of it, and as the room that it has.
 #[derive(Drop)]
 pub struct Book {
-    pub total: u32,
-    pub moment: Moment,
-    pub rows: Vec<Row>,
-    pub reservations: Vec<Accepted>,
+    pub(crate) total: u32,
+    pub(crate) moment: Moment,
+    pub(crate) rows: Vec<Row>,
+    pub(crate) reservations: Vec<Accepted>,
     /// The bookings of the accepted reservations and of the started ordinary jobs.
-    pub calendar: Calendar,
-    pub orders: Vec<Order>,
-    pub changes: Vec<Change>,
-    pub next_job: u64,
-    pub next_array: u64,
-    pub next_reservation: u64,
+    pub(crate) calendar: Calendar,
+    pub(crate) orders: Vec<Order>,
+    pub(crate) changes: Vec<Change>,
+    pub(crate) next_job: u64,
+    pub(crate) next_array: u64,
+    pub(crate) next_reservation: u64,
 }
 
 impl Book {
@@ -78,7 +80,7 @@ impl Book {
 
     /// The moment to which time comes by this one: it never falls.
     pub fn moment_at(&self, at: Moment) -> Moment
-        ensures { result ≡ max self.now.moment at }
+        ensures { result ≡ max (plan_of self.now).moment at }
     {
         if self.moment.number() < at.number() {
             at
@@ -143,7 +145,7 @@ impl Book {
 
     /// The bookings of the accepted reservations and of the started ordinary jobs.
     pub fn calendar(&self) -> &Calendar
-        ensures { result.now ≡ self.now.calendar }
+        ensures { result.now ≡ calendar_of self.now }
     {
         &self.calendar
     }
@@ -167,6 +169,30 @@ impl Book {
         ensures { result ≡ (plan_of self.now).next_reservation }
     {
         self.next_reservation
+    }
+
+    /// The course of a kept job once time has come to this moment.
+    pub fn course_at(&self, at: Moment, row: &Row) -> Course
+        requires kept { IsKept self.now }
+        ensures { result ≡ (course_then at (plan_of self.now) row.now) }
+    {
+        course_at(&self.reservations, row, self.moment_at(at))
+    }
+
+    /// The accepted reservation of this number as it is now, before time goes on, if there is one.
+    pub fn reservation(&self, number: ReservationId) -> Option<&Accepted>
+        requires kept { IsKept self.now }
+        ensures { option_copied result ≡ reservation_of number (plan_of self.now).reservations }
+    {
+        reservation_of(&self.reservations, number)
+    }
+
+    /// Whether a reservation will be accepted once time has come to this moment.
+    pub fn is_accepted_at(&self, at: Moment, number: ReservationId) -> bool
+        requires kept { IsKept self.now }
+        ensures { result ≡ is_accepted (advance_plan 0 at (plan_of self.now)).reservations number }
+    {
+        is_lasting(&self.reservations, number, self.moment_at(at))
     }
 
     /// The row of this job as it is now, before time goes on, if the job is kept.

@@ -5,7 +5,7 @@ ghost use Rattle.drmaa_model.specs.Operation.{Meets};
 ghost use Rattle.drmaa_model.specs.Requests.{is_other, end_reservation, with_reservation, without_reservation};
 ghost use Rattle.drmaa_model.specs.Time.{advance_plan};
 ghost use Rattle.reservation_calendar.specs.Schedules.{without};
-ghost use Rattle.plan_book.specs.Book.{plan_of, HasPlace, HasRoom, IsKept, spare, spare_orders};
+ghost use Rattle.plan_book.specs.Book.{plan_of, calendar_of, HasPlace, HasRoom, IsKept, spare, spare_orders};
 ghost use Rattle.plan_book.specs.Places.{AreInOrder};
 ghost use Rattle.plan_book.specs.Ties.{IsFree, booked_for};
 
@@ -22,13 +22,19 @@ impl Book {
     /// # Errors
     ///
     /// A journal that would be too large, and want of memory. Nothing has changed then.
-    pub fn accept(&mut self, at: Moment, entry: u64, limit: u64, accepted: Accepted) -> Result<(), Refusal>
+    pub fn accept(
+        &mut self,
+        at: Moment,
+        entry: u64,
+        limit: u64,
+        accepted: Accepted,
+    ) -> Result<(), Refusal>
         requires kept { IsKept self.old }
         requires entry { entry ≤ 4_000_001 }
         requires limit { limit ≤ 4_000_000 }
-        requires number { accepted.reservation.0 ≡ self.old.next_reservation }
-        requires next { self.old.next_reservation + 1 < 2 ^ 64 }
-        requires free { IsFree self.old.calendar (booked_for accepted) }
+        requires number { accepted.reservation.0 ≡ (plan_of self.old).next_reservation }
+        requires next { (plan_of self.old).next_reservation + 1 < 2 ^ 64 }
+        requires free { IsFree (calendar_of self.old) (booked_for accepted) }
         requires fit { IsFit (with_reservation accepted (advance_plan entry at (plan_of self.old))) }
         ensures meets { Meets (record { answer = Ok tt; plan = with_reservation accepted (advance_plan entry at (plan_of self.old)) })
             (plan_of self.old) entry limit result (plan_of self.new) }
@@ -79,7 +85,13 @@ impl Book {
     /// # Errors
     ///
     /// A journal that would be too large. Nothing has changed then.
-    pub fn end_reservation(&mut self, at: Moment, entry: u64, limit: u64, reservation: ReservationId) -> Result<(), Refusal>
+    pub fn end_reservation(
+        &mut self,
+        at: Moment,
+        entry: u64,
+        limit: u64,
+        reservation: ReservationId,
+    ) -> Result<(), Refusal>
         requires kept { IsKept self.old }
         requires entry { entry ≤ 4_000_001 }
         requires limit { limit ≤ 4_000_000 }

@@ -26,7 +26,14 @@ impl Book {
     /// # Errors
     ///
     /// A journal that would be too large, and want of memory. Nothing has changed then.
-    pub fn control(&mut self, at: Moment, entry: u64, limit: u64, target: &Target, what: Control) -> Result<(), Refusal>
+    pub fn control(
+        &mut self,
+        at: Moment,
+        entry: u64,
+        limit: u64,
+        target: &Target,
+        what: Control,
+    ) -> Result<(), Refusal>
         requires kept { IsKept self.old }
         requires entry { entry ≤ 4_000_001 }
         requires limit { limit ≤ 4_000_000 }
@@ -130,7 +137,13 @@ fn asking(what: Control, n: usize) -> usize
 }
 
 /// On how many jobs the call will act, once time has come to this moment.
-fn acted_then(rs: &Vec<Accepted>, rows: &Vec<Row>, moment: Moment, target: &Target, what: Control) -> usize
+fn acted_then(
+    rs: &Vec<Accepted>,
+    rows: &Vec<Row>,
+    moment: Moment,
+    target: &Target,
+    what: Control,
+) -> usize
     requires order { AreInOrder rs.now.items }
     ensures { result ≡ length (filter (λ row. is_controlled target.now what (timed moment (filter (lasts moment) rs.now.items) row)) rows.now.items) }
 {
@@ -144,7 +157,13 @@ fn acted_then(rs: &Vec<Accepted>, rows: &Vec<Row>, moment: Moment, target: &Targ
 }
 
 /// Whether the call will act on this job, once time has come to this moment.
-fn is_controlled_then(rs: &Vec<Accepted>, row: &Row, moment: Moment, target: &Target, what: Control) -> bool
+fn is_controlled_then(
+    rs: &Vec<Accepted>,
+    row: &Row,
+    moment: Moment,
+    target: &Target,
+    what: Control,
+) -> bool
     requires order { AreInOrder rs.now.items }
     ensures { result ≡ is_controlled target.now what (timed moment (filter (lasts moment) rs.now.items) row.now) }
 {

@@ -111,10 +111,10 @@ fn ended(course: &Course, moment: Moment, state: JobState) -> Course
         state,
         phase: Phase::Idle,
         attempt: course.attempt,
-        held: 0,
+        held: 0, // it gives its slots back
         last_slots: course.last_slots,
         kill: course.kill,
-        planned: None,
+        planned: None, // and has no end to come
         dispatched: course.dispatched,
         finished: finish(state, moment, course.finished),
         exit: course.exit,

@@ -9,6 +9,7 @@ mod bookings;
 mod changes;
 mod controls;
 pub mod courses;
+mod homes;
 mod makes;
 mod moves;
 mod orders;
@@ -17,7 +18,7 @@ mod rooms;
 mod rows;
 pub mod states;
 mod sweeps;
-mod targets;
+pub mod targets;
 mod time;
 
 pub use book::Book;

@@ -5,7 +5,7 @@ ghost use Rattle.drmaa_model.specs.Fit.{IsFit};
 ghost use Rattle.drmaa_model.specs.Operation.{size_at, Meets, is_answer};
 ghost use Rattle.drmaa_model.specs.Size.{weight};
 ghost use Rattle.drmaa_model.specs.Time.{advance_plan};
-ghost use Rattle.plan_book.specs.Book.{plan_of, HasRoom, spare, spare_orders, IsMove, IsKept, Refuses, grows, asks, moved};
+ghost use Rattle.plan_book.specs.Book.{plan_of, calendar_of, HasRoom, spare, spare_orders, IsMove, IsKept, Refuses, grows, asks, moved};
 ghost use Rattle.plan_book.specs.Ties.{MayMake, IsBeside, KeepsTie, booked_first, cancelled_last, is_booking};
 
 use crate::book::Book;
@@ -62,14 +62,36 @@ impl Book {
         *why
     }
 
+    /// Time goes on to a moment and nothing else happens, where the journal has room for that. It takes no memory.
+    ///
+    /// # Errors
+    ///
+    /// A journal that would be too large. Nothing has changed then.
+    pub fn pass(&mut self, at: Moment, entry: u64, limit: u64) -> Result<(), Refusal>
+        requires kept { IsKept self.old }
+        requires entry { entry ≤ 4_000_001 }
+        ensures meets { Meets (record { answer = Ok tt; plan = advance_plan entry at (plan_of self.old) })
+            (plan_of self.old) entry limit result (plan_of self.new) }
+        ensures kept { IsKept self.new }
+        ensures spare { spare self.new ≡ spare self.old }
+        ensures memory { result ≢ Err Refusal.OutOfMemory }
+    {
+        let size = entry + self.weight();
+        if size > limit {
+            return Err(Refusal::OutOfResource(Limit::Journal { size }));
+        }
+        self.advance(at, entry);
+        Ok(())
+    }
+
     /// Makes a move at a moment, where the journal and the memory have room for it.
     pub fn make(&mut self, at: Moment, entry: u64, limit: u64, m: &Move) -> Result<(), Refusal>
         requires kept { IsKept self.old }
         requires entry { entry ≤ 4_000_001 }
         requires move_is { IsMove (advance_plan entry at (plan_of self.old)) m.now }
         requires limit { limit ≤ 4_000_000 }
-        requires may { MayMake self.old.calendar m.now.booked }
-        requires beside { IsBeside self.old.reservations.items m.now.booked }
+        requires may { MayMake (calendar_of self.old) m.now.booked }
+        requires beside { IsBeside (plan_of self.old).reservations m.now.booked }
         requires fit { IsFit (moved entry m.now (advance_plan entry at (plan_of self.old))) }
         requires tie { KeepsTie m.now.booked m.now.job (advance_plan entry at (plan_of self.old)) (moved entry m.now (advance_plan entry at (plan_of self.old))) }
         ensures meets { Meets (record { answer = Ok tt; plan = moved entry m.now (advance_plan entry at (plan_of self.old)) })

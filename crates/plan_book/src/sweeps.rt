@@ -32,7 +32,14 @@ fn controlled_course(row: &Row, moment: Moment, target: &Target, what: Control) 
     }
 }
 
-fn note_control(row: &Row, changes: &mut Vec<Change>, moment: Moment, entry: u64, target: &Target, what: Control)
+fn note_control(
+    row: &Row,
+    changes: &mut Vec<Change>,
+    moment: Moment,
+    entry: u64,
+    target: &Target,
+    what: Control,
+)
     requires { vec_len changes.old + length (noted entry moment target.now what row.now) ≤ vec_capacity changes.old }
     ensures items { changes.new.items ≡ changes.old.items ++ noted entry moment target.now what row.now }
     ensures len { vec_len changes.new ≡ vec_len changes.old + length (noted entry moment target.now what row.now) }

@@ -33,9 +33,9 @@ tied c =
     let booked : Schedule = record s { bookings = s.bookings ++ booked_for c.args.accepted ∷ [] } in
     let calendar : c.put_reservation.new.self.calendar ≡ let_go_of (max p.moment at) p.reservations booked =
     c.put_reservation.ensures.calendar ∙ c.advance.ensures.calendar
-      ∙ ap (λ (x : Plan). let_go_of (max x.moment at) x.reservations c.book_accepted.new.calendar) c.make_place.ensures.plan
-      ∙ ap (let_go_of (max p.moment at) p.reservations) ((c.in_ok-book_accepted.ensures {u = tt}).booked
-      ∙ ap (λ (x : Schedule). let t : Schedule = record x { bookings = x.bookings ++ booked_for c.args.accepted ∷ [] } in t) c.make_place.ensures.calendar) in
+    ∙ ap (λ (x : Plan). let_go_of (max x.moment at) x.reservations c.book_accepted.new.calendar) c.make_place.ensures.plan
+    ∙ ap (let_go_of (max p.moment at) p.reservations) ((c.in_ok-book_accepted.ensures {u = tt}).booked
+    ∙ ap (λ (x : Schedule). let t : Schedule = record x { bookings = x.bookings ++ booked_for c.args.accepted ∷ [] } in t) c.make_place.ensures.calendar) in
     subst (λ (t : Schedule). IsTied t (plan_of c.put_reservation.new.self)) (sym calendar)
     (subst (IsTied (let_go_of (max p.moment at) p.reservations booked)) (sym (plan c))
     (tied-reserved s c.args.entry at p c.args.accepted c.requires.kept.fit c.requires.kept.tied c.requires.number))

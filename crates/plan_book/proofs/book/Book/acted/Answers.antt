@@ -1,9 +1,8 @@
-use Rattle.std.proofs.Common.{◌≡◌, ◌≤◌, ℕ, List, filter, length, map, sym, ◌∙◌, ap, arith}
+use Rattle.std.proofs.Common.{◌≡◌, ℕ, List, filter, length, sym, ◌∙◌, ap, arith}
 use Rattle.drmaa_model.specs.declared.rows.Row.{Row}
 use Rattle.drmaa_model.specs.Controlling.{is_controlled}
 use Rattle.drmaa_model.specs.Fit.{IsFit}
 use Rattle.drmaa_model.specs.FitLaws.{advance-fit}
-use Rattle.drmaa_model.specs.Plan.{Plan}
 use Rattle.drmaa_model.specs.Time.{advance_plan, come_to, let_go, lasts, lapsed, called_in, rows_at}
 use Rattle.drmaa_model.specs.TimeLaws.{timed, map-twice, weight-advance}
 use Rattle.plan_book.specs.Book.{plan_of}

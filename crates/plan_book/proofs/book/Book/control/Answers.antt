@@ -1,5 +1,5 @@
 use Rattle.std.proofs.Common.{rules, ◌≡◌, ◌≤◌, ◌+◌, ℕ, max, refl, sym, ◌∙◌, ap, subst, arith}
-use Rattle.std.specs.Prelude.{Result, Ok, Err}
+use Rattle.std.specs.Prelude.{Result, Err}
 use Rattle.drmaa_types.specs.declared.refusals.Refusal.{Refusal}
 use Rattle.drmaa_types.specs.declared.refusals.Refusal.TheVariants.{OutOfResource}
 use Rattle.drmaa_types.specs.declared.refusals.Limit.TheVariants as resource
@@ -64,12 +64,12 @@ tied c =
     let s = c.args.self.now.calendar in
     let calendar : c.control_now.new.self.calendar ≡ let_go_of (max p.moment at) p.reservations s =
     c.control_now.ensures.calendar ∙ c.advance.ensures.calendar
-      ∙ ap (λ (x : Plan). let_go_of (max x.moment at) x.reservations c.make_share.new.self.calendar) c.make_share.ensures.plan
-      ∙ ap (let_go_of (max p.moment at) p.reservations) c.make_share.ensures.calendar in
+    ∙ ap (λ (x : Plan). let_go_of (max x.moment at) x.reservations c.make_share.new.self.calendar) c.make_share.ensures.plan
+    ∙ ap (let_go_of (max p.moment at) p.reservations) c.make_share.ensures.calendar in
     subst (λ (t : Schedule). IsTied t (plan_of c.control_now.new.self)) (sym calendar)
     (subst (IsTied (let_go_of (max p.moment at) p.reservations s)) (sym (plan c))
     (tied-controlled (let_go_of (max p.moment at) p.reservations s) c.args.target.now c.args.what c.args.entry (advance_plan c.args.entry at p)
-      (advance-fit c.args.entry at p c.requires.kept.fit) (tied-advance s c.args.entry at p c.requires.kept.fit c.requires.kept.tied)))
+    (advance-fit c.args.entry at p c.requires.kept.fit) (tied-advance s c.args.entry at p c.requires.kept.fit c.requires.kept.tied)))
 
 pub returns-clause-kept : goal.returns-clause-kept
 returns-clause-kept c = record {

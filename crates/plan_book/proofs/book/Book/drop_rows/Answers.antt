@@ -57,8 +57,8 @@ returns-clause-kept c =
     let same = reaped-weight t q (fit c) in
     record {
       room = record {
-        changes = omega (arith, ap owed c.drop_done.ensures, left-owed t rows sound, c.advance.ensures.room.changes);
-        orders = omega (arith, ap askable c.drop_done.ensures, left-askable t rows sound, c.advance.ensures.room.orders);
+        changes = omega (arith, ap owed c.drop_done.ensures, left-owed (is_meant t) rows sound, c.advance.ensures.room.changes);
+        orders = omega (arith, ap askable c.drop_done.ensures, left-askable (is_meant t) rows sound, c.advance.ensures.room.orders);
       };
       fit = subst IsFit (sym (plan c)) (reap-fit t c.args.entry q (fit c));
       light = omega (arith, ap weight (plan c), size, same, c.requires.kept.light);
@@ -69,7 +69,7 @@ returns-clause-kept c =
 
 pub returns-clause-spare : goal.returns-clause-spare
 returns-clause-spare c =
-    let same = left-owed c.args.target.now c.advance.new.self.rows.items (fit-then c).sound in
+    let same = left-owed (is_meant c.args.target.now) c.advance.new.self.rows.items (fit-then c).sound in
     omega (arith, ap owed c.drop_done.ensures, same, c.advance.ensures.spare)
 
 pub returns-then-size-limit-clause-meets : goal.returns-then-size-limit-clause-meets

@@ -32,8 +32,8 @@ tied c =
     let s = c.args.self.now.calendar in
     let calendar : c.cancel_last.new.calendar ≡ cancelled_last b j (let_go_of (max p.moment at) p.reservations (booked_first b s)) =
     c.cancel_last.ensures ∙ ap (cancelled_last b j) (c.move_now.ensures.calendar ∙ c.advance.ensures.calendar
-      ∙ ap (λ (x : Plan). let_go_of (max x.moment at) x.reservations c.book_first.new.calendar) c.make_room.ensures.plan
-      ∙ ap (let_go_of (max p.moment at) p.reservations) ((c.in_ok-book_first.ensures {u = tt}).booked ∙ ap (booked_first b) c.make_room.ensures.calendar)) in
+    ∙ ap (λ (x : Plan). let_go_of (max x.moment at) x.reservations c.book_first.new.calendar) c.make_room.ensures.plan
+    ∙ ap (let_go_of (max p.moment at) p.reservations) ((c.in_ok-book_first.ensures {u = tt}).booked ∙ ap (booked_first b) c.make_room.ensures.calendar)) in
     subst (λ (t : Schedule). IsTied t (plan_of c.move_now.new.self)) (sym calendar)
     (subst (IsTied (cancelled_last b j (let_go_of (max p.moment at) p.reservations (booked_first b s)))) (sym (plan c))
     (tied-made b j s c.args.entry at p (moved c.args.entry c.args.m.now (advance_plan c.args.entry at p)) c.requires.beside c.requires.kept.fit c.requires.kept.tied c.requires.tie))

@@ -34,8 +34,8 @@ tied c =
     let s = c.args.self.now.calendar in
     let calendar : c.put_rows.new.self.calendar ≡ let_go_of (max p.moment at) p.reservations s =
     c.put_rows.ensures.calendar ∙ c.advance.ensures.calendar
-      ∙ ap (λ (x : Plan). let_go_of (max x.moment at) x.reservations c.make_seats.new.self.calendar) c.make_seats.ensures.plan
-      ∙ ap (let_go_of (max p.moment at) p.reservations) c.make_seats.ensures.calendar in
+    ∙ ap (λ (x : Plan). let_go_of (max x.moment at) x.reservations c.make_seats.new.self.calendar) c.make_seats.ensures.plan
+    ∙ ap (let_go_of (max p.moment at) p.reservations) c.make_seats.ensures.calendar in
     subst (λ (t : Schedule). IsTied t (plan_of c.put_rows.new.self)) (sym calendar)
     (subst (IsTied (let_go_of (max p.moment at) p.reservations s)) (sym (plan c))
     (tied-joined (let_go_of (max p.moment at) p.reservations s) c.args.rows.items c.args.arrays (advance_plan c.args.entry at p) c.requires.waits (tied-advance s c.args.entry at p c.requires.kept.fit c.requires.kept.tied)))

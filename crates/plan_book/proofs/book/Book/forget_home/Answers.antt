@@ -1,0 +1,88 @@
+use Rattle.std.proofs.Common.{◌≡◌, ◌+◌, ℕ, List, filter, map, not, refl, sym, ◌∙◌, ap, subst, arith}
+use Rattle.std.specs.Prelude.{Result, Err}
+use Rattle.drmaa_types.specs.declared.refusals.Refusal.{Refusal}
+use Rattle.drmaa_types.specs.declared.refusals.Refusal.TheVariants.{OutOfResource}
+use Rattle.drmaa_types.specs.declared.refusals.Limit.TheVariants as resource
+use Rattle.drmaa_model.specs.declared.reservations.Accepted.{Accepted}
+use Rattle.drmaa_model.specs.declared.rows.Row.{Row}
+use Rattle.drmaa_model.specs.Effects.{left_by, is_forgotten, forget_home}
+use Rattle.drmaa_model.specs.Fit.{IsFit}
+use Rattle.drmaa_model.specs.FitLaws.{advance-fit}
+use Rattle.drmaa_model.specs.HomeLaws.{forget-fit}
+use Rattle.drmaa_model.specs.Operation.Meets.{served, full}
+use Rattle.drmaa_model.specs.Plan.{Plan}
+use Rattle.drmaa_model.specs.Size.{weight}
+use Rattle.drmaa_model.specs.Time.{advance_plan}
+use Rattle.drmaa_model.specs.TimeLaws.{weight-advance}
+use Rattle.drmaa_model.specs.WeightLaws.{forget-weight}
+use Rattle.plan_book.specs.Book.{plan_of, owed, askable}
+use Rattle.plan_book.specs.Ties.{IsTied}
+use Rattle.plan_book.specs.TieLaws.{tied-then}
+use Rattle.plan_book.proofs.ArrivalLaws.{forgot-owed, forgot-askable, tied-forgot}
+use Rattle.plan_book.proofs.book.Book.forget_home.Goals as goal
+use Rattle.plan_book.proofs.book.Book.forget_home.Goals.{After-leave_reservations}
+
+rows : (c : After-leave_reservations) → c.leave_rows.new.rows.items
+    ≡ map (λ (row : Row). record row { home = left_by c.args.home row.home }) (filter (λ (row : Row). not (is_forgotten c.args.home row)) c.advance.new.self.rows.items)
+rows c = c.leave_rows.ensures ∙ ap (map (λ (row : Row). record row { home = left_by c.args.home row.home })) c.drop_forgotten.ensures
+
+abbrev after : (c : After-leave_reservations) → Plan
+after c = record (plan_of c.advance.new.self) { rows = c.leave_rows.new.rows.items; reservations = c.leave_reservations.new.rs.items }
+
+plan : (c : After-leave_reservations) → after c ≡ forget_home c.args.home (advance_plan c.args.entry c.args.at (plan_of c.args.self.now))
+plan c =
+    ap (λ (xs : List Row). let p : Plan = record (plan_of c.advance.new.self) { rows = xs; reservations = c.leave_reservations.new.rs.items } in p) (rows c)
+    ∙ ap (λ (rs : List Accepted). let p : Plan = record (forget_home c.args.home (plan_of c.advance.new.self)) { reservations = rs } in p) c.leave_reservations.ensures
+    ∙ ap (forget_home c.args.home) c.advance.ensures.plan
+
+fit : (c : After-leave_reservations) → IsFit (advance_plan c.args.entry c.args.at (plan_of c.args.self.now))
+fit c = advance-fit c.args.entry c.args.at (plan_of c.args.self.now) c.requires.kept.fit
+
+fit-then : (c : After-leave_reservations) → IsFit (plan_of c.advance.new.self)
+fit-then c = subst IsFit (sym c.advance.ensures.plan) (fit c)
+
+pub returns-clause-meets : goal.returns-clause-meets
+returns-clause-meets c =
+    let p = plan_of c.args.self.now in
+    let q = advance_plan c.args.entry c.args.at p in
+    let size = weight-advance c.args.entry c.args.at p in
+    let same = forget-weight c.args.home q (fit c) in
+    served (record { answered = refl; answers = tt; plan = plan c; within = omega (arith, size, same, c.weight.ensures) })
+
+pub returns-clause-kept : goal.returns-clause-kept
+returns-clause-kept c =
+    let p = plan_of c.args.self.now in
+    let q = advance_plan c.args.entry c.args.at p in
+    let sound = (fit-then c).sound in
+    let old = c.advance.new.self.rows.items in
+    let size = weight-advance c.args.entry c.args.at p in
+    let same = forget-weight c.args.home q (fit c) in
+    record {
+      room = record {
+        changes = omega (arith, ap owed (rows c), forgot-owed c.args.home old sound, c.advance.ensures.room.changes);
+        orders = omega (arith, ap askable (rows c), forgot-askable c.args.home old sound, c.advance.ensures.room.orders);
+      };
+      fit = subst IsFit (sym (plan c)) (forget-fit c.args.home q (fit c));
+      light = omega (arith, ap weight (plan c), size, same, c.requires.kept.light);
+      tied = subst (IsTied c.advance.new.self.calendar) (sym (plan c))
+          (tied-forgot c.advance.new.self.calendar c.args.home q (fit c)
+          (tied-then c.args.self.now.calendar c.advance.new.self.calendar c.args.entry c.args.at p q c.requires.kept.fit c.requires.kept.tied c.advance.ensures.calendar refl));
+    }
+
+pub returns-clause-spare : goal.returns-clause-spare
+returns-clause-spare c =
+    let same = forgot-owed c.args.home c.advance.new.self.rows.items (fit-then c).sound in
+    omega (arith, ap owed (rows c), same, c.advance.ensures.spare)
+
+pub returns-then-size-limit-clause-meets : goal.returns-then-size-limit-clause-meets
+returns-then-size-limit-clause-meets c =
+    let p = plan_of c.args.self.now in
+    let q = advance_plan c.args.entry c.args.at p in
+    let size = weight-advance c.args.entry c.args.at p in
+    let same = forget-weight c.args.home q (advance-fit c.args.entry c.args.at p c.requires.kept.fit) in
+    let eq : c.args.entry + c.weight.result ≡ c.args.entry + weight (forget_home c.args.home q) = omega (arith, size, same, c.weight.ensures) in
+    full (record {
+      answered = ap (λ (n : ℕ). let r : Result (Unit {0}) Refusal = Err (OutOfResource (resource.Journal n)) in r) eq;
+      above = omega (arith, eq, c.if-size-limit.true);
+      plan = refl;
+    })

@@ -1,0 +1,100 @@
+//! The homes of jobs and reservations: named sessions, which may be destroyed.
+ghost use Rattle.std.specs.Prelude.{◌≡◌, ◌≢◌, ◌+◌, ◌≤◌, not, map, filter, Some, Ok, Err};
+ghost use Rattle.drmaa_model.specs.declared.reservations.Accepted.{Accepted};
+ghost use Rattle.drmaa_model.specs.declared.rows.Row.{Row};
+ghost use Rattle.drmaa_model.specs.Effects.{left_by, is_forgotten, forget_home};
+ghost use Rattle.drmaa_model.specs.Homes.{is_same_home};
+ghost use Rattle.drmaa_model.specs.Operation.{Meets};
+ghost use Rattle.drmaa_model.specs.Time.{advance_plan};
+ghost use Rattle.plan_book.specs.Book.{plan_of, IsKept, spare};
+
+use crate::book::Book;
+use crate::targets::is_done;
+use drmaa_model::{Accepted, Row};
+use drmaa_types::{Limit, Moment, Refusal};
+
+impl Book {
+    /// Forgets a home at a moment, where the journal has room for that: its ended jobs go, and its other jobs and its
+    /// reservations are left without one. It takes no memory.
+    ///
+    /// # Errors
+    ///
+    /// A journal that would be too large. Nothing has changed then.
+    pub fn forget_home(
+        &mut self,
+        at: Moment,
+        entry: u64,
+        limit: u64,
+        home: u64,
+    ) -> Result<(), Refusal>
+        requires kept { IsKept self.old }
+        requires entry { entry ≤ 4_000_001 }
+        requires limit { limit ≤ 4_000_000 }
+        ensures meets { Meets (record { answer = Ok tt; plan = forget_home home (advance_plan entry at (plan_of self.old)) })
+            (plan_of self.old) entry limit result (plan_of self.new) }
+        ensures kept { IsKept self.new }
+        ensures spare { spare self.new ≡ spare self.old }
+        ensures memory { result ≢ Err Refusal.OutOfMemory }
+    {
+        let size = entry + self.weight();
+        if size > limit {
+            return Err(Refusal::OutOfResource(Limit::Journal { size }));
+        }
+        self.advance(at, entry);
+        drop_forgotten(&mut self.rows, home);
+        leave_rows(&mut self.rows, home);
+        leave_reservations(&mut self.reservations, home);
+        Ok(())
+    }
+}
+
+fn is_home(own: Option<u64>, home: u64) -> bool
+    ensures { result ≡ is_same_home (Some home) own }
+{
+    match own {
+        Some(own) => home == own,
+        None => false,
+    }
+}
+
+/// What belonged to the home has none.
+fn left_by(own: Option<u64>, home: u64) -> Option<u64>
+    ensures { result ≡ left_by home own }
+{
+    if is_home(own, home) { None } else { own }
+}
+
+/// Forgets the ended jobs of the home.
+fn drop_forgotten(rows: &mut Vec<Row>, home: u64)
+    ensures { rows.new.items ≡ filter (λ (row : Row). not (is_forgotten home row)) rows.old.items }
+{
+    rows.retain(|row| !(is_home(row.home, home) && is_done(row)));
+}
+
+fn leave_row(row: &mut Row, home: u64)
+    ensures { row.new ≡ record row.old { home = left_by home row.old.home } }
+{
+    row.home = left_by(row.home, home);
+}
+
+fn leave_reservation(r: &mut Accepted, home: u64)
+    ensures { r.new ≡ record r.old { home = left_by home r.old.home } }
+{
+    r.home = left_by(r.home, home);
+}
+
+fn leave_rows(rows: &mut Vec<Row>, home: u64)
+    ensures { rows.new.items ≡ map (λ (row : Row). record row { home = left_by home row.home }) rows.old.items }
+{
+    for row in rows.iter_mut() {
+        leave_row(row, home);
+    }
+}
+
+fn leave_reservations(rs: &mut Vec<Accepted>, home: u64)
+    ensures { rs.new.items ≡ map (λ (r : Accepted). record r { home = left_by home r.home }) rs.old.items }
+{
+    for r in rs.iter_mut() {
+        leave_reservation(r, home);
+    }
+}
