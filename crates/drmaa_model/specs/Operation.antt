@@ -23,10 +23,10 @@ pub record Outcome (A : Type 0) : Type 0 where
 abbrev pub outcome : {A : Type 0} → Operation A → ℕ → Plan → Outcome A
 outcome op entry p = option_map_or (λ (why : Refusal). record { answer = Err why; plan = p }) (op.refusal p) (record { answer = Ok (op.told p); plan = op.effect entry p })
 
--- A refusal that is an answer: want of memory and a full journal never are.
+-- A refusal that is an answer, and may stand in an entry: want of memory, a full journal and a turn that another has never do.
 abbrev pub is_answer : Refusal → Bool
 is_answer (DeniedByDrms moment) = true
-is_answer (TryLater served drawn) = true
+is_answer (TryLater served drawn) = false
 is_answer Timeout = true
 is_answer (InvalidArgument which) = true
 is_answer InvalidSession = true

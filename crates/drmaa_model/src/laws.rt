@@ -45,7 +45,8 @@ pub fn every_operation_keeps_a_plan_fit()
 
 /// A step leads from a consistent world to a consistent one. Each change that it adds bears the number of its entry
 /// and is an edge of the state model, from the state that the job's row had. It makes one entry, and leaves the
-/// configuration and the number of slots. Its moment is the one handed in, and never falls.
+/// configuration and the number of slots. Its moment is the greater of the one before and
+/// the one handed in.
 pub fn a_step_keeps_the_world()
     ensures consistent { (w : World) (entry : Entry) (next : World) → IsConsistent w → IsStep w entry next → IsConsistent next }
     ensures edges { (w : World) (entry : Entry) (next : World) → IsConsistent w → IsStep w entry next → AddsEdges (w.entries + 1) w.plan next.plan }

@@ -31,7 +31,8 @@ pub struct JobTemplate {
     pub args: TextList,
     /// Whether the job is submitted as QUEUED_HELD.
     pub submit_as_hold: bool,
-    /// Whether it may be launched again after an exit or a failed start.
+    /// Whether it is queued again after exit code 99, and after a failed start of its first or second launch, where no kill
+    /// was asked.
     pub rerunnable: bool,
     pub job_environment: PairList,
     pub working_directory: Option<Text>,

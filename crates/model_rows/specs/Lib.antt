@@ -1,0 +1,4 @@
+pub mod Arrays
+pub mod Jobs
+pub mod Machines
+pub mod Reservations
