@@ -1,4 +1,4 @@
--- How a core's own fields are read: the plan that a book keeps, and the room that it has.
+-- How a book is read: the plan that it keeps, and the room that it has.
 use Rattle.std.specs.Prelude.{◌≡◌, ℕ, max, filter, ◌+◌, ◌-◌, ◌<◌, ◌≤◌, ◌&&◌, ◌==◌, not, true, false, Bool, List, ◌++◌, Option, Some, None, sum_by, length, vec_len, vec_capacity, if◌then◌else◌}
 use Rattle.drmaa_types.specs.States.{is_waiting, is_started, is_state}
 use Rattle.drmaa_types.specs.declared.identifiers.JobId.{JobId}

@@ -1,14 +1,12 @@
 //! Jobs that come in, and ended ones that are forgotten.
-ghost use Rattle.std.specs.Prelude.{◌≡◌, ◌≢◌, ◌+◌, ◌^◌, ◌<◌, ◌≤◌, ◌&&◌, ◌++◌, not, true, filter, length, vec_len, vec_capacity, Ok, Err, OnOk, IsOk};
-ghost use Rattle.std.specs.List.{AllByRecursion};
-ghost use Rattle.drmaa_types.specs.States.{is_waiting};
+ghost use Rattle.std.specs.Prelude.{◌≡◌, ◌≢◌, ◌+◌, ◌^◌, ◌<◌, ◌≤◌, ◌&&◌, ◌++◌, not, filter, length, vec_len, vec_capacity, Ok, Err, OnOk};
 ghost use Rattle.drmaa_model.specs.declared.rows.Row.{Row};
 ghost use Rattle.drmaa_model.specs.Controlling.{reap, is_done};
 ghost use Rattle.drmaa_model.specs.Fit.{IsFit};
 ghost use Rattle.drmaa_model.specs.Operation.{Meets};
 ghost use Rattle.drmaa_model.specs.Targets.{is_meant};
 ghost use Rattle.drmaa_model.specs.Time.{advance_plan};
-ghost use Rattle.plan_book.specs.Book.{plan_of, HasRoom, IsKept, joined, spare, spare_orders, spare_rows};
+ghost use Rattle.plan_book.specs.Book.{plan_of, HasRoom, IsKept, joined, spare, spare_rows};
 ghost use Rattle.plan_book.specs.Waiting.{AreWaiting};
 
 use crate::book::Book;

@@ -1,11 +1,11 @@
 //! Reservations that come and go, each with its booking in the calendar.
-ghost use Rattle.std.specs.Prelude.{◌≡◌, ◌≢◌, ◌+◌, ◌^◌, ◌<◌, ◌≤◌, ◌++◌, ◌∷◌, [], filter, true, Ok, Err, OnOk, OnErr, IfErr};
+ghost use Rattle.std.specs.Prelude.{◌≡◌, ◌≢◌, ◌+◌, ◌^◌, ◌<◌, ◌≤◌, ◌++◌, ◌∷◌, [], filter, Ok, Err, OnOk, OnErr, IfErr};
 ghost use Rattle.drmaa_model.specs.Fit.{IsFit};
 ghost use Rattle.drmaa_model.specs.Operation.{Meets};
 ghost use Rattle.drmaa_model.specs.Requests.{is_other, end_reservation, with_reservation, without_reservation};
 ghost use Rattle.drmaa_model.specs.Time.{advance_plan};
 ghost use Rattle.reservation_calendar.specs.Schedules.{without};
-ghost use Rattle.plan_book.specs.Book.{plan_of, calendar_of, HasPlace, HasRoom, IsKept, spare, spare_orders};
+ghost use Rattle.plan_book.specs.Book.{plan_of, calendar_of, HasPlace, HasRoom, IsKept, spare};
 ghost use Rattle.plan_book.specs.Places.{AreInOrder};
 ghost use Rattle.plan_book.specs.Ties.{IsFree, booked_for};
 

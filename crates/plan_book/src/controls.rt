@@ -1,9 +1,7 @@
 //! A control call, on one job or on the members of an array: all jobs that it acts on go on in one step, or nothing changes.
-ghost use Rattle.std.specs.Prelude.{◌≡◌, ◌≢◌, ◌+◌, ◌^◌, ◌<◌, ◌≤◌, ◌++◌, false, map, filter, length, vec_len, vec_capacity, Ok, Err, OnOk, IsOk};
-ghost use Rattle.std.specs.List.{flat_map};
-ghost use Rattle.drmaa_model.specs.Controlling.{control, control_step, is_controlled, asked_orders};
+ghost use Rattle.std.specs.Prelude.{◌≡◌, ◌≢◌, ◌+◌, ◌^◌, ◌<◌, ◌≤◌, false, filter, length, Ok, Err, OnOk, IsOk};
+ghost use Rattle.drmaa_model.specs.Controlling.{control, is_controlled};
 ghost use Rattle.drmaa_model.specs.Fit.{IsFit};
-ghost use Rattle.drmaa_model.specs.Growth.{is_growing};
 ghost use Rattle.drmaa_model.specs.Operation.{Meets};
 ghost use Rattle.drmaa_model.specs.Time.{advance_plan, lasts, rows_at};
 ghost use Rattle.drmaa_model.specs.TimeLaws.{timed};

@@ -1,6 +1,6 @@
 //! How a job's course goes on: the rules of the profile, as functions from one course to the next. None of them takes memory.
 ghost use Rattle.std.specs.Prelude.{◌≡◌, ◌+◌, ◌^◌, ◌<◌, if◌then◌else◌};
-ghost use Rattle.drmaa_types.specs.States.{after_exit, after_start_failure, has_terminated};
+ghost use Rattle.drmaa_types.specs.States.{has_terminated};
 ghost use Rattle.drmaa_model.specs.Courses.{planned_end, limit_end, optional_end, end_after, lesser_end, submitted_course, launched, is_asked, ended, exited, lost, unstarted, signal_failed, begun, failed, called, is_unasked, may_kill, terminated, controlled, asked_for};
 
 use crate::states::is_started;

@@ -1,5 +1,5 @@
 //! The homes of jobs and reservations: named sessions, which may be destroyed.
-ghost use Rattle.std.specs.Prelude.{◌≡◌, ◌≢◌, ◌+◌, ◌≤◌, not, map, filter, Some, Ok, Err};
+ghost use Rattle.std.specs.Prelude.{◌≡◌, ◌≢◌, ◌≤◌, not, map, filter, Some, Ok, Err};
 ghost use Rattle.drmaa_model.specs.declared.reservations.Accepted.{Accepted};
 ghost use Rattle.drmaa_model.specs.declared.rows.Row.{Row};
 ghost use Rattle.drmaa_model.specs.Effects.{left_by, is_forgotten, forget_home};

@@ -1,9 +1,7 @@
 //! How one job goes on: its move is made at a moment, where the journal and the memory have room for it, or nothing changes.
-ghost use Rattle.std.specs.Prelude.{false, ◌≡◌, ◌≢◌, ◌+◌, ◌≤◌, vec_len, vec_capacity, IsOk, true, IfErr, OnOk, OnErr, Ok, Err, if◌then◌else◌, [], ◌∷◌, ◌++◌};
-ghost use Rattle.drmaa_types.specs.States.{is_state};
+ghost use Rattle.std.specs.Prelude.{false, ◌≡◌, ◌≢◌, ◌+◌, ◌≤◌, IsOk, true, IfErr, OnOk, OnErr, Ok, Err, if◌then◌else◌, []};
 ghost use Rattle.drmaa_model.specs.Fit.{IsFit};
 ghost use Rattle.drmaa_model.specs.Operation.{size_at, Meets, is_answer};
-ghost use Rattle.drmaa_model.specs.Size.{weight};
 ghost use Rattle.drmaa_model.specs.Time.{advance_plan};
 ghost use Rattle.plan_book.specs.Book.{plan_of, calendar_of, HasRoom, spare, spare_orders, IsMove, IsKept, Refuses, grows, asks, moved};
 ghost use Rattle.plan_book.specs.Ties.{MayMake, IsBeside, KeepsTie, booked_first, cancelled_last, is_booking};

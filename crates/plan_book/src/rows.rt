@@ -1,13 +1,9 @@
-//! The rows, as a plain list that is scanned.
+//! The rows, as a plain list in order of number.
 ghost use Rattle.drmaa_model.specs.Fit.{IsRising, number_of};
 ghost use Rattle.plan_book.specs.Places.{IsAt};
-ghost use Rattle.std.specs.Prelude.{IfOk, IfErr, None, ◌≡◌, ◌+◌, ◌^◌, ◌<◌, ◌≤◌, ◌&&◌, nat_le, map, filter};
-ghost use Rattle.std.specs.Option.{option_copied, option_map, option_map_or};
-ghost use Rattle.drmaa_types.specs.declared.states.JobState.TheVariants.{Undetermined};
-ghost use Rattle.drmaa_model.specs.declared.rows.Row.{Row};
-ghost use Rattle.drmaa_model.specs.Order.{held, is_reached, better};
-ghost use Rattle.drmaa_model.specs.Rows.{row_of, state_of, with_course};
-ghost use Rattle.plan_book.specs.Facts.{facts_of};
+ghost use Rattle.std.specs.Prelude.{IfOk, IfErr, None, ◌≡◌, ◌^◌, ◌<◌, map};
+ghost use Rattle.std.specs.Option.{option_copied};
+ghost use Rattle.drmaa_model.specs.Rows.{row_of, with_course};
 ghost use Rattle.drmaa_model.specs.Size.{promised};
 ghost use Rattle.plan_book.specs.Book.{owed, askable};
 
@@ -15,7 +11,7 @@ use crate::rooms::{may_ask, owes, room_of};
 use drmaa_model::{Course, Row};
 use drmaa_types::{JobId, JobState, Moment};
 
-/// What of a row a report needs.
+/// What of a row an operation on one job needs.
 #[derive(Clone, Copy)]
 pub struct Facts {
     pub job: JobId,

@@ -2,7 +2,6 @@
 ghost use Rattle.std.specs.Prelude.{◌≡◌, ◌+◌, ◌≤◌, ◌++◌, map, length, vec_len, vec_capacity};
 ghost use Rattle.std.specs.List.{flat_map};
 ghost use Rattle.drmaa_model.specs.Controlling.{control_step, is_controlled, asked_orders};
-ghost use Rattle.drmaa_model.specs.Rows.{change_of};
 ghost use Rattle.plan_book.specs.Sweeps.{noted};
 
 use crate::changes::push_change;

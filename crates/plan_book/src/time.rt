@@ -1,10 +1,9 @@
 //! What time does to rows, reservations and orders. None of it takes memory.
-ghost use Rattle.std.specs.Prelude.{◌≡◌, ◌+◌, ◌≤◌, ◌++◌, ◌==◌, ◌&&◌, ◌||◌, nat_le, length, map, filter, find, if◌then◌else◌, vec_len, vec_capacity};
+ghost use Rattle.std.specs.Prelude.{◌≡◌, ◌+◌, ◌≤◌, ◌++◌, ◌&&◌, ◌||◌, length, map, filter, if◌then◌else◌, vec_len, vec_capacity};
 ghost use Rattle.drmaa_types.specs.States.{is_waiting, is_started};
-ghost use Rattle.drmaa_model.specs.Courses.{is_unasked, failed, called};
-ghost use Rattle.drmaa_model.specs.Time.{lasts, is_late, is_past, is_over, is_accepted, is_stranded, lapses, lapsed, is_due, called_in, kill_order};
-ghost use Rattle.std.specs.Option.{option_copied, option_map};
-ghost use Rattle.drmaa_model.specs.TimeLaws.{expiry, timed};
+ghost use Rattle.drmaa_model.specs.Courses.{is_unasked};
+ghost use Rattle.drmaa_model.specs.Time.{lasts, is_late, is_past, is_over, is_stranded, lapses, lapsed, is_due, called_in, kill_order};
+ghost use Rattle.drmaa_model.specs.TimeLaws.{expiry};
 ghost use Rattle.reservation_calendar.specs.Schedules.{without};
 ghost use Rattle.plan_book.specs.Places.{AreInOrder};
 ghost use Rattle.plan_book.specs.Ties.{let_go_of};
