@@ -1,6 +1,6 @@
 -- What is said of the fields is said of the values that callers see.
-use Rattle.std.specs.Prelude.{◌≡◌, ℕ, List, Option, IfNone, IsSome, None, Some, true, false, IsTrue, IsFalse, ◌↔◌}
-use Rattle.std.proofs.Common.{sym, subst, ◌∙◌, ap}
+use Rattle.std.specs.Prelude.{◌≡◌, ℕ, List, Option, IfNone, IsSome, None, Some}
+use Rattle.std.proofs.Common.{sym, subst}
 use Rattle.drmaa_types.specs.declared.states.Exit.{Exit}
 use Rattle.drmaa_types.specs.declared.states.SignalKind.{SignalKind}
 use Rattle.child_spawner.specs.Deeds.{Deed, Fails, Withholds}

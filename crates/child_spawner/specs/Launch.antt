@@ -68,10 +68,12 @@ pub record Edge (H : Type 0) : Type 0 where
   pub faults : ℕ
 
 -- what a `LocalChild` is seen as: its host, the file for its process's number and that number, how it was seen to end,
--- and its count of faults
+-- the status that a wait has told, how many waits failed, and its count of faults
 pub record EdgeChild (H : Type 0) : Type 0 where
   pub host : H
   pub file : List ℕ
   pub number : ℕ
+  pub status : Option ExitStatus
+  pub failed_waits : ℕ
   pub ended : Option Exit
   pub faults : ℕ

@@ -2,6 +2,7 @@
 ghost use Rattle.std.specs.Prelude.{◌≡◌, ℕ, true, false, [], ◌∷◌, List, Option, Some, None, Ok, OnOk, OnErr, IfOk, IfSome, string_bytes};
 ghost use Rattle.std.specs.Process.{command_args, command_program};
 ghost use Rattle.std.specs.declared.process.status.ExitStatus.{ExitStatus};
+ghost use Rattle.drmaa_types.specs.Counts.{Rose};
 ghost use Rattle.child_spawner.specs.Deeds.{Deed, Did};
 ghost use Rattle.child_spawner.specs.Deeds.Deed.{Removes, Reads, Starts, Runs};
 ghost use Rattle.child_spawner.specs.Launch.{IsPlain};
@@ -62,6 +63,9 @@ pub trait Process {
     /// How it ended, once a wait has told it.
     ghost status: { Self → Option ExitStatus };
 
+    /// How many waits for it failed. The count stays at 2^64 - 1 once it is there.
+    ghost faults: { Self → ℕ };
+
     /// The number that the machine knows it by.
     fn id(&self) -> u32
         ensures { result ≡ number self.now };
@@ -70,5 +74,7 @@ pub trait Process {
     fn try_wait(&mut self) -> io::Result<Option<ExitStatus>>
         ensures number { number self.new ≡ number self.old }
         ensures again { IfSome (status self.old) (λ status. result ≡ Ok (Some status)) }
-        ensures kept { IfOk result (λ seen. status self.new ≡ seen) };
+        ensures kept { IfOk result (λ seen. status self.new ≡ seen) }
+        ensures failed { OnErr result (Rose (faults self.old) (faults self.new)) }
+        ensures counted { OnOk result (faults self.new ≡ faults self.old) };
 }

@@ -1,9 +1,9 @@
 //! The spawner of real processes.
-ghost use Rattle.std.specs.Prelude.{◌≡◌, ℕ, ◌≤◌, [], ◌++◌, length, Option, None, Some, Ok, OnOk, OnErr, IfOk, IfSome, IfNone, IsErr, IsSome, is_ok, IsTrue, IsFalse, string_bytes, if◌then◌else◌};
+ghost use Rattle.std.specs.Prelude.{◌≡◌, ℕ, ◌≤◌, [], ◌++◌, length, Option, None, Some, Ok, OnOk, OnErr, IfOk, IfSome, IfNone, IsErr, IsSome, is_ok, option_map, IsTrue, IsFalse, string_bytes, if◌then◌else◌};
 ghost use Rattle.drmaa_types.specs.Readings.{counted_on};
 ghost use Rattle.drmaa_types.specs.Counts.{Rose};
 ghost use Rattle.child_spawner.specs.Deeds.{Launches, Fails, Clears, Sends, Withholds};
-ghost use Rattle.child_spawner.specs.Launch.{number_file};
+ghost use Rattle.child_spawner.specs.Launch.{number_file, exit_of_status};
 ghost use Rattle.child_spawner.specs.Spawners.{plain_fate};
 
 use crate::counts::counted_on;
@@ -91,6 +91,8 @@ where
           host = child.host;
           file = number_file self.old.folder job.0 attempt;
           number = child.number;
+          status = child.status;
+          failed_waits = child.failed_waits;
           ended = None;
           faults = 0;
         }) }
@@ -131,6 +133,8 @@ fn launch<H: Host>(
       host = child.host;
       file = number_file folder.now job.0 attempt;
       number = child.number;
+      status = child.status;
+      failed_waits = child.failed_waits;
       ended = None;
       faults = 0;
     }) }
@@ -172,6 +176,8 @@ impl<H: Host> Model for LocalChild<H> {
       host = c.host;
       file = string_bytes c.file;
       number = H.Process.number c.process;
+      status = H.Process.status c.process;
+      failed_waits = H.Process.faults c.process;
       ended = c.ended;
       faults = c.faults;
     } };
@@ -196,8 +202,12 @@ impl<H: Host> Child for LocalChild<H> {
         ensures again { IfSome self.old.ended (λ exit. result ≡ Ok (Some exit)) }
         ensures ended { IfOk result (λ seen. self.new.ended ≡ seen) }
         ensures unseen { OnErr result (self.new.ended ≡ self.old.ended) }
+        ensures caused { OnErr result (Rose self.old.failed_waits self.new.failed_waits) }
+        ensures learnt { IfOk result (λ seen. seen ≡ option_map exit_of_status self.new.status) }
         ensures seen { self.new ≡ record self.old {
           host = self.new.host;
+          status = self.new.status;
+          failed_waits = self.new.failed_waits;
           ended = self.new.ended;
           faults = if is_ok result then self.old.faults else counted_on self.old.faults;
         } }

@@ -2,6 +2,7 @@
 ghost use Rattle.std.specs.Prelude.{◌≡◌, None, IfSome, IfOk, Ok, Some};
 ghost use Rattle.std.specs.Process.{child_status};
 
+use crate::counts::counted_on;
 use crate::{Host, Process};
 use std::io::ErrorKind;
 use std::process::{Command, ExitStatus, Stdio};
@@ -67,12 +68,17 @@ impl Host for SystemHost {
 pub struct SystemProcess {
     process: process::Child,
     number: u32,
+    faults: u64,
 }
 
 impl SystemProcess {
     fn new(process: process::Child) -> SystemProcess {
         let number = process.id();
-        SystemProcess { process, number }
+        SystemProcess {
+            process,
+            number,
+            faults: 0,
+        }
     }
 }
 
@@ -81,11 +87,17 @@ impl Process for SystemProcess {
 
     ghost status = { λ p. child_status p.process };
 
+    ghost faults = { λ p. p.faults };
+
     fn id(&self) -> u32 {
         self.number
     }
 
     fn try_wait(&mut self) -> io::Result<Option<ExitStatus>> {
-        self.process.try_wait()
+        let seen = self.process.try_wait();
+        if seen.is_err() {
+            self.faults = counted_on(self.faults);
+        }
+        seen
     }
 }

@@ -1,4 +1,4 @@
-use Rattle.std.proofs.Common.{refl, sym, ap, ◌∙◌}
+use Rattle.std.proofs.Common.{ap, ◌∙◌}
 use Rattle.child_spawner.proofs.Edges.{launch_failed}
 use Rattle.child_spawner.proofs.local.LocalSpawnerSpawner.start.Goals as goal
 
