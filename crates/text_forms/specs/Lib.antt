@@ -1,0 +1,11 @@
+pub mod Words
+pub mod WordLaws
+pub mod Numbers
+pub mod NumberLaws
+pub mod Refusals
+pub mod RefusalLaws
+pub mod Templates
+pub mod TemplateLaws
+pub mod Infos
+pub mod InfoLaws
+pub mod CallWords

@@ -1,0 +1,100 @@
+//! Templates of reservations in braces: read.
+ghost use Rattle.std.specs.Prelude.{◌≡◌};
+ghost use Rattle.text_codec.specs.Formats.{Answers};
+ghost use Rattle.text_forms.specs.Templates as templates;
+ghost use Rattle.text_forms.specs.TemplateLaws as laws;
+
+use crate::job_templates::are_others;
+use crate::{ReadForm, read_all, read_set};
+use drmaa_types::{AttributeList, Moment, Text};
+use job_template::{ReservationTemplate, Start};
+use text_codec::{Cursor, Unread};
+
+/// The last fields: how many slots, and attributes that are not supported.
+type Counted = (Option<u32>, (Option<u32>, (AttributeList, ())));
+
+/// All fields.
+type Frames = (
+    Option<Text>,
+    (Option<Start>, (Option<Moment>, (Option<u64>, Counted))),
+);
+
+impl ReadForm for Start {
+    ghost form = { templates.start };
+
+    ghost laws = { laws.start_laws };
+
+    #[tactic(auto, unfolding(crate::specs::Templates::start, text_codec::specs::Formats::mapped, text_codec::specs::Formats::or_else))]
+    fn read(cursor: &mut Cursor) -> Result<Start, Unread> {
+        if cursor.skip(b"now") {
+            return Ok(Start::Now);
+        }
+        Ok(Start::At(cursor.moment()?))
+    }
+}
+
+#[tactic(auto, unfolding(crate::specs::Templates::count_fields, text_codec::specs::Fields::repeated, text_codec::specs::Fields::field, text_codec::specs::Fields::no_more))]
+fn read_counts(cursor: &mut Cursor) -> Result<Counted, Unread>
+    ensures { Answers templates.count_fields.body.read cursor.old result cursor.new }
+{
+    let least = read_set(cursor, b" minslots ")?;
+    let most = read_set(cursor, b" maxslots ")?;
+    let others = read_all(cursor, b" other ")?;
+    Ok((least, (most, (others, ()))))
+}
+
+#[tactic(auto, unfolding(crate::specs::Templates::frame_fields, text_codec::specs::Fields::field))]
+fn read_fields(cursor: &mut Cursor) -> Result<Frames, Unread>
+    ensures { Answers templates.frame_fields.body.read cursor.old result cursor.new }
+{
+    let name = read_set(cursor, b" name ")?;
+    let start = read_set(cursor, b" start ")?;
+    let end = read_set(cursor, b" end ")?;
+    let duration = read_set(cursor, b" duration ")?;
+    let counts = read_counts(cursor)?;
+    Ok((name, (start, (end, (duration, counts)))))
+}
+
+/// The template with these fields.
+fn made(fields: Frames) -> ReservationTemplate
+    ensures { result ≡ templates.make_frame fields }
+{
+    let (reservation_name, (start_time, (end_time, (duration, counts)))) = fields;
+    let (min_slots, (max_slots, (others, ()))) = counts;
+    ReservationTemplate {
+        reservation_name,
+        start_time,
+        end_time,
+        duration,
+        min_slots,
+        max_slots,
+        others,
+    }
+}
+
+/// Reads a template with any attributes under `other`.
+#[tactic(auto, unfolding(crate::specs::Templates::any_frame, text_codec::specs::Formats::mapped, text_codec::specs::Braces::braces))]
+fn read_any(cursor: &mut Cursor) -> Result<ReservationTemplate, Unread>
+    ensures { Answers templates.any_frame.read cursor.old result cursor.new }
+{
+    cursor.open()?;
+    let fields = read_fields(cursor)?;
+    cursor.expect(b"}")?;
+    Ok(made(fields))
+}
+
+impl ReadForm for ReservationTemplate {
+    ghost form = { templates.frame };
+
+    ghost laws = { laws.frame_laws };
+
+    #[tactic(auto, unfolding(crate::specs::Templates::frame, text_codec::specs::Formats::checked))]
+    fn read(cursor: &mut Cursor) -> Result<ReservationTemplate, Unread> {
+        let template = read_any(cursor)?;
+        if are_others(template.others.as_slice()) {
+            Ok(template)
+        } else {
+            Err(Unread::Unspelled)
+        }
+    }
+}
