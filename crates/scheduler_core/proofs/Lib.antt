@@ -1,0 +1,3 @@
+pub mod FactSteps
+pub mod ReportSteps
+pub mod Steps

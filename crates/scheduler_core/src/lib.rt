@@ -1,0 +1,12 @@
+//! The core of the scheduler: jobs, reservations, orders, changes and time. It answers for all of them, without sessions.
+#![tactic(auto)]
+
+mod cores;
+mod facts;
+mod reports;
+mod reservations;
+mod rows;
+
+pub use cores::Core;
+pub use drmaa_model::{Accepted, Indices, Launch, Report, Signal, Submitted, Target};
+pub use facts::RowFacts;
