@@ -1,3 +1,6 @@
 pub mod FactSteps
+pub mod LaunchSteps
+pub mod Priorities
 pub mod ReportSteps
+pub mod SeenLaws
 pub mod Steps

@@ -4,10 +4,12 @@ use Rattle.std.specs.Prelude.{Result, Ok, Err}
 use Rattle.std.specs.Option.{option_map}
 use Rattle.drmaa_types.specs.declared.identifiers.JobId.{JobId}
 use Rattle.drmaa_types.specs.declared.refusals.Refusal.{Refusal}
+use Rattle.drmaa_types.specs.declared.refusals.Refusal.TheVariants.{OutOfResource, OutOfMemory}
+use Rattle.drmaa_types.specs.declared.refusals.Limit.TheVariants.{Journal}
 use Rattle.drmaa_model.specs.declared.rows.Row.{Row}
 use Rattle.drmaa_model.specs.Fit.{IsFit}
-use Rattle.drmaa_model.specs.Operation.{Operation, Outcome, outcome, is_answer, Meets}
-use Rattle.drmaa_model.specs.Operation.Meets.{served, full}
+use Rattle.drmaa_model.specs.Operation.{Operation, Outcome, outcome, is_answer, size_at, Meets}
+use Rattle.drmaa_model.specs.Operation.Meets.{served, full, short}
 use Rattle.drmaa_model.specs.OperationLaws.{outcome-served, outcome-refused}
 use Rattle.drmaa_model.specs.Plan.{Plan}
 use Rattle.drmaa_model.specs.Rows.{row_of}
@@ -74,3 +76,22 @@ pub record IsFree (m : Move) : Type 0 where
   pub changes : grows m ≡ 0
   pub orders : asks m ≡ 0
   pub books : is_booking m.booked ≡ false
+
+-- the same answer with another value
+pub ok-meets : {A B : Type 0} (a x : A) (b : B) (entry limit : ℕ) (p n new : Plan) (result : Result A Refusal) → result ≡ Ok x
+    → Meets (record { answer = Ok a; plan = n }) p entry limit result new → Meets (record { answer = Ok b; plan = n }) p entry limit (Ok b) new
+ok-meets a x b entry limit p n new result is met =
+    elim met [
+      | served s ↦ served (record { answered = refl; answers = tt; plan = s.plan; within = s.within })
+      | full f ↦ (let e = f.answered in absurd (cc))
+      | short s ↦ (let e = s.answered in absurd (cc))
+    ]
+
+pub err-meets : {A B : Type 0} (a : A) (b : B) (why : Refusal) (entry limit : ℕ) (p n new : Plan) (result : Result A Refusal) → result ≡ Err why
+    → Meets (record { answer = Ok a; plan = n }) p entry limit result new → Meets (record { answer = Ok b; plan = n }) p entry limit (Err why) new
+err-meets {A} {B} a b why entry limit p n new result is met =
+    elim met [
+      | served s ↦ (let e = s.answered in absurd (cc))
+      | full f ↦ (let e = f.answered in full (record { answered = (let same : why ≡ OutOfResource (Journal (size_at entry n)) = cc in ap (λ (r : Refusal). let y : Result B Refusal = Err r in y) same); above = f.above; plan = f.plan }))
+      | short s ↦ (let e = s.answered in short (record { answered = (let same : why ≡ OutOfMemory = cc in ap (λ (r : Refusal). let y : Result B Refusal = Err r in y) same); plan = s.plan }))
+    ]

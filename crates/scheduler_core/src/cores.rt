@@ -3,9 +3,10 @@ ghost use Rattle.std.specs.Prelude.{◌≡◌, ◌≢◌, ◌+◌, ◌≤◌, If
 ghost use Rattle.std.specs.Option.{option_map, option_and_then, option_copied};
 ghost use Rattle.drmaa_model.specs.declared.rows.Row.{Row};
 ghost use Rattle.drmaa_model.specs.Operation.{Meets, outcome};
-ghost use Rattle.drmaa_model.specs.Order.{held};
+ghost use Rattle.drmaa_model.specs.Order.{held, next_launch};
 ghost use Rattle.drmaa_model.specs.Plan.{opening_plan};
 ghost use Rattle.drmaa_model.specs.Reporting.{report_of};
+ghost use Rattle.drmaa_model.specs.Launching.{launch};
 ghost use Rattle.drmaa_model.specs.Load.{reservation_of};
 ghost use Rattle.drmaa_model.specs.Requests.{end_reservation};
 ghost use Rattle.drmaa_model.specs.Rows.{row_of};
@@ -15,8 +16,8 @@ ghost use Rattle.scheduler_core.specs.Facts.{row_facts, job_from, lapses_at, res
 
 use crate::facts::{self, RowFacts};
 use crate::rows::held;
-use crate::{reports, reservations};
-use drmaa_model::{Accepted, Report};
+use crate::{launches, reports, reservations};
+use drmaa_model::{Accepted, Launch, Report};
 use drmaa_types::{Change, JobId, Moment, Refusal, ReservationId, Text};
 use plan_book::Book;
 use std::alloc::Global;
@@ -61,6 +62,43 @@ impl Core {
         ensures size { weight self.new.plan ≡ weight self.old.plan }
     {
         self.book.advance(at, entry);
+    }
+
+    /// What would be launched at this moment. Where that is nothing it takes no memory.
+    ///
+    /// # Errors
+    ///
+    /// Want of memory.
+    pub fn next_launch(&self, at: Moment) -> Result<Option<Launch>, Refusal>
+        ensures next { IfOk result (λ o. o ≡ launch.told (advance_plan 0 at self.now.plan)) }
+        ensures nothing { next_launch (advance_plan 0 at self.now.plan) ≡ None → result ≡ Ok None }
+        ensures err { IfErr result (λ why. why ≡ Refusal.OutOfMemory) }
+    {
+        match launches::next_launch(&self.book, self.alloc, at) {
+            Ok(Some(next)) => Ok(Some(next.launch)),
+            Ok(None) => Ok(None),
+            Err(_) => Err(Refusal::OutOfMemory),
+        }
+    }
+
+    /// Hands out the job that is next in order, if there is one. Where there is none nothing changes, the moment neither.
+    ///
+    /// # Errors
+    ///
+    /// A journal that would be too large, and want of memory.
+    pub fn take_launch(
+        &mut self,
+        at: Moment,
+        entry: u64,
+        limit: u64,
+    ) -> Result<Option<Launch>, Refusal>
+        requires entry { entry ≤ 4_000_001 }
+        requires limit { limit ≤ 4_000_000 }
+        ensures nothing { next_launch (advance_plan entry at self.old.plan) ≡ None → (result ≡ Ok None) × (self.new.plan ≡ self.old.plan) }
+        ensures meets { IsSome (next_launch (advance_plan entry at self.old.plan)) →
+            Meets (outcome launch entry (advance_plan entry at self.old.plan)) self.old.plan entry limit result self.new.plan }
+    {
+        launches::take_launch(&mut self.book, self.alloc, at, entry, limit)
     }
 
     /// Takes a report of the last launch of its job. It takes no memory.

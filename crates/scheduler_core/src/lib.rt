@@ -3,9 +3,12 @@
 
 mod cores;
 mod facts;
+mod launches;
+mod ready;
 mod reports;
 mod reservations;
 mod rows;
+mod times;
 
 pub use cores::Core;
 pub use drmaa_model::{Accepted, Indices, Launch, Report, Signal, Submitted, Target};

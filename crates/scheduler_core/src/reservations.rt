@@ -40,7 +40,8 @@ pub fn end_reservation(
     book.end_reservation(at, entry, limit, reservation)
 }
 
-fn is_lasting(rs: &Vec<Accepted>, number: ReservationId, moment: Moment) -> bool
+/// Whether a reservation is accepted and lasts at this moment.
+pub fn is_lasting(rs: &Vec<Accepted>, number: ReservationId, moment: Moment) -> bool
     ensures { result ≡ is_accepted (filter (lasts moment) rs.now.items) number }
 {
     lasting_of(rs, number, moment).is_some()
