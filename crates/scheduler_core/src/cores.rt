@@ -6,6 +6,7 @@ ghost use Rattle.drmaa_model.specs.Operation.{Meets, outcome};
 ghost use Rattle.drmaa_model.specs.Order.{held, next_launch};
 ghost use Rattle.drmaa_model.specs.Plan.{opening_plan};
 ghost use Rattle.drmaa_model.specs.Reporting.{report_of};
+ghost use Rattle.drmaa_model.specs.Controlling.{reap};
 ghost use Rattle.drmaa_model.specs.Launching.{launch};
 ghost use Rattle.drmaa_model.specs.Load.{reservation_of};
 ghost use Rattle.drmaa_model.specs.Requests.{end_reservation};
@@ -16,8 +17,8 @@ ghost use Rattle.scheduler_core.specs.Facts.{row_facts, job_from, lapses_at, res
 
 use crate::facts::{self, RowFacts};
 use crate::rows::held;
-use crate::{launches, reports, reservations};
-use drmaa_model::{Accepted, Launch, Report};
+use crate::{launches, reaps, reports, reservations};
+use drmaa_model::{Accepted, Launch, Report, Target};
 use drmaa_types::{Change, JobId, Moment, Refusal, ReservationId, Text};
 use plan_book::Book;
 use std::alloc::Global;
@@ -121,6 +122,28 @@ impl Core {
         ensures memory { result ≢ Err Refusal.OutOfMemory }
     {
         reports::report(&mut self.book, at, entry, limit, report)
+    }
+
+    /// Forgets the ended ones of the jobs that are meant. It takes no memory.
+    ///
+    /// # Errors
+    ///
+    /// `InvalidArgument` where no kept job is meant, `InvalidState` where none of them has ended, and a journal that would be
+    /// too large.
+    pub fn reap(
+        &mut self,
+        at: Moment,
+        entry: u64,
+        limit: u64,
+        target: Target,
+    ) -> Result<(), Refusal>
+        requires entry { entry ≤ 4_000_001 }
+        requires limit { limit ≤ 4_000_000 }
+        ensures meets { Meets (outcome (reap target) entry (advance_plan entry at self.old.plan)) self.old.plan entry limit result self.new.plan }
+        ensures spare { self.new.spare ≡ self.old.spare }
+        ensures memory { result ≢ Err Refusal.OutOfMemory }
+    {
+        reaps::reap(&mut self.book, at, entry, limit, &target)
     }
 
     /// Ends a reservation: the waiting jobs that name it end with it, and the started ones are asked to end. It takes no memory.

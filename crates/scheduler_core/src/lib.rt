@@ -5,6 +5,7 @@ mod cores;
 mod facts;
 mod launches;
 mod ready;
+mod reaps;
 mod reports;
 mod reservations;
 mod rows;
