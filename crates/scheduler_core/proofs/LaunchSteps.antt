@@ -1,0 +1,354 @@
+-- What the launcher's look and move come to.
+use Rattle.drmaa_types.specs.declared.identifiers.JobId.{JobId}
+use Rattle.reservation_calendar.specs.Loads as calendar
+use Rattle.drmaa_types.specs.declared.moments.End.{End}
+use Rattle.reservation_calendar.specs.Fitting.{Fits}
+use Rattle.drmaa_model.specs.declared.rows.Wants.{Wants}
+use Rattle.std.proofs.lemmas.Bool.{and_from, and_parts, leb-true, le-leb}
+use Rattle.drmaa_model.specs.declared.reservations.Accepted.{Accepted}
+use Rattle.drmaa_model.specs.Rows.{row_of}
+use Rattle.drmaa_model.specs.Courses.{planned_end, launched}
+use Rattle.drmaa_model.specs.ReadyLaws.{ready-same, seen-advance, slots_for-same, not-late, planned-ahead}
+use Rattle.drmaa_model.specs.MomentLaws.{greatest-is}
+use Rattle.drmaa_model.specs.Load.{ends_after, fits, covers, in_reservation, reservation_of, load}
+use Rattle.drmaa_types.specs.States.{is_waiting, is_started}
+use Rattle.drmaa_types.specs.declared.states.JobState.{JobState}
+use Rattle.drmaa_types.specs.declared.identifiers.ReservationId.{ReservationId}
+use Rattle.reservation_calendar.specs.declared.bookings.Key.TheVariants.{Job}
+use Rattle.reservation_calendar.specs.Schedules.{Schedule, is_booked}
+use Rattle.plan_book.specs.TieLaws.{tied-fresh, fits-calendar, same-end, filter-same, tied-same, tied-booked, fits-plan}
+use Rattle.plan_book.specs.declared.moves.Booked.TheVariants.{Same, Books}
+use Rattle.plan_book.specs.Ties.{IsTied, MayMake, IsBeside, KeepsTie, booking_of}
+use Rattle.std.proofs.Common.{◌≡◌, ℕ, ◌+◌, ◌-◌, ◌≤◌, Bool, true, false, cond, ◌&&◌, min, max, List, ◌∷◌, map, filter, Option, Some, None, refl, sym, ◌∙◌, ap, subst, arith, leb, not, length}
+use Rattle.std.specs.Prelude.{int_lt, Ok, IfSome, is_some}
+use Rattle.std.specs.Option.{option_map, option_map_or}
+use Rattle.drmaa_model.specs.declared.replies.Launch.{Launch}
+use Rattle.drmaa_model.specs.declared.rows.Row.{Row}
+use Rattle.drmaa_model.specs.Fit.{IsFit, IsSound}
+use Rattle.drmaa_model.specs.FitLaws.{advance-fit, not-using}
+use Rattle.drmaa_model.specs.Operation.{Outcome, outcome}
+use Rattle.drmaa_model.specs.Launching.{launch, launch_of}
+use Rattle.drmaa_model.specs.OperationLaws.{outcome-served, outcome-fit}
+use Rattle.drmaa_model.specs.LaunchFit.{launch-effect, launch-keeps}
+use Rattle.drmaa_model.specs.Order.{held, is_ready, slots_for, better, first_in_order, next_launch, has_slots_in, has_turn, is_queued, is_reached}
+use Rattle.drmaa_model.specs.OrderLaws.{IsNextLaunch, next_launch-is, ready-parts, ready-from, queued-may_launch}
+use Rattle.drmaa_model.specs.Plan.{Plan}
+use Rattle.drmaa_model.specs.RowLaws.{row_of-all}
+use Rattle.drmaa_model.specs.Time.{come_to, let_go, lasts, called_in, lapsed, advance_plan}
+use Rattle.drmaa_model.specs.TimeLaws.{timed, map-twice, lapsed-cases, called-cases, waits-not_started, row_of-advance, lapsed-job, called-job, timed-wants}
+use Rattle.scheduler_core.specs.declared.launches.Next.{Next}
+use Rattle.plan_book.specs.declared.moves.Move.{Move}
+use Rattle.plan_book.specs.Book.{IsMove, moved}
+use Rattle.scheduler_core.specs.Launches.{may_launch, launch-move, IsLaunchOf, IsNext, IsNextIn, MayMakeNext, seen, seen_row, turn_of, slots_of, IsMost, launch_booking}
+use Rattle.scheduler_core.proofs.Priorities.{first_of}
+use Rattle.scheduler_core.proofs.SeenLaws.{tied-seen}
+
+-- whether a job that asks for this, in this state, is ready
+abbrev pub ready_of : ℕ → Plan → Wants → JobState → Bool
+ready_of m p w s = (is_queued s && is_reached m w.start && turn_of p.rows w) && (leb (held p.rows + w.min) p.total && slots_of (seen m p) w.min w)
+
+-- the look over the rows as they will be is the look over the rows of the plan that has come to its moment
+pub look-is : (at : ℕ) (p : Plan) (o : Option Row) → IsFit p → (let m = max p.moment at in
+    option_map (seen_row m p) o ≡ first_in_order (filter (may_launch m p) (map (seen_row m p) p.rows)))
+    → option_map (seen_row (max p.moment at) p) o
+    ≡ first_in_order (filter (λ (r : Row). is_ready (advance_plan 0 at p) r.wants.min r) (advance_plan 0 at p).rows)
+look-is at p o fit look =
+    let q = let_go (come_to at p) in
+    look
+    ∙ ap (λ (rs : List Row). first_in_order (filter (may_launch (max p.moment at) p) rs)) (map-twice (called_in q.moment q.reservations) (lapsed q.moment q.reservations) p.rows)
+    ∙ ap first_in_order (filter-same (may_launch (max p.moment at) p) (λ (r : Row). is_ready (advance_plan 0 at p) r.wants.min r)
+    (λ r. sym (ready-same (advance_plan 0 at p) q r.wants.min r (seen-advance 0 at p fit))) (advance_plan 0 at p).rows)
+
+pub first-next : (q : Plan) (row : Row) → IsFit q → first_in_order (filter (λ (r : Row). is_ready q r.wants.min r) q.rows) ≡ Some row →
+    (next_launch q ≡ Some (row, slots_for q row)) × IsNextLaunch q row (slots_for q row)
+first-next q row fit first =
+    let next : next_launch q ≡ Some (row, slots_for q row) = ap (option_map (λ (r : Row). (r, slots_for q r))) first in
+    (next, next_launch-is q (row, slots_for q row) fit.jobs.rising next)
+
+pub none-next : (q : Plan) → first_in_order (filter (λ (r : Row). is_ready q r.wants.min r) q.rows) ≡ None → next_launch q ≡ None
+none-next q first = ap (option_map (λ (r : Row). (r, slots_for q r))) first
+
+pub launch-next : (q : Plan) (row : Row) (next : Next) → IsFit q → first_in_order (filter (λ (r : Row). is_ready q r.wants.min r) q.rows) ≡ Some row →
+    IsLaunchOf row q.moment (slots_for q row) next → IsNext q next
+launch-next q row next fit first is = record { row = row; slots = slots_for q row; first = (first-next q row fit first).0; is = is }
+
+-- the most slots that the code finds are those of the definition
+pub slots-most : (q : Plan) (row : Row) (n : ℕ) → is_ready q row.wants.min row ≡ true → row.wants.min ≤ row.wants.max → IsMost q row.wants n → slots_for q row ≡ n
+slots-most q row n ready order is =
+    let parts = ready-parts q row.wants.min row ready in
+    let come = and_from (is_queued row.course.state && is_reached q.moment row.wants.start) (has_turn q.rows row) (and_from (is_queued row.course.state) (is_reached q.moment row.wants.start) parts.queued parts.reached) parts.turn in
+    let most = is.most in
+    greatest-is row.wants.min (row.wants.max - row.wants.min) n (λ slots. is_ready q slots row) is.least (omega arith) (ready-from q n row come is.free is.has)
+    (λ m above within.
+    (elim (is_ready q m row) as (λ b. is_ready q m row ≡ b → b ≡ false) [
+      | false ↦ λ e. refl
+      | true ↦ λ e. (let p = ready-parts q m row e in let yes = p.has in let no = is.no_more m above (omega arith) p.free in absurd (cc))
+    ]) refl)
+
+-- the most slots of the calendar
+pub most-calendar : (s : Schedule) (p : Plan) (m : ℕ) (wants : Wants) (n most used : ℕ) (planned : End) → IsFit p → IsTied s p → p.moment ≤ m → wants.reservation ≡ None
+    → used ≡ held p.rows → used + wants.min ≤ p.total → most ≡ min wants.max (p.total - used) → planned ≡ planned_end wants m
+    → wants.min ≤ n → n ≤ most → Fits s n m planned → ((k : ℕ) → k ≤ most → Fits s k m planned → k ≤ n) → IsMost (seen m p) wants n
+most-calendar s p m wants n most used planned fit tied later ordinary used_is free most_is planned_is low high fits-n greatest =
+    let q = seen m p in
+    let loads : (x : ℕ) → m ≤ x → calendar.load s.bookings x ≡ load q x = tied-seen s p m fit tied later in
+    let of : (k : ℕ) → slots_of q k wants ≡ fits q k m planned = λ k.
+    ap (λ (o : Option ReservationId). option_map_or (has_slots_in q k) o (fits q k m (planned_end wants m))) ordinary ∙ ap (fits q k m) (sym planned_is) in
+    record {
+      least = low;
+      most = omega arith;
+      free = omega arith;
+      has = of n ∙ fits-plan s q n m planned tied.total loads fits-n;
+      no_more = λ k above within room.
+          of k ∙ (elim (fits q k m planned) as (λ b. fits q k m planned ≡ b → b ≡ false) [
+            | false ↦ λ e. refl
+            | true ↦ λ e. (let no = greatest k (omega arith) (fits-calendar s q k m planned tied.total loads e) in absurd (omega arith))
+          ]) refl;
+    }
+
+pub calendar-has : (s : Schedule) (p : Plan) (m : ℕ) (wants : Wants) (n : ℕ) (planned : End) → IsFit p → IsTied s p → p.moment ≤ m → wants.reservation ≡ None → planned ≡ planned_end wants m
+    → slots_of (seen m p) n wants ≡ true → Fits s n m planned
+calendar-has s p m wants n planned fit tied later ordinary planned_is has =
+    let q = seen m p in
+    fits-calendar s q n m planned tied.total (tied-seen s p m fit tied later)
+    (sym (ap (λ (o : Option ReservationId). option_map_or (has_slots_in q n) o (fits q n m (planned_end wants m))) ordinary ∙ ap (fits q n m) (sym planned_is)) ∙ has)
+
+-- the most slots of a reservation
+pub most-inside : (p : Plan) (m : ℕ) (wants : Wants) (number : ReservationId) (n most used left : ℕ) → wants.reservation ≡ Some number
+    → used ≡ held p.rows → used + wants.min ≤ p.total → wants.min ≤ wants.max → most ≡ min wants.max (p.total - used)
+    → left ≡ option_map_or (λ (r : Accepted). r.slots - in_reservation number p.rows) (reservation_of number (filter (lasts m) p.reservations)) 0
+    → n ≡ min most left → slots_of (seen m p) wants.min wants ≡ true → IsMost (seen m p) wants n
+most-inside p m wants number n most used left named used_is free order most_is left_is n_is has =
+    let q = seen m p in
+    let inside = in_reservation number p.rows in
+    let test : ℕ → Option Accepted → Bool = λ k o. option_map_or (λ (a : Accepted). covers m a && leb (inside + k) a.slots) o false in
+    let o = reservation_of number (filter (lasts m) p.reservations) in
+    let of : (k : ℕ) → slots_of q k wants ≡ test k o = λ k. ap (λ (r : Option ReservationId). option_map_or (has_slots_in q k) r (fits q k m (planned_end wants m))) named in
+    (elim o as (λ (x : Option Accepted). o ≡ x → test wants.min x ≡ true → left ≡ option_map_or (λ (r : Accepted). r.slots - inside) x 0 → IsMost q wants n) [
+      | None ↦ λ e h l. absurd (cc)
+      | Some r ↦ λ e h l.
+          (let both = and_parts (covers m r) (leb (inside + wants.min) r.slots) h in
+          let within = leb-true (inside + wants.min) r.slots both.1 in
+          record {
+            least = omega arith;
+            most = omega arith;
+            free = omega arith;
+            has = of n ∙ ap (test n) e ∙ and_from (covers m r) (leb (inside + n) r.slots) both.0 (le-leb (inside + n) r.slots (omega arith));
+            no_more = λ k above low room.
+                of k ∙ ap (test k) e ∙ (elim (leb (inside + k) r.slots) as (λ b. leb (inside + k) r.slots ≡ b → (covers m r && b) ≡ false) [
+                  | true ↦ λ f. (let le = leb-true (inside + k) r.slots f in absurd (omega arith))
+                  | false ↦ λ f. (elim (covers m r) as (λ b. (b && false) ≡ false) [ true ↦ refl | false ↦ refl ])
+                ]) refl;
+          })
+    ]) refl (sym (of wants.min) ∙ has) left_is
+
+queued-waits : (s : JobState) → is_queued s ≡ true → is_waiting s ≡ true
+queued-waits s is = (queued-may_launch s is).waits
+
+-- the booking of a launch may be made
+pub launch-may : (s : Schedule) (p : Plan) (m : ℕ) (row : Row) (n : ℕ) → IsFit p → IsTied s p → p.moment ≤ m → IfSome row.wants.limit (λ (seconds : ℕ). 1 ≤ seconds)
+    → is_booked s.bookings (Job row.job) ≡ false → is_queued (seen_row m p row).course.state ≡ true → slots_of (seen m p) n row.wants ≡ true
+    → MayMake s (launch_booking row m n (planned_end row.wants m))
+launch-may s p m row n fit tied later limit fresh queued has =
+    let planned = planned_end row.wants m in
+    let late = not-late m (filter (lasts m) p.reservations) row (queued-waits (seen_row m p row).course.state queued) in
+    let ahead : ends_after m planned ≡ true = planned-ahead row.wants m limit late in
+    (elim row.wants.reservation as (λ o. option_map_or (has_slots_in (seen m p) n) o (fits (seen m p) n m planned) ≡ true
+    → MayMake s (option_map_or (λ (r : ReservationId). Same) o (Books (record { key = Job row.job; slots = n; from = m; until = planned })))) [
+      | Some r ↦ λ h. tt
+      | None ↦ λ h. record {
+        lasting = same-end m planned ∙ ahead;
+        fits = fits-calendar s (seen m p) n m planned tied.total (λ x low. tied-seen s p m fit tied later x low) h;
+        fresh = fresh;
+      }
+    ]) has
+
+-- a job that is not started once time has come was not started before
+pub not-started-before : (m : ℕ) (rs : List Accepted) (r : Row) → is_started (timed m rs r).course.state ≡ false → is_started r.course.state ≡ false
+not-started-before m rs r h =
+    lapsed-cases (λ (a b : Row). is_started b.course.state ≡ false → is_started a.course.state ≡ false) m rs r (λ e g. g) (λ e waits n g. waits-not_started r.course.state waits)
+    (called-cases (λ (a b : Row). is_started b.course.state ≡ false → is_started a.course.state ≡ false) m rs (lapsed m rs r) (λ e g. g) (λ e is n g. g) h)
+
+some-is : (a b : Row) → Some a ≡ Some b → a ≡ b
+some-is a b e = cc
+
+-- the job that is launched next is not booked
+pub next-fresh : (s : Schedule) (at : ℕ) (p : Plan) (row : Row) → IsFit p → IsTied s p → (let q = advance_plan 0 at p in
+    row_of row.job q.rows ≡ Some (seen_row (max p.moment at) p row)) → is_started (seen_row (max p.moment at) p row).course.state ≡ false → is_booked s.bookings (Job row.job) ≡ false
+next-fresh s at p row fit tied kept idle =
+    let m = max p.moment at in
+    let rs = filter (lasts m) p.reservations in
+    let found : option_map (called_in m rs) (option_map (lapsed m rs) (row_of row.job p.rows)) ≡ Some (seen_row m p row) = sym (row_of-advance 0 at p row.job) ∙ kept in
+    (elim (row_of row.job p.rows) as (λ o. row_of row.job p.rows ≡ o → option_map (called_in m rs) (option_map (lapsed m rs) o) ≡ Some (seen_row m p row) → is_booked s.bookings (Job row.job) ≡ false) [
+      | None ↦ λ e h. absurd (cc)
+      | Some r ↦ λ e h.
+          (let same : timed m rs r ≡ seen_row m p row = some-is (timed m rs r) (seen_row m p row) h in
+          let stopped : is_started (timed m rs r).course.state ≡ false = subst (λ (x : Row). is_started x.course.state ≡ false) (sym same) idle in
+          tied-fresh s p row.job r fit tied e (not-using r (not-started-before m rs r stopped)))
+    ]) refl found
+
+-- what a job that is ready, as it will be, has
+pub record SeenReady (p : Plan) (m : ℕ) (row : Row) : Type 0 where
+  pub free : held p.rows + row.wants.min ≤ p.total
+  pub has : slots_of (seen m p) row.wants.min row.wants ≡ true
+  pub queued : is_queued (seen_row m p row).course.state ≡ true
+
+pub seen-ready : (p : Plan) (m : ℕ) (row : Row) → is_ready (seen m p) row.wants.min (seen_row m p row) ≡ true → SeenReady p m row
+seen-ready p m row ready =
+    let parts = ready-parts (seen m p) row.wants.min (seen_row m p row) ready in
+    record {
+      free = parts.free;
+      has = subst (λ (w : Wants). slots_of (seen m p) row.wants.min w ≡ true) (timed-wants m (filter (lasts m) p.reservations) row) parts.has;
+      queued = parts.queued;
+    }
+
+pub seen-slots : (p : Plan) (m : ℕ) (row : Row) (n : ℕ) → is_ready (seen m p) row.wants.min (seen_row m p row) ≡ true → row.wants.min ≤ row.wants.max → IsMost (seen m p) row.wants n
+    → slots_for (seen m p) (seen_row m p row) ≡ n
+seen-slots p m row n ready order is =
+    let same = timed-wants m (filter (lasts m) p.reservations) row in
+    slots-most (seen m p) (seen_row m p row) n
+    (subst (λ (w : Wants). is_ready (seen m p) w.min (seen_row m p row) ≡ true) (sym same) ready)
+    (subst (λ (w : Wants). w.min ≤ w.max) (sym same) order) (subst (λ (w : Wants). IsMost (seen m p) w n) (sym same) is)
+
+-- what is known of the job that is launched next
+pub record NextFacts (s : Schedule) (at m : ℕ) (p : Plan) (row : Row) : Type 0 where
+  pub first : next_launch (advance_plan 0 at p) ≡ Some (seen_row m p row, slots_for (advance_plan 0 at p) (seen_row m p row))
+  pub ready : is_ready (seen m p) row.wants.min (seen_row m p row) ≡ true
+  pub least : 1 ≤ row.wants.min
+  pub order : row.wants.min ≤ row.wants.max
+  pub limit : IfSome row.wants.limit (λ (seconds : ℕ). 1 ≤ seconds)
+  pub fresh : is_booked s.bookings (Job row.job) ≡ false
+  pub attempt : (seen_row m p row).course.attempt ≤ length (advance_plan 0 at p).changes
+  pub slots : slots_for (seen m p) (seen_row m p row) ≡ slots_for (advance_plan 0 at p) (seen_row m p row)
+
+next-facts-at : (s : Schedule) (at : ℕ) (p : Plan) (row : Row) → IsFit p → IsTied s p
+    → first_in_order (filter (λ (r : Row). is_ready (advance_plan 0 at p) r.wants.min r) (advance_plan 0 at p).rows) ≡ Some (seen_row (max p.moment at) p row) → NextFacts s at (max p.moment at) p row
+next-facts-at s at p row fit tied first =
+    let m = max p.moment at in
+    let rs = filter (lasts m) p.reservations in
+    let q = advance_plan 0 at p in
+    let fit_q : IsFit q = advance-fit 0 at p fit in
+    let r = seen_row m p row in
+    let found = first-next q r fit_q first in
+    let wants : r.wants ≡ row.wants = timed-wants m rs row in
+    let job : r.job ≡ row.job = called-job m rs (lapsed m rs row) ∙ lapsed-job m rs row in
+    let sound : IsSound r.wants r.course = row_of-all (λ (x : Row). IsSound x.wants x.course) r.job q.rows r fit_q.sound found.1.kept in
+    let alike = seen-advance 0 at p fit in
+    record {
+      first = found.0;
+      ready = subst (λ (w : Wants). is_ready (seen m p) w.min r ≡ true) wants (sym (ready-same q (let_go (come_to at p)) r.wants.min r alike) ∙ found.1.ready);
+      least = subst (λ (w : Wants). 1 ≤ w.min) wants sound.least;
+      order = subst (λ (w : Wants). w.min ≤ w.max) wants sound.order;
+      limit = subst (λ (w : Wants). IfSome w.limit (λ (seconds : ℕ). 1 ≤ seconds)) wants sound.limit;
+      fresh = next-fresh s at p row fit tied (subst (λ (j : JobId). row_of j q.rows ≡ Some r) job found.1.kept) found.1.state.idle;
+      attempt = row_of-all (λ (x : Row). x.course.attempt ≤ length q.changes) r.job q.rows r fit_q.attempts found.1.kept;
+      slots = sym (slots_for-same q (let_go (come_to at p)) r alike);
+    }
+
+pub next-facts : (s : Schedule) (at m : ℕ) (p : Plan) (row : Row) → IsFit p → IsTied s p → m ≡ max p.moment at
+    → first_in_order (filter (λ (r : Row). is_ready (advance_plan 0 at p) r.wants.min r) (advance_plan 0 at p).rows) ≡ Some (seen_row m p row) → NextFacts s at m p row
+next-facts s at m p row fit tied m_is first =
+    subst (λ (n : ℕ). NextFacts s at n p row) (sym m_is) (next-facts-at s at p row fit tied
+    (subst (λ (n : ℕ). first_in_order (filter (λ (r : Row). is_ready (advance_plan 0 at p) r.wants.min r) (advance_plan 0 at p).rows) ≡ Some (seen_row n p row)) m_is first))
+
+-- the move of a launch, in the plan that has come to its moment
+pub record Launches (entry : ℕ) (q : Plan) (next : Next) : Type 0 where
+  pub is : IsMove q next.m
+  pub comes : outcome launch entry q ≡ record { answer = Ok (Some next.launch); plan = moved entry next.m q }
+  pub ties : KeepsTie next.m.booked next.m.job q (moved entry next.m q)
+
+-- a launch goes with its booking
+launch-ties : (entry : ℕ) (q : Plan) (row : Row) (slots : ℕ) → IsFit q → row_of row.job q.rows ≡ Some row → is_started row.course.state ≡ false
+    → KeepsTie (launch-move q.moment row slots).booked row.job q (moved entry (launch-move q.moment row slots) q)
+launch-ties entry q row slots fit kept idle =
+    let planned = planned_end row.wants q.moment in
+    let next = launched q.moment slots planned row.course in
+    let after = moved entry (launch-move q.moment row slots) q in
+    let before = not-using row idle in
+    (elim row.wants.reservation as (λ o. row.wants.reservation ≡ o → KeepsTie (option_map_or (λ (r : ReservationId). Same) o (Books (record { key = Job row.job; slots = slots; from = q.moment; until = planned }))) row.job q after) [
+      | None ↦ λ e. record {
+        keeps = λ s tied. tied-booked row.job next q row fit kept after refl refl refl (record { key = Job row.job; slots = slots; from = q.moment; until = planned }) before
+            (ap (λ (o : Option ReservationId). not (is_some o) && true) e) refl s tied;
+      }
+      | Some r ↦ λ e. record {
+        keeps = λ s tied. tied-same row.job next q row fit kept after refl refl refl
+            (λ f. ap (λ (o : Option ReservationId). cond (not (is_some o) && true) (f (booking_of (record row { course = next }))) 0) e ∙ sym (ap (λ t. cond t (f (booking_of row)) 0) before)) s tied;
+      }
+    ]) refl
+
+pub launches : (entry : ℕ) (q : Plan) (next : Next) → IsFit q → IsNext q next → Launches entry q next
+launches entry q next fit is =
+    let fact = next_launch-is q (is.row, is.slots) fit.jobs.rising is.first in
+    let kept = fact.kept in
+    let told : launch.told q ≡ Some next.launch = ap (option_map (λ (n : Row × ℕ). launch_of n.0 n.1)) is.first ∙ ap (λ (l : Launch). Some l) (sym is.is.launch_is) in
+    record {
+      is = subst (IsMove q) (sym is.is.move_is) (record { row = is.row; found = kept; home = refl; before = refl });
+      comes = outcome-served launch entry q refl
+          ∙ ap (λ (t : Option Launch). let o : Outcome (Option Launch) = record { answer = Ok t; plan = launch.effect entry q } in o) told
+          ∙ ap (λ (p : Plan). let o : Outcome (Option Launch) = record { answer = Ok (Some next.launch); plan = p } in o)
+          (launch-effect entry q (is.row, is.slots) is.first ∙ ap (λ (m : Move). moved entry m q) (sym is.is.move_is));
+      ties = subst (λ (m : Move). KeepsTie m.booked m.job q (moved entry m q)) (sym is.is.move_is) (launch-ties entry q is.row is.slots fit kept fact.state.idle);
+    }
+
+-- ---- the look, step by step
+
+better-wants : (at : Row → Row) → ((r : Row) → (at r).wants ≡ r.wants) → (a b : Row) → at (better a b) ≡ better (at a) (at b)
+better-wants at same a b =
+    let one : int_lt (at a).wants.priority (at b).wants.priority ≡ int_lt a.wants.priority b.wants.priority = cc (same a, same b) in
+    (elim (int_lt a.wants.priority b.wants.priority) as (λ t. at (cond t b a) ≡ cond t (at b) (at a)) [ true ↦ refl | false ↦ refl ])
+    ∙ ap (λ t. cond t (at b) (at a)) (sym one)
+
+better-assoc : (a b c : Row) → better (better a b) c ≡ better a (better b c)
+better-assoc a b c = grind arith
+
+-- the best so far, and the first of the rest
+pub chosen : (at : Row → Row) → ((r : Row) → (at r).wants ≡ r.wants) → (test : Row → Bool) (best : Option Row) (row : Row) (rest : List Row) → test (at row) ≡ true
+    → first_of (option_map at (Some (option_map_or (λ (first : Row). better first row) best row))) (first_in_order (filter test (map at rest)))
+    ≡ first_of (option_map at best) (first_in_order (filter test (map at (row ∷ rest))))
+chosen at same test None row rest is =
+    ap (λ b. first_in_order (cond b (at row ∷ filter test (map at rest)) (filter test (map at rest)))) (sym is)
+chosen at same test (Some first) row rest is =
+    ap (λ (r : Row). first_of (Some r) (first_in_order (filter test (map at rest)))) (better-wants at same first row)
+    ∙ (elim (first_in_order (filter test (map at rest))) as (λ o. first_of (Some (better (at first) (at row))) o ≡ first_of (Some (at first)) (Some (option_map_or (better (at row)) o (at row)))) [
+      | None ↦ refl
+      | Some r ↦ ap (λ (x : Row). Some x) (better-assoc (at first) (at row) r)
+    ])
+    ∙ ap (λ b. first_of (Some (at first)) (first_in_order (cond b (at row ∷ filter test (map at rest)) (filter test (map at rest))))) (sym is)
+
+pub passed : (at : Row → Row) (test : Row → Bool) (best : Option Row) (row : Row) (rest : List Row) → test (at row) ≡ false
+    → first_of (option_map at best) (first_in_order (filter test (map at rest))) ≡ first_of (option_map at best) (first_in_order (filter test (map at (row ∷ rest))))
+passed at test best row rest is = ap (λ b. first_of (option_map at best) (first_in_order (cond b (at row ∷ filter test (map at rest)) (filter test (map at rest))))) (sym is)
+
+-- the look, made at a moment that is known to be the plan's
+pub look-at : (at m : ℕ) (p : Plan) (o : Option Row) → IsFit p → m ≡ max p.moment at
+    → option_map (seen_row m p) o ≡ first_in_order (filter (may_launch m p) (map (seen_row m p) p.rows))
+    → option_map (seen_row m p) o ≡ first_in_order (filter (λ (r : Row). is_ready (advance_plan 0 at p) r.wants.min r) (advance_plan 0 at p).rows)
+look-at at m p o fit m_is look =
+    subst (λ (n : ℕ). option_map (seen_row n p) o ≡ first_in_order (filter (λ (r : Row). is_ready (advance_plan 0 at p) r.wants.min r) (advance_plan 0 at p).rows)) (sym m_is)
+    (look-is at p o fit (subst (λ (n : ℕ). option_map (seen_row n p) o ≡ first_in_order (filter (may_launch n p) (map (seen_row n p) p.rows))) m_is look))
+
+-- what the look says of the move, whatever the entry's number
+pub looked : (entry at : ℕ) (p : Plan) (o : Option Next) (next : Next) → IsFit p → o ≡ Some next → IsNextIn (advance_plan 0 at p) o → Launches entry (advance_plan entry at p) next
+looked entry at p o next fit is said =
+    let named : IsNext (advance_plan 0 at p) next = subst (IsNextIn (advance_plan 0 at p)) is said in
+    launches entry (advance_plan entry at p) next (advance-fit entry at p fit) (record { row = named.row; slots = named.slots; first = named.first; is = named.is })
+
+pub looked-fit : (entry at : ℕ) (p : Plan) (next : Next) → IsFit p → Launches entry (advance_plan entry at p) next → IsFit (moved entry next.m (advance_plan entry at p))
+looked-fit entry at p next fit launches =
+    subst (λ (o : Outcome (Option Launch)). IsFit o.plan) launches.comes (outcome-fit launch launch-keeps entry (advance_plan entry at p) (advance-fit entry at p fit))
+
+-- the booking of a launch is not that of a reservation
+beside-of : (rs : List Accepted) (row : Row) (m n : ℕ) (planned : End) → IsBeside rs (launch_booking row m n planned)
+beside-of rs row m n planned =
+    elim row.wants.reservation as (λ o. IsBeside rs (option_map_or (λ (r : ReservationId). Same) o (Books (record { key = Job row.job; slots = n; from = m; until = planned })))) [
+      | Some r ↦ tt
+      | None ↦ λ moment. refl
+    ]
+
+pub looked-beside : (rs : List Accepted) (p : Plan) (o : Option Next) (next : Next) → o ≡ Some next → IsNextIn p o → IsBeside rs next.m.booked
+looked-beside rs p o next is said =
+    let named : IsNext p next = subst (IsNextIn p) is said in
+    subst (λ (m : Move). IsBeside rs m.booked) (sym named.is.move_is) (beside-of rs named.row p.moment named.slots (planned_end named.row.wants p.moment))
+
+pub looked-may : (s : Schedule) (o : Option Next) (next : Next) → o ≡ Some next → MayMakeNext s o → MayMake s next.m.booked
+looked-may s o next is said = subst (MayMakeNext s) is said

@@ -1,0 +1,11 @@
+use Rattle.std.proofs.Common.{subst}
+use Rattle.drmaa_model.specs.Operation.{Meets, outcome}
+use Rattle.drmaa_model.specs.Requests.{end_reservation}
+use Rattle.drmaa_model.specs.Time.{advance_plan}
+use Rattle.plan_book.specs.Book.{plan_of}
+use Rattle.scheduler_core.specs.View.{View}
+use Rattle.scheduler_core.proofs.cores.Core.end_reservation.Goals as goal
+
+pub returns-clause-meets : goal.returns-clause-meets
+returns-clause-meets c =
+    subst (λ (v : View). Meets (outcome (end_reservation c.args.reservation) c.args.entry (advance_plan c.args.entry c.args.at v.plan)) v.plan c.args.entry c.args.limit c.end_reservation.result (plan_of c.end_reservation.new.book)) c.self.view_is c.end_reservation.ensures.meets

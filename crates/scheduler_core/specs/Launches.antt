@@ -1,0 +1,84 @@
+-- What is made ready of a launch before anything changes.
+use Rattle.std.specs.Prelude.{◌≡◌, ℕ, ◌+◌, ◌<◌, ◌≤◌, Bool, true, false, nat_lt, List, filter, Option, Some, None, MatchOption}
+use Rattle.std.specs.Option.{option_map_or}
+use Rattle.drmaa_types.specs.declared.identifiers.ArrayId.{ArrayId}
+use Rattle.drmaa_types.specs.declared.identifiers.ReservationId.{ReservationId}
+use Rattle.drmaa_types.specs.declared.moments.End.{End}
+use Rattle.drmaa_model.specs.declared.rows.Wants.{Wants}
+use Rattle.drmaa_model.specs.Load.{in_array, fits}
+use Rattle.drmaa_model.specs.Time.{lasts}
+use Rattle.drmaa_model.specs.TimeLaws.{timed}
+use Rattle.reservation_calendar.specs.declared.bookings.Key.TheVariants.{Job}
+use Rattle.reservation_calendar.specs.Schedules.{Schedule}
+use Rattle.plan_book.specs.declared.moves.Booked.{Booked}
+use Rattle.plan_book.specs.declared.moves.Booked.TheVariants.{Same, Books}
+use Rattle.plan_book.specs.Ties.{MayMake}
+use Rattle.drmaa_model.specs.declared.rows.Row.{Row}
+use Rattle.drmaa_model.specs.Courses.{launched, planned_end}
+use Rattle.drmaa_model.specs.Launching.{launch_of}
+use Rattle.drmaa_model.specs.Order.{held, is_ready, has_slots_in, next_launch}
+use Rattle.drmaa_model.specs.Plan.{Plan}
+use Rattle.scheduler_core.specs.declared.launches.Next.{Next}
+use Rattle.plan_book.specs.declared.moves.Move.{Move}
+use Rattle.plan_book.specs.declared.moves.Edit.TheVariants.{Keep}
+
+-- the plan as it is seen at a moment, before time changes any job
+abbrev pub seen : ℕ → Plan → Plan
+seen moment p = record p { moment = moment; reservations = filter (lasts moment) p.reservations }
+
+-- a job as it will be then
+abbrev pub seen_row : ℕ → Plan → Row → Row
+seen_row moment p row = timed moment (filter (lasts moment) p.reservations) row
+
+-- a job, as it will be, is ready for its minSlots
+abbrev pub may_launch : ℕ → Plan → Row → Bool
+may_launch moment p row = is_ready (seen moment p) row.wants.min row
+
+-- it is the turn of a job that asks for this
+abbrev pub turn_of : List Row → Wants → Bool
+turn_of rows wants = option_map_or (λ (bound : ℕ). option_map_or (λ (array : ArrayId). nat_lt (in_array array rows) bound) wants.array true) wants.bound true
+
+-- the slots that a job which asks for this may have
+abbrev pub slots_of : Plan → ℕ → Wants → Bool
+slots_of p slots wants = option_map_or (has_slots_in p slots) wants.reservation (fits p slots p.moment (planned_end wants p.moment))
+
+-- the most slots that a job may have beside what is held
+pub record IsMost (p : Plan) (wants : Wants) (n : ℕ) : Type 0 where
+  pub least : wants.min ≤ n
+  pub most : n ≤ wants.max
+  pub free : held p.rows + n ≤ p.total
+  pub has : slots_of p n wants ≡ true
+  pub no_more : (m : ℕ) → n < m → m ≤ wants.max → held p.rows + m ≤ p.total → slots_of p m wants ≡ false
+
+-- what a launch does to the calendar: an ordinary job takes slots of it
+abbrev pub launch_booking : Row → ℕ → ℕ → End → Booked
+launch_booking row moment slots planned = option_map_or (λ (r : ReservationId). Same) row.wants.reservation (Books (record { key = Job row.job; slots = slots; from = moment; until = planned }))
+
+abbrev pub launch-move : ℕ → Row → ℕ → Move
+launch-move moment row slots = record {
+  job = row.job;
+  home = row.home;
+  before = row.course;
+  after = launched moment slots (planned_end row.wants moment) row.course;
+  orders = Keep;
+  booked = launch_booking row moment slots (planned_end row.wants moment);
+}
+
+-- the launch of this row at a moment with so many slots
+pub record IsLaunchOf (row : Row) (moment slots : ℕ) (next : Next) : Type 0 where
+  pub move_is : next.m ≡ launch-move moment row slots
+  pub launch_is : next.launch ≡ launch_of row slots
+
+-- the launch that is next in a plan
+pub record IsNext (p : Plan) (next : Next) : Type 0 where
+  pub row : Row
+  pub slots : ℕ
+  pub first : next_launch p ≡ Some (row, slots)
+  pub is : IsLaunchOf row p.moment slots next
+
+abbrev pub IsNextIn : Plan → Option Next → Type 0
+IsNextIn p o = MatchOption o (next_launch p ≡ None) (IsNext p)
+
+-- the booking of a launch that is next may be made
+abbrev pub MayMakeNext : Schedule → Option Next → Type 0
+MayMakeNext s o = MatchOption o (Unit {0}) (λ (next : Next). MayMake s next.m.booked)

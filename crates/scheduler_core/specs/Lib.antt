@@ -1,0 +1,4 @@
+pub mod Facts
+pub mod Launches
+pub mod Reports
+pub mod View

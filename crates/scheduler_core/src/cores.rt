@@ -1,0 +1,262 @@
+//! The core of the scheduler, as the machine sees it.
+ghost use Rattle.std.specs.Prelude.{◌≡◌, ◌≢◌, ◌+◌, ◌≤◌, IfOk, IfErr, OnOk, Ok, Err, IsSome, None, Some, true};
+ghost use Rattle.std.specs.Option.{option_map, option_and_then, option_copied};
+ghost use Rattle.drmaa_model.specs.declared.rows.Row.{Row};
+ghost use Rattle.drmaa_model.specs.Operation.{Meets, outcome};
+ghost use Rattle.drmaa_model.specs.Order.{held, next_launch};
+ghost use Rattle.drmaa_model.specs.Plan.{opening_plan};
+ghost use Rattle.drmaa_model.specs.Reporting.{report_of};
+ghost use Rattle.drmaa_model.specs.Controlling.{reap};
+ghost use Rattle.drmaa_model.specs.Launching.{launch};
+ghost use Rattle.drmaa_model.specs.Load.{reservation_of};
+ghost use Rattle.drmaa_model.specs.Requests.{end_reservation};
+ghost use Rattle.drmaa_model.specs.Rows.{row_of};
+ghost use Rattle.drmaa_model.specs.Size.{weight};
+ghost use Rattle.drmaa_model.specs.Time.{advance_plan, rows_at};
+ghost use Rattle.scheduler_core.specs.Facts.{row_facts, job_from, lapses_at, reservation_from};
+
+use crate::facts::{self, RowFacts};
+use crate::rows::held;
+use crate::{launches, reaps, reports, reservations};
+use drmaa_model::{Accepted, Launch, Report, Target};
+use drmaa_types::{Change, JobId, Moment, Refusal, ReservationId, Text};
+use plan_book::Book;
+use std::alloc::Global;
+use std::marker::Model;
+
+/// Jobs, reservations, orders, changes and time. Contracts see its plan, and `spare`: how many changes more it has
+/// room for.
+#[derive(Drop)]
+pub struct Core {
+    alloc: Global,
+    book: Book,
+}
+
+impl Model for Core {
+    ghost use Rattle.scheduler_core.specs.View.{View};
+
+    ghost Value = { View };
+
+    ghost use Rattle.plan_book.specs.Book.{plan_of, spare, IsKept};
+
+    ghost view = { λ c. record { plan = plan_of c.book; spare = spare c.book } };
+
+    ghost invariant = { λ c. IsKept c.book };
+}
+
+impl Core {
+    /// No jobs, on a machine with so many slots; it takes no memory.
+    pub fn new(alloc: Global, slots: u32) -> Core
+        ensures { result.plan ≡ opening_plan slots }
+    {
+        Core {
+            alloc,
+            book: Book::new(alloc, slots),
+        }
+    }
+
+    /// Time goes on. It takes no memory, and leaves the size.
+    pub fn advance(&mut self, at: Moment, entry: u64)
+        requires entry { entry ≤ 4_000_001 }
+        ensures plan { self.new.plan ≡ advance_plan entry at self.old.plan }
+        ensures spare { self.new.spare ≡ self.old.spare }
+        ensures size { weight self.new.plan ≡ weight self.old.plan }
+    {
+        self.book.advance(at, entry);
+    }
+
+    /// What would be launched at this moment. Where that is nothing it takes no memory.
+    ///
+    /// # Errors
+    ///
+    /// Want of memory.
+    pub fn next_launch(&self, at: Moment) -> Result<Option<Launch>, Refusal>
+        ensures next { IfOk result (λ o. o ≡ launch.told (advance_plan 0 at self.now.plan)) }
+        ensures nothing { next_launch (advance_plan 0 at self.now.plan) ≡ None → result ≡ Ok None }
+        ensures err { IfErr result (λ why. why ≡ Refusal.OutOfMemory) }
+    {
+        match launches::next_launch(&self.book, self.alloc, at) {
+            Ok(Some(next)) => Ok(Some(next.launch)),
+            Ok(None) => Ok(None),
+            Err(_) => Err(Refusal::OutOfMemory),
+        }
+    }
+
+    /// Hands out the job that is next in order, if there is one. Where there is none nothing changes, the moment neither.
+    ///
+    /// # Errors
+    ///
+    /// A journal that would be too large, and want of memory.
+    pub fn take_launch(
+        &mut self,
+        at: Moment,
+        entry: u64,
+        limit: u64,
+    ) -> Result<Option<Launch>, Refusal>
+        requires entry { entry ≤ 4_000_001 }
+        requires limit { limit ≤ 4_000_000 }
+        ensures nothing { next_launch (advance_plan entry at self.old.plan) ≡ None → (result ≡ Ok None) × (self.new.plan ≡ self.old.plan) }
+        ensures meets { IsSome (next_launch (advance_plan entry at self.old.plan)) →
+            Meets (outcome launch entry (advance_plan entry at self.old.plan)) self.old.plan entry limit result self.new.plan }
+    {
+        launches::take_launch(&mut self.book, self.alloc, at, entry, limit)
+    }
+
+    /// Takes a report of the last launch of its job. It takes no memory.
+    ///
+    /// # Errors
+    ///
+    /// `InvalidArgument(Job)` where the job is not kept, `InvalidState` where no such report may come of it, and a journal
+    /// that would be too large.
+    pub fn report(
+        &mut self,
+        at: Moment,
+        entry: u64,
+        limit: u64,
+        report: Report,
+    ) -> Result<(), Refusal>
+        requires entry { entry ≤ 4_000_001 }
+        requires limit { limit ≤ 4_000_000 }
+        ensures meets { Meets (outcome (report_of report) entry (advance_plan entry at self.old.plan)) self.old.plan entry limit result self.new.plan }
+        ensures spare { self.old.spare ≤ self.new.spare }
+        ensures memory { result ≢ Err Refusal.OutOfMemory }
+    {
+        reports::report(&mut self.book, at, entry, limit, report)
+    }
+
+    /// Forgets the ended ones of the jobs that are meant. It takes no memory.
+    ///
+    /// # Errors
+    ///
+    /// `InvalidArgument` where no kept job is meant, `InvalidState` where none of them has ended, and a journal that would be
+    /// too large.
+    pub fn reap(
+        &mut self,
+        at: Moment,
+        entry: u64,
+        limit: u64,
+        target: Target,
+    ) -> Result<(), Refusal>
+        requires entry { entry ≤ 4_000_001 }
+        requires limit { limit ≤ 4_000_000 }
+        ensures meets { Meets (outcome (reap target) entry (advance_plan entry at self.old.plan)) self.old.plan entry limit result self.new.plan }
+        ensures spare { self.new.spare ≡ self.old.spare }
+        ensures memory { result ≢ Err Refusal.OutOfMemory }
+    {
+        reaps::reap(&mut self.book, at, entry, limit, &target)
+    }
+
+    /// Ends a reservation: the waiting jobs that name it end with it, and the started ones are asked to end. It takes no memory.
+    ///
+    /// # Errors
+    ///
+    /// `InvalidArgument(Reservation)` where it is not accepted, and a journal that would be too large.
+    pub fn end_reservation(
+        &mut self,
+        at: Moment,
+        entry: u64,
+        limit: u64,
+        reservation: ReservationId,
+    ) -> Result<(), Refusal>
+        requires entry { entry ≤ 4_000_001 }
+        requires limit { limit ≤ 4_000_000 }
+        ensures meets { Meets (outcome (end_reservation reservation) entry (advance_plan entry at self.old.plan)) self.old.plan entry limit result self.new.plan }
+        ensures spare { self.new.spare ≡ self.old.spare }
+        ensures memory { result ≢ Err Refusal.OutOfMemory }
+    {
+        reservations::end_reservation(&mut self.book, at, entry, limit, reservation)
+    }
+
+    /// Takes the memory for so many further changes.
+    ///
+    /// # Errors
+    ///
+    /// Want of memory; nothing has changed then.
+    pub fn reserve(&mut self, n: u32) -> Result<(), Refusal>
+        ensures plan { self.new.plan ≡ self.old.plan }
+        ensures spare { OnOk result (n ≤ self.new.spare) }
+        ensures more { self.old.spare ≤ self.new.spare }
+        ensures err { IfErr result (λ why. why ≡ Refusal.OutOfMemory) }
+    {
+        self.book.reserve(n)
+    }
+
+    /// The moment to which time has come.
+    pub fn moment(&self) -> Moment
+        ensures { result ≡ self.now.plan.moment }
+    {
+        self.book.moment()
+    }
+
+    /// The slots that all jobs hold.
+    pub fn held(&self) -> u32
+        ensures { result ≡ held self.now.plan.rows }
+    {
+        let _total = self.book.total();
+        held(self.book.rows())
+    }
+
+    /// The changes and the promised room.
+    pub fn size(&self) -> u64
+        ensures value { result ≡ weight self.now.plan }
+        ensures small { result ≤ 4_000_000 }
+    {
+        self.book.weight()
+    }
+
+    /// What became of the jobs' states, in order.
+    pub fn changes(&self) -> &[Change]
+        ensures { result.now ≡ self.now.plan.changes }
+    {
+        self.book.changes().as_slice()
+    }
+
+    /// What is known of a job once time has come to this moment. None exactly where it is not kept.
+    pub fn row(&self, at: Moment, job: JobId) -> Option<RowFacts>
+        ensures { result ≡ option_map row_facts (row_of job (rows_at at self.now.plan)) }
+    {
+        facts::row_facts(&self.book, at, job)
+    }
+
+    /// The least number of a kept job that is this one or above it.
+    pub fn next_row(&self, from: JobId) -> Option<JobId>
+        ensures { result ≡ job_from from.0 self.now.plan }
+    {
+        facts::job_from(&self.book, from.0)
+    }
+
+    /// The name of a kept job, where its template has one.
+    pub fn job_name(&self, job: JobId) -> Option<&Text>
+        ensures { option_copied result ≡ option_and_then (λ (row : Row). row.template.job_name) (row_of job self.now.plan.rows) }
+    {
+        match self.book.row(job) {
+            Some(row) => row.template.job_name.as_ref(),
+            None => None,
+        }
+    }
+
+    /// Whether time would end a job that waits, when it comes to this moment.
+    pub fn lapses(&self, at: Moment, job: JobId) -> bool
+        ensures { result ≡ lapses_at at job self.now.plan }
+    {
+        facts::lapses(&self.book, at, job)
+    }
+
+    /// The accepted reservation of this number, once time has come to this moment.
+    pub fn reservation(&self, at: Moment, reservation: ReservationId) -> Option<&Accepted>
+        ensures { option_copied result ≡ reservation_of reservation (advance_plan 0 at self.now.plan).reservations }
+    {
+        reservations::lasting_of(
+            self.book.reservations(),
+            reservation,
+            self.book.moment_at(at),
+        )
+    }
+
+    /// The least number of an accepted reservation that is this one or above it, once time has come to this moment.
+    pub fn next_reservation(&self, at: Moment, from: ReservationId) -> Option<ReservationId>
+        ensures { result ≡ reservation_from from.0 (advance_plan 0 at self.now.plan).reservations }
+    {
+        reservations::lasting_from(self.book.reservations(), from.0, self.book.moment_at(at))
+    }
+}

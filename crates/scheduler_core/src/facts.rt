@@ -1,0 +1,123 @@
+//! What is told of a kept job.
+ghost use Rattle.std.specs.Prelude.{◌≡◌, ◌&&◌};
+ghost use Rattle.std.specs.Option.{option_map};
+ghost use Rattle.drmaa_types.specs.States.{is_waiting, is_state};
+ghost use Rattle.drmaa_model.specs.Rows.{row_of};
+ghost use Rattle.drmaa_model.specs.Time.{rows_at};
+ghost use Rattle.plan_book.specs.Book.{plan_of, IsKept};
+ghost use Rattle.scheduler_core.specs.Facts.{row_facts, job_from, lapses_at};
+
+use drmaa_model::{Course, Kill, Phase, Row};
+use drmaa_types::{ArrayId, End, Exit, JobId, JobState, Moment, Note, ReservationId};
+use plan_book::Book;
+use plan_book::states::{is_state, is_waiting};
+
+/// A kept job, without its template.
+#[derive(Clone, Copy, Debug, PartialEq, Eq)]
+pub struct RowFacts {
+    pub job: JobId,
+    /// The number of the named session that it belongs to.
+    pub home: Option<u64>,
+    /// The array that it is a member of, its index there, and how many members may hold slots at once.
+    pub array: Option<ArrayId>,
+    pub index: Option<u32>,
+    pub bound: Option<u32>,
+    pub rerunnable: bool,
+    /// It is not launched before this moment.
+    pub start: Option<Moment>,
+    /// It has failed where it isn't launched before this moment.
+    pub deadline: Option<Moment>,
+    /// The reservation that it runs in.
+    pub reservation: Option<ReservationId>,
+    pub state: JobState,
+    pub phase: Phase,
+    /// How often it was launched.
+    pub attempt: u32,
+    /// How many slots it holds.
+    pub held: u32,
+    /// How many it held at its last launch.
+    pub last_slots: Option<u32>,
+    pub kill: Kill,
+    /// When it is to end; set exactly while it is started.
+    pub planned: Option<End>,
+    pub submitted: Moment,
+    /// When it was last launched.
+    pub dispatched: Option<Moment>,
+    /// When it became DONE or FAILED.
+    pub finished: Option<Moment>,
+    pub exit: Option<Exit>,
+    pub note: Note,
+}
+
+fn facts_with(row: &Row, course: &Course) -> RowFacts
+    ensures { result ≡ row_facts (record row.now { course = course.now }) }
+{
+    RowFacts {
+        job: row.job,
+        home: row.home,
+        array: row.wants.array,
+        index: row.wants.index,
+        bound: row.wants.bound,
+        rerunnable: row.wants.rerunnable,
+        start: row.wants.start,
+        deadline: row.wants.deadline,
+        reservation: row.wants.reservation,
+        state: course.state,
+        phase: course.phase,
+        attempt: course.attempt,
+        held: course.held,
+        last_slots: course.last_slots,
+        kill: course.kill,
+        planned: course.planned,
+        submitted: row.submitted,
+        dispatched: course.dispatched,
+        finished: course.finished,
+        exit: course.exit,
+        note: course.note,
+    }
+}
+
+/// What is told of a job once time has come to this moment.
+pub fn row_facts(book: &Book, at: Moment, job: JobId) -> Option<RowFacts>
+    requires kept { IsKept book.now }
+    ensures { result ≡ option_map row_facts (row_of job (rows_at at (plan_of book.now))) }
+{
+    let Some(row) = book.row(job) else {
+        return None;
+    };
+    match book.facts_at(at, job) {
+        Some(facts) => Some(facts_with(row, &facts.course)),
+        None => None,
+    }
+}
+
+/// The first kept job whose number is this one or above it.
+pub fn job_from(book: &Book, number: u64) -> Option<JobId>
+    ensures { result ≡ job_from number (plan_of book.now) }
+{
+    match book.rows().iter().find(|row| number <= row.job.0) {
+        Some(row) => Some(row.job),
+        None => None,
+    }
+}
+
+/// Whether time would end a job that waits, when it comes to this moment.
+pub fn lapses(book: &Book, at: Moment, job: JobId) -> bool
+    requires kept { IsKept book.now }
+    ensures { result ≡ lapses_at at job (plan_of book.now) }
+{
+    let Some(row) = book.row(job) else {
+        return false;
+    };
+    match book.facts_at(at, job) {
+        Some(facts) => has_lapsed(row.course.state, facts.course.state),
+        None => false,
+    }
+}
+
+/// Whether a job has ended that waited.
+fn has_lapsed(before: JobState, after: JobState) -> bool
+    ensures { result ≡ (is_waiting before && is_state after JobState.Failed) }
+{
+    is_waiting(before) && is_state(after, JobState::Failed)
+}

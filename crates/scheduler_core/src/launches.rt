@@ -1,0 +1,139 @@
+//! The next launch.
+ghost use Rattle.std.specs.Prelude.{true, false, IfSome, ◌≡◌, ◌≢◌, ◌+◌, ◌-◌, ◌^◌, ◌<◌, ◌≤◌, min, filter, map, IfOk, OnOk, IsSome, None, Some, Ok};
+ghost use Rattle.std.specs.Option.{option_copied, option_map};
+ghost use Rattle.job_template.specs.Launch.{launch_words};
+ghost use Rattle.drmaa_model.specs.declared.rows.Row.{Row};
+ghost use Rattle.drmaa_model.specs.Fit.{IsFit};
+ghost use Rattle.drmaa_model.specs.Operation.{Meets, outcome};
+ghost use Rattle.drmaa_model.specs.Launching.{launch};
+ghost use Rattle.drmaa_model.specs.Order.{held, is_ready, slots_for, next_launch};
+ghost use Rattle.drmaa_model.specs.Time.{advance_plan, lasts};
+ghost use Rattle.drmaa_model.specs.TimeLaws.{timed};
+ghost use Rattle.plan_book.specs.Book.{plan_of, spare, IsKept};
+ghost use Rattle.reservation_calendar.specs.Schedules.{is_booked};
+ghost use Rattle.plan_book.specs.Ties.{MayMake};
+ghost use Rattle.scheduler_core.specs.Launches.{IsLaunchOf, IsNext, IsNextIn, MayMakeNext, launch_booking, seen, seen_row};
+
+use crate::ready::{first_ready_at, slots_at};
+use crate::rows::held;
+use crate::times::course_at;
+use drmaa_model::{Launch, Row};
+use drmaa_types::{End, Moment, Refusal, TextList};
+use job_template::{JobTemplate, launch_words};
+use plan_book::courses::{launched, planned_end};
+use plan_book::{Book, Booked, Edit, Move};
+use reservation_calendar::{Booking, Key};
+use std::alloc::{AllocError, Global};
+
+/// The job that is next in order: what its launch does, and what is handed out.
+#[derive(Drop)]
+pub struct Next {
+    pub m: Move,
+    pub launch: Launch,
+}
+
+/// What would be launched at this moment.
+pub fn next_launch(book: &Book, alloc: Global, at: Moment) -> Result<Option<Next>, AllocError>
+    requires kept { IsKept book.now }
+    ensures next { IfOk result (IsNextIn (advance_plan 0 at (plan_of book.now))) }
+    ensures may { IfOk result (MayMakeNext book.now.calendar) }
+    ensures some { next_launch (advance_plan 0 at (plan_of book.now)) ≡ None → result ≡ Ok None }
+{
+    let moment = book.moment_at(at);
+    let _total = book.total;
+    let used = held(&book.rows);
+    match first_ready_at(book, moment, used) {
+        None => Ok(None),
+        Some(row) => Ok(Some(next_of(book, alloc, row, moment, used)?)),
+    }
+}
+
+/// Hands out the job that is next in order, if there is one.
+pub fn take_launch(
+    book: &mut Book,
+    alloc: Global,
+    at: Moment,
+    entry: u64,
+    limit: u64,
+) -> Result<Option<Launch>, Refusal>
+    requires kept { IsKept book.old }
+    requires entry { entry ≤ 4_000_001 }
+    requires limit { limit ≤ 4_000_000 }
+    ensures nothing { next_launch (advance_plan entry at (plan_of book.old)) ≡ None → (result ≡ Ok None) × (plan_of book.new ≡ plan_of book.old) }
+    ensures meets { IsSome (next_launch (advance_plan entry at (plan_of book.old))) →
+        Meets (outcome launch entry (advance_plan entry at (plan_of book.old))) (plan_of book.old) entry limit result (plan_of book.new) }
+    ensures kept { IsKept book.new }
+{
+    match next_launch(book, alloc, at) {
+        Err(_) => Err(Refusal::OutOfMemory),
+        Ok(None) => Ok(None),
+        Ok(Some(next)) => match book.make(at, entry, limit, &next.m) {
+            Ok(()) => Ok(Some(next.launch)),
+            Err(why) => Err(why),
+        },
+    }
+}
+
+fn next_of(
+    book: &Book,
+    alloc: Global,
+    row: &Row,
+    moment: Moment,
+    used: u32,
+) -> Result<Next, AllocError>
+    requires kept { IsKept book.now }
+    requires later { book.now.moment ≤ moment }
+    requires used { used ≡ held book.now.rows.items }
+    requires ready { is_ready (seen moment (plan_of book.now)) row.now.wants.min (seen_row moment (plan_of book.now) row.now) ≡ true }
+    requires order { row.now.wants.min ≤ row.now.wants.max }
+    requires least { 1 ≤ row.now.wants.min }
+    requires limit { IfSome row.now.wants.limit (λ seconds. 1 ≤ seconds) }
+    requires fresh { is_booked book.now.calendar.bookings (Key.Job row.now.job) ≡ false }
+    requires attempt { (seen_row moment (plan_of book.now) row.now).course.attempt + 1 < 2 ^ 32 }
+    ensures may { IfOk result (λ next. MayMake book.now.calendar next.m.booked) }
+    ensures launch { IfOk result (IsLaunchOf (record row.now { course = (seen_row moment (plan_of book.now) row.now).course }) moment (slots_for (seen moment (plan_of book.now)) (seen_row moment (plan_of book.now) row.now))) }
+{
+    let before = course_at(&book.reservations, row, moment);
+    let slots = slots_at(book, row, moment, used);
+    let planned = planned_end(&row.wants, moment);
+    let after = launched(&before, moment, slots, planned);
+    let m = Move {
+        job: row.job,
+        home: row.home,
+        before,
+        after,
+        orders: Edit::Keep,
+        booked: booking_of(row, moment, slots, planned),
+    };
+    let launch = Launch {
+        job: row.job,
+        attempt: before.attempt + 1,
+        slots,
+        words: words_of(alloc, &row.template)?,
+    };
+    Ok(Next { m, launch })
+}
+
+/// The booking of a launch: an ordinary job takes slots of the calendar.
+fn booking_of(row: &Row, moment: Moment, slots: u32, planned: End) -> Booked
+    ensures { result ≡ launch_booking row.now moment slots planned }
+{
+    match row.wants.reservation {
+        Some(_) => Booked::Same,
+        None => Booked::Books(Booking {
+            key: Key::Job(row.job),
+            slots,
+            from: moment,
+            until: planned,
+        }),
+    }
+}
+
+fn words_of(alloc: Global, template: &JobTemplate) -> Result<TextList, AllocError>
+    ensures { IfOk result (λ words. words ≡ launch_words template.now) }
+{
+    match launch_words(alloc, template) {
+        Ok(words) => Ok(words),
+        Err(_) => Err(AllocError),
+    }
+}

@@ -1,0 +1,16 @@
+//! The core of the scheduler: jobs, reservations, orders, changes and time. It answers for all of them, without sessions.
+#![tactic(auto)]
+
+mod cores;
+mod facts;
+mod launches;
+mod ready;
+mod reaps;
+mod reports;
+mod reservations;
+mod rows;
+mod times;
+
+pub use cores::Core;
+pub use drmaa_model::{Accepted, Indices, Launch, Report, Signal, Submitted, Target};
+pub use facts::RowFacts;

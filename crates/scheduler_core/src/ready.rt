@@ -1,0 +1,211 @@
+//! Who may be launched at a moment, and with how many slots. None of it takes memory.
+ghost use Rattle.std.specs.Prelude.{◌≡◌, ℕ, ◌+◌, ◌-◌, ◌^◌, ◌<◌, ◌≤◌, ◌&&◌, true, map, filter, nat_le, IsTrue, ◌↔◌};
+ghost use Rattle.std.specs.Option.{option_copied, option_map, option_map_or};
+ghost use Rattle.drmaa_model.specs.declared.reservations.Accepted.{Accepted};
+ghost use Rattle.drmaa_model.specs.declared.rows.Row.{Row};
+ghost use Rattle.drmaa_model.specs.Load.{covers, in_reservation, in_array, holds_in, held_inside, reservation_of};
+ghost use Rattle.drmaa_model.specs.Order.{held, is_queued, is_reached, is_ready, has_slots_in, has_turn, first_in_order};
+ghost use Rattle.drmaa_model.specs.Time.{lasts};
+ghost use Rattle.plan_book.specs.Book.{plan_of, IsKept};
+ghost use Rattle.scheduler_core.specs.Launches.{seen, seen_row, may_launch, turn_of, slots_of, IsMost};
+
+use crate::reservations::lasting_of;
+use crate::rows::{best_of, is_reached};
+use crate::times::course_at;
+use drmaa_model::{Accepted, Row, Wants};
+use drmaa_types::{ArrayId, JobState, Moment, ReservationId};
+use plan_book::Book;
+use plan_book::courses::planned_end;
+use plan_book::states::is_queued;
+
+/// Of the jobs that may be launched once time has come to this moment the first by priority descending and number
+/// ascending.
+pub fn first_ready_at<'a>(book: &'a Book, moment: Moment, used: u32) -> Option<&'a Row>
+    requires kept { IsKept book.now }
+    requires later { book.now.moment ≤ moment }
+    requires used { used ≡ held book.now.rows.items }
+    ensures { option_map (seen_row moment (plan_of book.now)) (option_copied result)
+        ≡ first_in_order (filter (may_launch moment (plan_of book.now)) (map (seen_row moment (plan_of book.now)) book.now.rows.items)) }
+{
+    let mut best: Option<&Row> = None;
+    for row in &book.rows {
+        if may_launch_at(book, row, moment, used) {
+            best = Some(best_of(best, row));
+        }
+    }
+    best
+}
+
+fn may_launch_at(book: &Book, row: &Row, moment: Moment, used: u32) -> bool
+    requires kept { IsKept book.now }
+    requires later { book.now.moment ≤ moment }
+    requires used { used ≡ held book.now.rows.items }
+    ensures { result ≡ may_launch moment (plan_of book.now) (seen_row moment (plan_of book.now) row.now) }
+{
+    let course = course_at(&book.reservations, row, moment);
+    let free = is_free(used, row.wants.min, book.total);
+    let come = may_come(book, &row.wants, course.state, moment);
+    let has = has_slots(book, &row.wants, moment, row.wants.min);
+    all_three(come, free, has)
+}
+
+fn is_free(used: u32, least: u32, total: u32) -> bool
+    ensures { result ≡ nat_le (used + least) total }
+{
+    u64::from(used) + u64::from(least) <= u64::from(total)
+}
+
+fn all_three(come: bool, free: bool, has: bool) -> bool
+    ensures { result ≡ (come && (free && has)) }
+{
+    come && free && has
+}
+
+fn may_come(book: &Book, wants: &Wants, state: JobState, moment: Moment) -> bool
+    requires kept { IsKept book.now }
+    requires few { book.now.total < 2 ^ 32 }
+    ensures { result ≡ (is_queued state && is_reached moment wants.now.start && turn_of book.now.rows.items wants.now) }
+{
+    if !is_queued(state) {
+        return false;
+    }
+    if !is_reached(moment, wants.start) {
+        return false;
+    }
+    has_turn(book, wants)
+}
+
+fn has_turn(book: &Book, wants: &Wants) -> bool
+    requires kept { IsKept book.now }
+    requires few { book.now.total < 2 ^ 32 }
+    ensures { result ≡ turn_of book.now.rows.items wants.now }
+{
+    let Some(bound) = wants.bound else {
+        return true;
+    };
+    let Some(array) = wants.array else {
+        return true;
+    };
+    in_array(&book.rows, array) < bound
+}
+
+/// How many members of an array hold slots.
+fn in_array(rows: &Vec<Row>, array: ArrayId) -> u32
+    requires { in_array array rows.now.items < 2 ^ 32 }
+    ensures { result ≡ in_array array rows.now.items }
+{
+    let mut sum = 0;
+    for row in rows {
+        sum += held_by_member(row, array);
+    }
+    sum
+}
+
+fn held_by_member(row: &Row, array: ArrayId) -> u32
+    ensures { result ≡ holds_in array row.now }
+{
+    let Some(own) = row.wants.array else {
+        return 0;
+    };
+    if own.0 == array.0 && row.course.held > 0 {
+        1
+    } else {
+        0
+    }
+}
+
+/// The slots held by the jobs that name a reservation.
+fn in_reservation(rows: &Vec<Row>, number: ReservationId) -> u32
+    requires { in_reservation number rows.now.items < 2 ^ 32 }
+    ensures { result ≡ in_reservation number rows.now.items }
+{
+    let mut sum = 0;
+    for row in rows {
+        sum += held_inside(row, number);
+    }
+    sum
+}
+
+fn held_inside(row: &Row, number: ReservationId) -> u32
+    ensures { result ≡ held_inside number row.now }
+{
+    let Some(own) = row.wants.reservation else {
+        return 0;
+    };
+    if own.0 == number.0 {
+        row.course.held
+    } else {
+        0
+    }
+}
+
+/// The slots that a job may have more, of the calendar or of its reservation.
+fn has_slots(book: &Book, wants: &Wants, moment: Moment, slots: u32) -> bool
+    requires kept { IsKept book.now }
+    requires few { book.now.total < 2 ^ 32 }
+    requires later { book.now.moment ≤ moment }
+    ensures { result ≡ slots_of (seen moment (plan_of book.now)) slots wants.now }
+{
+    match wants.reservation {
+        Some(number) => has_slots_in(book, number, moment, slots),
+        None => book
+            .calendar
+            .fits(slots, moment, planned_end(wants, moment)),
+    }
+}
+
+fn has_slots_in(book: &Book, number: ReservationId, moment: Moment, slots: u32) -> bool
+    requires kept { IsKept book.now }
+    requires few { book.now.total < 2 ^ 32 }
+    ensures { result ≡ has_slots_in (seen moment (plan_of book.now)) slots number }
+{
+    let Some(r) = lasting_of(&book.reservations, number, moment) else {
+        return false;
+    };
+    if !covers(r, moment) {
+        return false;
+    }
+    u64::from(in_reservation(&book.rows, number)) + u64::from(slots) <= u64::from(r.slots)
+}
+
+fn covers(r: &Accepted, moment: Moment) -> bool
+    ensures { result ≡ covers moment r.now }
+{
+    r.from.number() <= moment.number() && moment.number() < r.until.number()
+}
+
+/// The slots of a reservation that are left.
+fn left_in(book: &Book, number: ReservationId, moment: Moment) -> u32
+    requires kept { IsKept book.now }
+    requires few { book.now.total < 2 ^ 32 }
+    ensures { result ≡ option_map_or (λ (r : Accepted). r.slots - in_reservation number book.now.rows.items) (reservation_of number (filter (lasts moment) book.now.reservations.items)) 0 }
+{
+    match lasting_of(&book.reservations, number, moment) {
+        Some(r) => r.slots.saturating_sub(in_reservation(&book.rows, number)),
+        None => 0,
+    }
+}
+
+/// The slots that a job gets which is ready for its least number.
+pub fn slots_at(book: &Book, row: &Row, moment: Moment, used: u32) -> u32
+    requires kept { IsKept book.now }
+    requires later { book.now.moment ≤ moment }
+    requires used { used ≡ held book.now.rows.items }
+    requires least { 1 ≤ row.now.wants.min }
+    requires order { row.now.wants.min ≤ row.now.wants.max }
+    requires free { used + row.now.wants.min ≤ book.now.total }
+    requires has { slots_of (seen moment (plan_of book.now)) row.now.wants.min row.now.wants ≡ true }
+    ensures { IsMost (seen moment (plan_of book.now)) row.now.wants result }
+{
+    let most = row.wants.max.min(book.total - used);
+    match row.wants.reservation {
+        Some(number) => most.min(left_in(book, number, moment)),
+        None => {
+            let planned = planned_end(&row.wants, moment);
+            match book.calendar.largest(row.wants.min, most, moment, planned) {
+                Some(slots) => slots,
+                None => row.wants.min,
+            }
+        }
+    }
+}
