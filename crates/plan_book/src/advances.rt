@@ -75,7 +75,7 @@ impl Book {
     }
 
     /// Time goes on. It takes no memory.
-    pub(crate) fn advance(&mut self, at: Moment, entry: u64)
+    pub fn advance(&mut self, at: Moment, entry: u64)
         requires room { HasRoom self.old }
         requires order { AreInOrder self.old.reservations.items }
         ensures plan { plan_of self.new ≡ advance_plan entry at (plan_of self.old) }

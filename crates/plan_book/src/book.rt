@@ -21,17 +21,17 @@ use std::alloc::Global;
 /// The plan as it is kept. Contracts see it as `plan_of` of it, and as the room that it has.
 #[derive(Drop)]
 pub struct Book {
-    pub(crate) total: u32,
-    pub(crate) moment: Moment,
-    pub(crate) rows: Vec<Row>,
-    pub(crate) reservations: Vec<Accepted>,
+    pub total: u32,
+    pub moment: Moment,
+    pub rows: Vec<Row>,
+    pub reservations: Vec<Accepted>,
     /// The bookings of the accepted reservations and of the started ordinary jobs.
-    pub(crate) calendar: Calendar,
-    pub(crate) orders: Vec<Order>,
-    pub(crate) changes: Vec<Change>,
-    pub(crate) next_job: u64,
-    pub(crate) next_array: u64,
-    pub(crate) next_reservation: u64,
+    pub calendar: Calendar,
+    pub orders: Vec<Order>,
+    pub changes: Vec<Change>,
+    pub next_job: u64,
+    pub next_array: u64,
+    pub next_reservation: u64,
 }
 
 impl Book {

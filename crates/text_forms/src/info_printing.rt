@@ -77,11 +77,7 @@ fn push_booked(out: &mut Vec<u8>, info: &ReservationInfo) -> Result<(), AllocErr
 }
 
 /// Prints the fields of a reservation's info in braces, the first one behind a key.
-fn push_braced(
-    out: &mut Vec<u8>,
-    key: &[u8],
-    info: &ReservationInfo,
-) -> Result<(), AllocError>
+fn push_braced(out: &mut Vec<u8>, key: &[u8], info: &ReservationInfo) -> Result<(), AllocError>
     ensures text { OnOk result (out.new.items ≡ out.old.items ++ infos.braced_booked key.now info.now) }
     ensures valid { OnOk result (reservation_id.valid info.now.reservation × infos.booked_fields.body.valid (infos.booked_part info.now)) }
 {

@@ -7,8 +7,6 @@ use Rattle.drmaa_types.specs.declared.refusals.Which.{Which}
 use Rattle.drmaa_types.specs.declared.refusals.Refusal.{Refusal}
 use Rattle.drmaa_model.specs.declared.rows.Row.{Row}
 use Rattle.drmaa_model.specs.Controlling.{reap, is_done}
-use Rattle.drmaa_model.specs.ControlLaws.{reap-fit}
-use Rattle.drmaa_model.specs.FitLaws.{advance-fit}
 use Rattle.drmaa_model.specs.Operation.{Outcome, Meets}
 use Rattle.drmaa_model.specs.OperationLaws.{outcome-served}
 use Rattle.drmaa_model.specs.Targets.{is_meant, argument_of}
@@ -18,11 +16,6 @@ use Rattle.scheduler_core.specs.Launches.{seen_row}
 use Rattle.scheduler_core.proofs.ReapSteps.{reap-lost, reap-barred, reap-free}
 use Rattle.scheduler_core.proofs.Steps.{refused-meets}
 use Rattle.scheduler_core.proofs.reaps.reap.Goals as goal
-
-pub drop_rows-requires-clause-fit : goal.drop_rows-requires-clause-fit
-drop_rows-requires-clause-fit c =
-    let p = plan_of c.args.book.now in
-    reap-fit c.args.target.now c.args.entry (advance_plan c.args.entry c.args.at p) (advance-fit c.args.entry c.args.at p c.requires.kept.fit)
 
 pub returns-clause-meets : goal.returns-clause-meets
 returns-clause-meets c =
