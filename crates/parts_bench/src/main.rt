@@ -1,7 +1,8 @@
-//! Does the work of a run queue and of a slot pool with so many items and holdings, and prints how
-//! long each piece took: `parts_bench COUNT`. Without words it does nothing.
+//! Does the work of a run queue, a slot pool and a calendar with so many items, holdings and bookings, and
+//! prints how long each piece took: `parts_bench COUNT`. Without words it does nothing.
 #![tactic(auto)]
 
+mod calendar_load;
 mod pool_load;
 mod queue_load;
 mod way;
@@ -29,6 +30,7 @@ fn main(rt: HostRuntime) -> io::Result<ExitCode> {
     for way in [Way::InOrder, Way::Scattered] {
         done &= queue_load::measure(rt, count, way)?;
         done &= pool_load::measure(rt, count, way)?;
+        done &= calendar_load::measure(rt, count, way)?;
     }
     Ok(if done {
         ExitCode::SUCCESS
