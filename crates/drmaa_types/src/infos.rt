@@ -16,7 +16,8 @@ pub struct JobInfo {
     /// How many slots its last launch had.
     pub slots: Option<u32>,
     pub queue: Text,
-    /// The seconds from its last launch until it ended, or until now where it is started.
+    /// The seconds from its last launch until it ended, or until now where it is started; 0 where it waits to be launched
+    /// again.
     pub wallclock: Option<u64>,
     pub submitted: Moment,
     /// When it was last launched.
