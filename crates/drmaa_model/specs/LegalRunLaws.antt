@@ -1,12 +1,13 @@
 -- Laws of runs over histories: in a legal history each launch of a job is new, and a report that is accepted is of the
 -- job's last launch.
-use Rattle.std.proofs.Common.{◌≡◌, ℕ, ◌+◌, ◌<◌, ◌≤◌, Bool, true, false, cond, eqb, not, List, [], ◌∷◌, ◌++◌, Some, None, refl, sym, subst, append-nil, append_assoc}
+use Rattle.std.proofs.Common.{◌≡◌, ◌≢◌, ℕ, ◌+◌, ◌<◌, ◌≤◌, Bool, true, false, cond, eqb, not, List, [], ◌∷◌, ◌++◌, Some, None, refl, sym, subst, append-nil, append_assoc}
 use Rattle.std.specs.Prelude.{is_some}
-use Rattle.std.specs.List.{AllByRecursion}
+use Rattle.std.specs.List.{AllByRecursion, list_any}
 use Rattle.std.specs.Option.{option_map_or}
 use Rattle.std.proofs.lemmas.Bool.{and_parts, eqb-true}
 use Rattle.drmaa_types.specs.declared.identifiers.JobId.{JobId}
 use Rattle.drmaa_types.specs.declared.refusals.Refusal.{Refusal}
+use Rattle.drmaa_types.specs.declared.states.SignalKind.{SignalKind}
 use Rattle.drmaa_model.specs.declared.calls.Call.TheVariants as call
 use Rattle.drmaa_model.specs.declared.configs.Config.{Config}
 use Rattle.drmaa_model.specs.declared.courses.Course.{Course}
@@ -17,12 +18,16 @@ use Rattle.drmaa_model.specs.declared.replies.Launch.{Launch}
 use Rattle.drmaa_model.specs.declared.replies.Reply.TheVariants as reply
 use Rattle.drmaa_model.specs.declared.rows.Row.{Row}
 use Rattle.drmaa_model.specs.Effects.{gives}
+use Rattle.drmaa_model.specs.Fit.{IsSound}
+use Rattle.drmaa_model.specs.FitLaws.{advance-fit}
 use Rattle.drmaa_model.specs.History.{after_entry, replay_from, replay, IsLegalFrom, IsLegal}
 use Rattle.drmaa_model.specs.HistoryLaws.{replay-push, legal-push}
 use Rattle.drmaa_model.specs.Launching.{launch_of}
 use Rattle.drmaa_model.specs.LaunchLaws.{HasRun, HasRuns, step-runs, launch-new, run-follows}
+use Rattle.drmaa_model.specs.OperationLaws.{row-sound}
 use Rattle.drmaa_model.specs.Plan.{Plan}
-use Rattle.drmaa_model.specs.Reporting.{is_idle, is_launching, may_begin, may_exit, reported}
+use Rattle.drmaa_model.specs.ReportLaws.{told-started}
+use Rattle.drmaa_model.specs.Reporting.{is_idle, is_launching, may_begin, may_exit, is_taken, may_tell, reported}
 use Rattle.drmaa_model.specs.RowLaws.{row_of-is, row_of-all}
 use Rattle.drmaa_model.specs.Rows.{row_of}
 use Rattle.drmaa_model.specs.RunLaws.{advance-tracked}
@@ -137,3 +142,21 @@ exit-last config history at job attempt after legal free =
     let f = finds job (λ p. may_exit attempt) after (advance (replay config history) at).plan free in
     let parts = and_parts (not (is_idle f.row.course.phase)) (eqb f.row.course.attempt attempt) f.holds in
     run-last config history at job attempt legal f.row f.found (eqb-true f.row.course.attempt attempt parts.1) (not-true (is_idle f.row.course.phase) parts.0)
+
+not-idle : (p : Phase) → p ≢ Idle → is_idle p ≡ false
+not-idle Idle other = absurd (other refl)
+not-idle Launching other = refl
+not-idle Alive other = refl
+
+-- So is a report of a signal, since its order is of a job that is started.
+pub tell-last : (config : Config) (history : List Entry) (at : ℕ) (job : JobId) (attempt : ℕ) (kind : SignalKind) (after : ℕ → Plan → Row → Plan) → IsLegal config history
+    → (reported (may_tell attempt job kind) job after).refusal (advance (replay config history) at).plan ≡ None → IsLastLaunch history job.0 attempt
+tell-last config history at job attempt kind after legal free =
+    let w = replay config history in
+    let p = (advance w at).plan in
+    let fit = advance-fit (w.entries + 1) at w.plan (legal-consistent config history legal).fit in
+    let f = finds job (may_tell attempt job kind) after p free in
+    let same = (and_parts (eqb f.row.course.attempt attempt) (list_any (is_taken job kind) p.orders) f.holds).0 in
+    let sound : IsSound f.row.wants f.row.course = row-sound job p f.row fit f.found in
+    let busy = (sound.started (told-started attempt job kind p f.row fit f.found f.holds)).0 in
+    run-last config history at job attempt legal f.row f.found (eqb-true f.row.course.attempt attempt same) (not-idle f.row.course.phase busy)

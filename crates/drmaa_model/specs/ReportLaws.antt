@@ -251,7 +251,7 @@ any-found {X} P test (x ∷ xs) any all =
     ]) refl any
 
 -- a job of which a signal is told is started
-told-started : (attempt : ℕ) (job : JobId) (k : SignalKind) (p : Plan) (row : Row) → IsFit p → row_of job p.rows ≡ Some row → may_tell attempt job k p row.course ≡ true → is_started row.course.state ≡ true
+pub told-started : (attempt : ℕ) (job : JobId) (k : SignalKind) (p : Plan) (row : Row) → IsFit p → row_of job p.rows ≡ Some row → may_tell attempt job k p row.course ≡ true → is_started row.course.state ≡ true
 told-started attempt job k p row fit found may =
     let any = (and_parts (eqb row.course.attempt attempt) (list_any (is_taken job k) p.orders) may).1 in
     let some = any-found (IsFor p.rows) (is_taken job k) p.orders any fit.asked in

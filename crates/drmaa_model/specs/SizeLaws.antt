@@ -1,5 +1,5 @@
--- A step raises the journal's size by its entry and by what its call may add, and an accepted report of a run does not raise it.
-use Rattle.std.proofs.Common.{◌≡◌, ℕ, ◌+◌, ◌≤◌, Bool, true, false, cond, List, Option, Some, None, refl, subst, arith}
+-- A step raises the journal's size by its entry and by what its call may add, and an accepted report of a run does not raise it. A legal history stays within its size.
+use Rattle.std.proofs.Common.{◌≡◌, ℕ, ◌+◌, ◌≤◌, Bool, true, false, cond, List, length, Option, Some, None, refl, ◌∙◌, ap, subst, arith}
 use Rattle.std.specs.Option.{option_map, option_map_or}
 use Rattle.session_table.specs.Sessions.{destroyed, home_of}
 use Rattle.drmaa_types.specs.declared.refusals.Refusal.TheVariants.{Timeout}
@@ -9,6 +9,7 @@ use Rattle.drmaa_model.specs.declared.calls.Call.{Call}
 use Rattle.drmaa_model.specs.declared.calls.Call.TheVariants as call
 use Rattle.drmaa_model.specs.declared.calls.Report.{Report}
 use Rattle.drmaa_model.specs.declared.calls.Report.TheVariants as report
+use Rattle.drmaa_model.specs.declared.configs.Config.{Config}
 use Rattle.drmaa_model.specs.declared.entries.Entry.{Entry}
 use Rattle.drmaa_model.specs.declared.replies.Reply.{Reply}
 use Rattle.drmaa_model.specs.declared.replies.Reply.TheVariants as reply
@@ -19,6 +20,8 @@ use Rattle.drmaa_model.specs.Effects.{StepAnswer, gives, nothing, not_yet, makes
 use Rattle.drmaa_model.specs.Fit.{IsFit}
 use Rattle.drmaa_model.specs.FitLaws.{advance-fit}
 use Rattle.drmaa_model.specs.Growth.{is_of_run, growth}
+use Rattle.drmaa_model.specs.History.{replay, IsLegal}
+use Rattle.drmaa_model.specs.HistoryLaws.{legal-keeps}
 use Rattle.drmaa_model.specs.Homes.{home_number}
 use Rattle.drmaa_model.specs.Launching.{launch_of, launch_row, signal, next_signal, signal_of}
 use Rattle.drmaa_model.specs.Order.{next_launch}
@@ -26,6 +29,7 @@ use Rattle.drmaa_model.specs.Refusals.{refusal}
 use Rattle.drmaa_model.specs.Reporting.{report_of}
 use Rattle.drmaa_model.specs.Size.{size}
 use Rattle.drmaa_model.specs.Steps.{answer_now, answer, IsStep}
+use Rattle.drmaa_model.specs.StepLaws.{opening-consistent, step-consistent, step-config, legal-entries}
 use Rattle.drmaa_model.specs.SubmitLaws.{length-members}
 use Rattle.drmaa_model.specs.Time.{advance}
 use Rattle.drmaa_model.specs.TimeLaws.{weight-advance}
@@ -135,3 +139,30 @@ run-size w at r told next ok run free same =
     let kept = weight-advance (w.entries + 1) at w.plan in
     let after : size (counted (record v { plan = (report_of r).effect (v.entries + 1) v.plan })) ≤ size w = omega arith in
     subst (Small (size w)) same after
+
+-- ---- time and histories
+
+-- time leaves the size
+pub advance-size : (w : World) (at : ℕ) → size (advance w at) ≡ size w
+advance-size w at = ap (λ (n : ℕ). w.entries + n) (weight-advance (w.entries + 1) at w.plan)
+
+-- what is true of the world of a legal history: it keeps within the journal's size
+record IsWithin (config : Config) (w : World) : Type 0 where
+  consistent : IsConsistent w
+  config_is : w.config ≡ config
+  within : size w ≤ config.journal
+
+step-within : (config : Config) (w : World) (entry : Entry) (next : World) → IsWithin config w → IsStep w entry next → IsWithin config next
+step-within config w entry next here step = record {
+  consistent = step-consistent w entry next here.consistent step;
+  config_is = step-config w entry next here.consistent step ∙ here.config_is;
+  within = subst (λ (c : Config). size next ≤ c.journal) here.config_is step.within;
+}
+
+pub legal-size : (config : Config) (history : List Entry) → IsLegal config history → size (replay config history) ≤ config.journal
+legal-size config history legal =
+    (legal-keeps config (IsWithin config) (record { consistent = opening-consistent config; config_is = refl; within = omega arith }) (step-within config) history legal).within
+
+-- so a legal history has no more entries than that
+pub legal-length : (config : Config) (history : List Entry) → IsLegal config history → length history ≤ config.journal
+legal-length config history legal = (let count = legal-entries config history legal in let whole = legal-size config history legal in omega arith)

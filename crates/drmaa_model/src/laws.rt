@@ -22,7 +22,7 @@ ghost use Rattle.drmaa_model.specs.OperationLaws.{KeepsFit};
 ghost use Rattle.drmaa_model.specs.Plan.{Plan};
 ghost use Rattle.drmaa_model.specs.Reporting.{report_of};
 ghost use Rattle.drmaa_model.specs.Requests.{request, end_reservation};
-ghost use Rattle.drmaa_model.specs.Size.{size};
+ghost use Rattle.drmaa_model.specs.Size.{size, weight};
 ghost use Rattle.drmaa_model.specs.Steps.{IsStep};
 ghost use Rattle.drmaa_model.specs.Submitting.{submit};
 ghost use Rattle.drmaa_model.specs.Time.{advance, advance_plan};
@@ -72,4 +72,18 @@ pub fn a_report_finds_room()
     ensures report { (w : World) (at : ℕ) (report : Report) (told : Reply) (next : World) →
         IsConsistent w → is_of_run report ≡ true → (report_of report).refusal (advance w at).plan ≡ None →
         through unit (report_of report) (advance w at) ≡ gives told next → size next ≤ size w }
+{}
+
+/// Time leaves the changes and the promised room as they are together: each change that it adds was promised room. So
+/// it leaves the journal's size.
+pub fn time_leaves_the_size()
+    ensures weight { (entry at : ℕ) (p : Plan) → weight (advance_plan entry at p) ≡ weight p }
+    ensures size { (w : World) (at : ℕ) → size (advance w at) ≡ size w }
+{}
+
+/// The world of a legal history keeps within the journal's size of its configuration, and so the history has no more
+/// entries than that.
+pub fn a_legal_history_keeps_within_the_journal()
+    ensures size { (config : Config) (history : List Entry) → IsLegal config history → size (replay config history) ≤ config.journal }
+    ensures entries { (config : Config) (history : List Entry) → IsLegal config history → length history ≤ config.journal }
 {}

@@ -26,8 +26,9 @@ pub use entries::{Entry, EntryList};
 pub use faults::NoEntry;
 pub use histories::{a_step_goes_on, each_prefix_is_legal};
 pub use laws::{
-    a_legal_history_leads_to_a_consistent_world, a_report_finds_room, a_step_keeps_the_world,
-    every_operation_keeps_a_plan_fit,
+    a_legal_history_keeps_within_the_journal, a_legal_history_leads_to_a_consistent_world,
+    a_report_finds_room, a_step_keeps_the_world, every_operation_keeps_a_plan_fit,
+    time_leaves_the_size,
 };
 pub use looks::{Answer, Question};
 pub use replies::{Launch, Reply, Signal, Submitted};

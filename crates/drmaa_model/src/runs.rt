@@ -6,6 +6,7 @@ ghost use Rattle.drmaa_types.specs.Moments.{greatest};
 ghost use Rattle.drmaa_types.specs.declared.identifiers.JobId.{JobId};
 ghost use Rattle.drmaa_types.specs.declared.moments.End.{End};
 ghost use Rattle.drmaa_types.specs.declared.states.Exit.{Exit};
+ghost use Rattle.drmaa_types.specs.declared.states.SignalKind.{SignalKind};
 ghost use Rattle.drmaa_model.specs.declared.calls.Call.{Call};
 ghost use Rattle.drmaa_model.specs.declared.configs.Config.{Config};
 ghost use Rattle.drmaa_model.specs.declared.entries.Entry.{Entry};
@@ -35,7 +36,7 @@ pub fn a_launch_is_new()
         answer (replay config history) at Call.TakeLaunch ≡ gives (Reply.Launch told) next → is_launched history told.job.0 told.attempt ≡ false }
 {}
 
-/// In a legal history a report of a start or of an end that is accepted is of the job's last launch.
+/// In a legal history a report of a start, of an end or of a signal that is accepted is of the job's last launch.
 pub fn a_report_is_of_the_last_launch()
     ensures started { (config : Config) (history : List Entry) (at : ℕ) (job : JobId) (attempt : ℕ) → IsLegal config history →
         refusal (advance (replay config history) at) (Call.Started job attempt) ≡ None → IsLastLaunch history job.0 attempt }
@@ -45,6 +46,10 @@ pub fn a_report_is_of_the_last_launch()
         refusal (advance (replay config history) at) (Call.Exited job attempt exit) ≡ None → IsLastLaunch history job.0 attempt }
     ensures exit_unknown { (config : Config) (history : List Entry) (at : ℕ) (job : JobId) (attempt : ℕ) → IsLegal config history →
         refusal (advance (replay config history) at) (Call.ExitUnknown job attempt) ≡ None → IsLastLaunch history job.0 attempt }
+    ensures signal_done { (config : Config) (history : List Entry) (at : ℕ) (job : JobId) (attempt : ℕ) (kind : SignalKind) → IsLegal config history →
+        refusal (advance (replay config history) at) (Call.SignalDone job attempt kind) ≡ None → IsLastLaunch history job.0 attempt }
+    ensures signal_failed { (config : Config) (history : List Entry) (at : ℕ) (job : JobId) (attempt : ℕ) (kind : SignalKind) → IsLegal config history →
+        refusal (advance (replay config history) at) (Call.SignalFailed job attempt kind) ≡ None → IsLastLaunch history job.0 attempt }
 {}
 
 /// The job that is launched next is ready for its slots, and for no more of those that it can use. It stands
