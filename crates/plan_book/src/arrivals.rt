@@ -1,5 +1,5 @@
 //! Jobs that come in, and ended ones that are forgotten.
-ghost use Rattle.std.specs.Prelude.{◌≡◌, ◌≢◌, ◌+◌, ◌^◌, ◌<◌, ◌≤◌, ◌&&◌, ◌++◌, not, filter, length, vec_len, vec_capacity, Ok, Err, OnOk};
+ghost use Rattle.std.specs.Prelude.{◌≡◌, ◌≢◌, ◌+◌, ◌^◌, ◌<◌, ◌≤◌, ◌&&◌, ◌++◌, not, filter, length, vec_len, vec_capacity, Ok, Err, OnOk, OnErr};
 ghost use Rattle.drmaa_model.specs.declared.rows.Row.{Row};
 ghost use Rattle.drmaa_model.specs.Controlling.{reap, is_done};
 ghost use Rattle.drmaa_model.specs.Fit.{IsFit};
@@ -43,6 +43,7 @@ impl Book {
             (plan_of self.old) entry limit result (plan_of self.new) }
         ensures kept { IsKept self.new }
         ensures spare { spare self.old ≤ spare self.new + length rows.items }
+        ensures err { OnErr result (spare self.old ≤ spare self.new) }
     {
         let size = entry + self.weight() + rows.len() as u64;
         if size > limit {

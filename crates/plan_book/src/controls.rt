@@ -1,5 +1,5 @@
 //! A control call, on one job or on the members of an array: all jobs that it acts on go on in one step, or nothing changes.
-ghost use Rattle.std.specs.Prelude.{◌≡◌, ◌≢◌, ◌+◌, ◌^◌, ◌<◌, ◌≤◌, false, filter, length, Ok, Err, OnOk, IsOk};
+ghost use Rattle.std.specs.Prelude.{◌≡◌, ◌≢◌, ◌+◌, ◌^◌, ◌<◌, ◌≤◌, false, filter, length, Ok, Err, OnOk, OnErr, IsOk};
 ghost use Rattle.drmaa_model.specs.Controlling.{control, is_controlled};
 ghost use Rattle.drmaa_model.specs.Fit.{IsFit};
 ghost use Rattle.drmaa_model.specs.Operation.{Meets};
@@ -39,6 +39,7 @@ impl Book {
             (plan_of self.old) entry limit result (plan_of self.new) }
         ensures kept { IsKept self.new }
         ensures spare { spare self.old ≤ spare self.new + growth what (acted target.now what (rows_at at (plan_of self.old))) }
+        ensures err { OnErr result (spare self.old ≤ spare self.new) }
         ensures memory { growth what (acted target.now what (rows_at at (plan_of self.old))) ≤ spare self.old → is_asking what ≡ false
             → result ≢ Err Refusal.OutOfMemory }
     {

@@ -1,50 +1,32 @@
 //! The homes of jobs and reservations: named sessions, which may be destroyed.
-ghost use Rattle.std.specs.Prelude.{◌≡◌, ◌≢◌, ◌≤◌, not, map, filter, Some, Ok, Err};
+ghost use Rattle.std.specs.Prelude.{◌≡◌, not, map, filter, Some};
 ghost use Rattle.drmaa_model.specs.declared.reservations.Accepted.{Accepted};
 ghost use Rattle.drmaa_model.specs.declared.rows.Row.{Row};
 ghost use Rattle.drmaa_model.specs.Effects.{left_by, is_forgotten, forget_home};
 ghost use Rattle.drmaa_model.specs.Homes.{is_same_home};
-ghost use Rattle.drmaa_model.specs.Operation.{Meets};
+ghost use Rattle.drmaa_model.specs.Size.{weight};
 ghost use Rattle.drmaa_model.specs.Time.{advance_plan};
 ghost use Rattle.plan_book.specs.Book.{plan_of, IsKept, spare};
 
 use crate::book::Book;
 use crate::targets::is_done;
 use drmaa_model::{Accepted, Row};
-use drmaa_types::{Limit, Moment, Refusal};
+use drmaa_types::Moment;
 
 impl Book {
-    /// Forgets a home at a moment, where the journal has room for that: its ended jobs go, and its other jobs and its
-    /// reservations are left without one. It takes no memory.
-    ///
-    /// # Errors
-    ///
-    /// A journal that would be too large. Nothing has changed then.
-    pub fn forget_home(
-        &mut self,
-        at: Moment,
-        entry: u64,
-        limit: u64,
-        home: u64,
-    ) -> Result<(), Refusal>
+    /// Forgets a home at a moment: its ended jobs go, and its other jobs and its reservations are left without one. It has no
+    /// limit, since the journal's size stays the same, and takes no memory.
+    pub fn forget_home(&mut self, at: Moment, entry: u64, home: u64)
         requires kept { IsKept self.old }
-        requires entry { entry ≤ 4_000_001 }
-        requires limit { limit ≤ 4_000_000 }
-        ensures meets { Meets (record { answer = Ok tt; plan = forget_home home (advance_plan entry at (plan_of self.old)) })
-            (plan_of self.old) entry limit result (plan_of self.new) }
+        ensures plan { plan_of self.new ≡ forget_home home (advance_plan entry at (plan_of self.old)) }
+        ensures size { weight (plan_of self.new) ≡ weight (plan_of self.old) }
         ensures kept { IsKept self.new }
         ensures spare { spare self.new ≡ spare self.old }
-        ensures memory { result ≢ Err Refusal.OutOfMemory }
     {
-        let size = entry + self.weight();
-        if size > limit {
-            return Err(Refusal::OutOfResource(Limit::Journal { size }));
-        }
         self.advance(at, entry);
         drop_forgotten(&mut self.rows, home);
         leave_rows(&mut self.rows, home);
         leave_reservations(&mut self.reservations, home);
-        Ok(())
     }
 }
 

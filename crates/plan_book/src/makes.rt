@@ -96,6 +96,7 @@ impl Book {
             (plan_of self.old) entry limit result (plan_of self.new) }
         ensures kept { IsKept self.new }
         ensures spare { spare self.old ≤ spare self.new + grows m.now }
+        ensures err { OnErr result (spare self.old ≤ spare self.new) }
         ensures memory { grows m.now ≤ spare self.old → asks m.now ≡ 0 → is_booking m.now.booked ≡ false → result ≢ Err Refusal.OutOfMemory }
     {
         let size = self.size_after(at, entry, m);

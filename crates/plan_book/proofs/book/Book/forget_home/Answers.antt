@@ -1,15 +1,10 @@
-use Rattle.std.proofs.Common.{◌≡◌, ◌+◌, ℕ, List, filter, map, not, refl, sym, ◌∙◌, ap, subst, arith}
-use Rattle.std.specs.Prelude.{Result, Err}
-use Rattle.drmaa_types.specs.declared.refusals.Refusal.{Refusal}
-use Rattle.drmaa_types.specs.declared.refusals.Refusal.TheVariants.{OutOfResource}
-use Rattle.drmaa_types.specs.declared.refusals.Limit.TheVariants as resource
+use Rattle.std.proofs.Common.{◌≡◌, List, filter, map, not, refl, sym, ◌∙◌, ap, subst, arith}
 use Rattle.drmaa_model.specs.declared.reservations.Accepted.{Accepted}
 use Rattle.drmaa_model.specs.declared.rows.Row.{Row}
 use Rattle.drmaa_model.specs.Effects.{left_by, is_forgotten, forget_home}
 use Rattle.drmaa_model.specs.Fit.{IsFit}
 use Rattle.drmaa_model.specs.FitLaws.{advance-fit}
 use Rattle.drmaa_model.specs.HomeLaws.{forget-fit}
-use Rattle.drmaa_model.specs.Operation.Meets.{served, full}
 use Rattle.drmaa_model.specs.Plan.{Plan}
 use Rattle.drmaa_model.specs.Size.{weight}
 use Rattle.drmaa_model.specs.Time.{advance_plan}
@@ -41,13 +36,16 @@ fit c = advance-fit c.args.entry c.args.at (plan_of c.args.self.now) c.requires.
 fit-then : (c : After-leave_reservations) → IsFit (plan_of c.advance.new.self)
 fit-then c = subst IsFit (sym c.advance.ensures.plan) (fit c)
 
-pub returns-clause-meets : goal.returns-clause-meets
-returns-clause-meets c =
+pub returns-clause-plan : goal.returns-clause-plan
+returns-clause-plan c = plan c
+
+pub returns-clause-size : goal.returns-clause-size
+returns-clause-size c =
     let p = plan_of c.args.self.now in
     let q = advance_plan c.args.entry c.args.at p in
     let size = weight-advance c.args.entry c.args.at p in
     let same = forget-weight c.args.home q (fit c) in
-    served (record { answered = refl; answers = tt; plan = plan c; within = omega (arith, size, same, c.weight.ensures) })
+    omega (arith, ap weight (plan c), size, same)
 
 pub returns-clause-kept : goal.returns-clause-kept
 returns-clause-kept c =
@@ -73,16 +71,3 @@ pub returns-clause-spare : goal.returns-clause-spare
 returns-clause-spare c =
     let same = forgot-owed c.args.home c.advance.new.self.rows.items (fit-then c).sound in
     omega (arith, ap owed (rows c), same, c.advance.ensures.spare)
-
-pub returns-then-size-limit-clause-meets : goal.returns-then-size-limit-clause-meets
-returns-then-size-limit-clause-meets c =
-    let p = plan_of c.args.self.now in
-    let q = advance_plan c.args.entry c.args.at p in
-    let size = weight-advance c.args.entry c.args.at p in
-    let same = forget-weight c.args.home q (advance-fit c.args.entry c.args.at p c.requires.kept.fit) in
-    let eq : c.args.entry + c.weight.result ≡ c.args.entry + weight (forget_home c.args.home q) = omega (arith, size, same, c.weight.ensures) in
-    full (record {
-      answered = ap (λ (n : ℕ). let r : Result (Unit {0}) Refusal = Err (OutOfResource (resource.Journal n)) in r) eq;
-      above = omega (arith, eq, c.if-size-limit.true);
-      plan = refl;
-    })
