@@ -1,5 +1,5 @@
 //! The bytes of a line that were not read yet.
-ghost use Rattle.std.specs.Prelude.{◌≡◌, ◌<◌, ◌∷◌, [], ◌^◌, ◌≤◌, ◌++◌, List, ℕ, length, Err, Ok, IfOk, IfSome, IsSomeAnd, Some, None, Option, Result, option_map, true, false, decimal, suc, drop, take, IsUtf8, OnOk, codes};
+ghost use Rattle.std.specs.Prelude.{◌≡◌, ◌<◌, ◌∷◌, [], ◌^◌, ◌≤◌, ◌++◌, List, ℕ, length, Err, Ok, IfOk, IfErr, IfSome, IsSomeAnd, Some, None, Option, Result, option_map, true, false, decimal, suc, drop, take, IsUtf8, OnOk, codes};
 ghost use Rattle.std.specs.List.{prefix_len};
 ghost use Rattle.drmaa_types.specs.Moments.{greatest};
 ghost use Rattle.text_codec.specs.Lexical as lexical;
@@ -199,6 +199,7 @@ impl<'a> Cursor<'a> {
     pub fn end(&self) -> Result<(), Unread>
         ensures read { result ≡ Ok tt → form.is_end self.now ≡ true }
         ensures none { result ≡ Err Unread.Unspelled → form.is_end self.now ≡ false }
+        ensures memory { IfErr result (λ e. e ≡ Unread.Unspelled) }
     {
         if self.is_empty() {
             Ok(())
@@ -218,6 +219,7 @@ impl<'a> Cursor<'a> {
     pub fn expect(&mut self, key: &[u8]) -> Result<(), Unread>
         ensures read { result ≡ Ok tt → form.strip key.now self.old ≡ Some self.new }
         ensures none { result ≡ Err Unread.Unspelled → form.strip key.now self.old ≡ None }
+        ensures memory { IfErr result (λ e. e ≡ Unread.Unspelled) }
     {
         if self.skip(key) {
             Ok(())
@@ -232,6 +234,7 @@ impl<'a> Cursor<'a> {
     pub fn open(&mut self) -> Result<(), Unread>
         ensures read { result ≡ Ok tt → opened self.old ≡ Some self.new }
         ensures none { result ≡ Err Unread.Unspelled → opened self.old ≡ None }
+        ensures memory { IfErr result (λ e. e ≡ Unread.Unspelled) }
     {
         if self.is_spaced {
             return Err(Unread::Unspelled);
@@ -263,7 +266,8 @@ impl<'a> Cursor<'a> {
     /// Reads a number below 2^64.
     #[tactic(auto, unfolding(crate::specs::Formats::number))]
     pub fn u64(&mut self) -> Result<u64, Unread>
-        ensures { Answers (form.number (2 ^ 64)).read self.old result self.new }
+        ensures reads { Answers (form.number (2 ^ 64)).read self.old result self.new }
+        ensures memory { IfErr result (λ e. e ≡ Unread.Unspelled) }
     {
         match number_of(self.word()) {
             Some(n) => Ok(n),
@@ -274,7 +278,8 @@ impl<'a> Cursor<'a> {
     /// Reads a number below 2^32.
     #[tactic(auto, unfolding(crate::specs::Formats::number, crate::specs::Formats::number_of))]
     pub fn u32(&mut self) -> Result<u32, Unread>
-        ensures { Answers (form.number (2 ^ 32)).read self.old result self.new }
+        ensures reads { Answers (form.number (2 ^ 32)).read self.old result self.new }
+        ensures memory { IfErr result (λ e. e ≡ Unread.Unspelled) }
     {
         match u32::try_from(self.u64()?) {
             Ok(n) => Ok(n),
@@ -285,7 +290,8 @@ impl<'a> Cursor<'a> {
     /// Reads a number below 2^8.
     #[tactic(auto, unfolding(crate::specs::Formats::number, crate::specs::Formats::number_of))]
     pub fn u8(&mut self) -> Result<u8, Unread>
-        ensures { Answers (form.number (2 ^ 8)).read self.old result self.new }
+        ensures reads { Answers (form.number (2 ^ 8)).read self.old result self.new }
+        ensures memory { IfErr result (λ e. e ≡ Unread.Unspelled) }
     {
         match u8::try_from(self.u64()?) {
             Ok(n) => Ok(n),
@@ -296,7 +302,8 @@ impl<'a> Cursor<'a> {
     /// Reads two decimal digits.
     #[tactic(auto, unfolding(crate::specs::Exact::two))]
     pub fn two(&mut self) -> Result<u8, Unread>
-        ensures { Answers exact.two.read self.old result self.new }
+        ensures reads { Answers exact.two.read self.old result self.new }
+        ensures memory { IfErr result (λ e. e ≡ Unread.Unspelled) }
     {
         if self.is_spaced {
             return Err(Unread::Unspelled);
@@ -313,7 +320,8 @@ impl<'a> Cursor<'a> {
     /// Reads a moment.
     #[tactic(auto, unfolding(crate::specs::Formats::moment, drmaa_types::specs::Moments::greatest, crate::specs::Formats::behind, crate::specs::Formats::number, crate::specs::Formats::number_of))]
     pub fn moment(&mut self) -> Result<Moment, Unread>
-        ensures { Answers form.moment.read self.old result self.new }
+        ensures reads { Answers form.moment.read self.old result self.new }
+        ensures memory { IfErr result (λ e. e ≡ Unread.Unspelled) }
     {
         self.expect(b"@")?;
         match Moment::new(self.u64()?) {

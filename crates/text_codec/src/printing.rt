@@ -97,7 +97,7 @@ pub fn push_mark(out: &mut Vec<u8>, key: &[u8], is_set: bool) -> Result<(), Allo
     }
 }
 
-/// Prints a number in decimal digits. After an `Err` memory ran out, and nothing was printed.
+/// Prints a number in decimal digits. `Err` says that memory ran out.
 pub fn push_number(out: &mut Vec<u8>, number: u64) -> Result<(), AllocError>
     ensures text { OnOk result (out.new.items ≡ out.old.items ++ decimal number) }
     ensures small { number < 2 ^ 64 }

@@ -69,7 +69,7 @@ stuck Goes start ends Spells reads limit bytes front (l ∷ ls) state reached st
     stops parts.second.0 (subst (λ s. Goes s l parts.second.0) same parts.second.1)
 
 begins : {Q : Type 0} {Spells : List (List ℕ) → Q → Type 0} {lines : List (List ℕ)} → GoesOn Spells lines → Begins Spells lines
-begins g = record { more = g.more; text = g.text; spelled = g.spelled }
+begins g = record { more = g.more; are_lines = g.are_lines; text = g.text; spelled = g.spelled }
 
 -- the line behind those that were read is the first bad one
 pub first_bad : {S Q : Type 0} (Goes : S → List ℕ → S → Type 0) (start : S) (ends : S → Option Q) (Spells : List (List ℕ) → Q → Type 0) → Reads Goes start ends Spells

@@ -1,6 +1,7 @@
 -- Texts of whole lines, and the first line after which no text can go on: our profile.
 use Rattle.std.specs.Prelude.{◌≡◌, ℕ, ◌+◌, ◌<◌, ◌≤◌, ◌==◌, Bool, true, not, filter, nat_le, List, [], ◌∷◌, ◌++◌, length, take, if◌then◌else◌}
-use Rattle.std.specs.List.{flat_map}
+use Rattle.std.specs.List.{flat_map, list_all, AllByRecursion}
+use Rattle.text_codec.specs.Lexical.{no_feed}
 
 -- a byte in front of the first line
 abbrev pub onto_first : ℕ → List (List ℕ) → List (List ℕ)
@@ -31,15 +32,21 @@ pub record IsTextOf {Q : Type 0} (Spells : List (List ℕ) → Q → Type 0) (li
   pub whole : bytes ≡ ended (whole_lines bytes)
   pub spelled : Spells (whole_lines bytes) q
 
--- some text begins with these lines
+-- lines without a line feed
+abbrev pub AreLines : List (List ℕ) → Type 0
+AreLines lines = AllByRecursion (λ line. list_all no_feed line ≡ true) lines
+
+-- some text begins with these lines, and goes on with lines
 pub record Begins {Q : Type 0} (Spells : List (List ℕ) → Q → Type 0) (lines : List (List ℕ)) : Type 0 where
   pub more : List (List ℕ)
+  pub are_lines : AreLines more
   pub text : Q
   pub spelled : Spells (lines ++ more) text
 
 -- the same, where the lines that follow are not skipped by a reader that skips
 pub record GoesOn {Q : Type 0} (Spells : List (List ℕ) → Q → Type 0) (lines : List (List ℕ)) : Type 0 where
   pub more : List (List ℕ)
+  pub are_lines : AreLines more
   pub text : Q
   pub spelled : Spells (lines ++ more) text
   pub unskipped : kept more ≡ more

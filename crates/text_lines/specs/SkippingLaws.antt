@@ -74,6 +74,7 @@ reads_all A reads first here =
           let g = R.goes_on (kept ls) t.reader k.0 in
           record {
             more = g.more;
+            are_lines = g.are_lines;
             text = g.text;
             spelled = record {
               readable = both_readable ls g.more k.1 (unskipped_readable g.more g.unskipped);

@@ -8,13 +8,16 @@ ghost use Rattle.text_lines.specs.declared.reading.TextFault.{TextFault};
 use crate::splitting::{first_bytes, line_split};
 use std::alloc::Global;
 use text_codec::Unread;
+use thiserror::Error;
 
 /// Why a text could not be read.
-#[derive(Clone, Copy, Debug, PartialEq, Eq)]
+#[derive(Clone, Copy, Debug, PartialEq, Eq, Error)]
 pub enum TextFault {
     /// The number of the first line after which no text goes on.
+    #[error("line {0} is not in the grammar")]
     Line(u64),
     /// Memory ran out.
+    #[error("out of memory")]
     OutOfMemory,
 }
 
