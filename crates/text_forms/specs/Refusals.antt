@@ -1,5 +1,5 @@
 -- Refusals as they stand in a journal: our profile. The numbers 2 and 8, and the journal's own limit, never stand in an entry.
-use Rattle.std.specs.Prelude.{ℕ, List, [], ◌∷◌, ◌++◌, Option, codes}
+use Rattle.std.specs.Prelude.{ℕ, Bool, true, false, List, [], ◌∷◌, ◌++◌, Option, codes}
 use Rattle.drmaa_types.specs.declared.refusals.Refusal.{Refusal}
 use Rattle.drmaa_types.specs.declared.refusals.Refusal.TheVariants as refusal
 use Rattle.text_codec.specs.Formats.{Format, moment, or_else}
@@ -8,7 +8,7 @@ use Rattle.text_codec.specs.Sums.{Spelled, alone, keyed, arm_alone, arm, sum_of}
 use Rattle.text_forms.specs.declared.refusals.RefusalWord.{RefusalWord}
 use Rattle.text_forms.specs.declared.refusals.RefusalWord.TheVariants as why
 use Rattle.text_forms.specs.declared.refusals.TheConstants.{REFUSAL_WORDS}
-use Rattle.text_forms.specs.Words.{which_form, state_form, limit_form, attribute_form}
+use Rattle.text_words.specs.Words.{which_form, state_form, limit_form, attribute_form, is_told}
 
 -- a refusal is spelled as its number
 abbrev pub refusal_word : RefusalWord → List ℕ
@@ -40,6 +40,19 @@ refusal_form (refusal.OutOfResource limit) = keyed (refusal_word why.Resource) l
 refusal_form refusal.OutOfMemory = never (codes "8")
 refusal_form (refusal.UnsupportedAttribute attribute) = keyed (refusal_word why.Attribute) attribute_form attribute
 refusal_form refusal.UnsupportedOperation = alone (refusal_word why.Operation)
+
+-- the refusals that a journal may have
+abbrev pub may_stand : Refusal → Bool
+may_stand (refusal.DeniedByDrms at) = true
+may_stand (refusal.TryLater served drawn) = false
+may_stand refusal.Timeout = true
+may_stand (refusal.InvalidArgument which) = true
+may_stand refusal.InvalidSession = true
+may_stand (refusal.InvalidState state) = true
+may_stand (refusal.OutOfResource limit) = is_told limit
+may_stand refusal.OutOfMemory = false
+may_stand (refusal.UnsupportedAttribute attribute) = true
+may_stand refusal.UnsupportedOperation = true
 
 abbrev pub refusal_arms : RefusalWord → List ℕ → Option (Refusal × List ℕ)
 refusal_arms why.Denied = arm overfull refusal.DeniedByDrms

@@ -1,33 +1,23 @@
 -- The laws of templates: a line for each field.
-use Rattle.std.proofs.Common.{◌≡◌, ℕ, ◌^◌, true, List, [], ◌∷◌, Option, Some, None, codes, lit<, refl}
+use Rattle.std.proofs.Common.{◌≡◌, ℕ, ◌^◌, true, List, ◌∷◌, codes, refl}
 use Rattle.std.specs.List.{list_all}
-use Rattle.job_template.specs.declared.templates.Start.{Start}
-use Rattle.job_template.specs.declared.templates.Start.TheVariants.{At, Now}
-use Rattle.text_codec.specs.Formats.{IsFormat, number, moment, pair, or_else}
+use Rattle.text_codec.specs.Formats.{IsFormat, number, moment}
 use Rattle.text_codec.specs.Fields.{AreFields, clear, field, flag, repeated, no_more, in_braces}
-use Rattle.text_codec.specs.FormatLaws.{pair_laws, mapped_laws, or_else_laws, checked_laws}
+use Rattle.text_codec.specs.FormatLaws.{mapped_laws, checked_laws}
 use Rattle.text_codec.specs.FieldLaws.{no_more_laws, field_laws, flag_laws, repeated_laws, in_braces_laws}
 use Rattle.text_codec.specs.Braces.{braces}
 use Rattle.text_codec.specs.BraceLaws.{braces_laws}
-use Rattle.text_codec.specs.BaseLaws.{text_laws, moment_laws, moment_avoids, number_laws_64, number_laws_32}
+use Rattle.text_codec.specs.BaseLaws.{text_laws, moment_laws, number_laws_64, number_laws_32}
 use Rattle.text_codec.specs.Integers.{integer}
 use Rattle.text_codec.specs.IntegerLaws.{integer_laws_32}
 use Rattle.text_codec.specs.Quotes.{text}
-use Rattle.text_codec.specs.Words.{capitals}
-use Rattle.text_codec.specs.WordLaws.{capitals_laws}
-use Rattle.text_forms.specs.Numbers.{reservation_id}
-use Rattle.text_forms.specs.NumberLaws.{reservation_id_laws}
-use Rattle.text_forms.specs.Words.{attribute_form}
-use Rattle.text_forms.specs.WordLaws.{attribute_laws}
-use Rattle.text_forms.specs.Templates.{variable, resource_limit, is_other, other_form, late_fields, placed_fields, path_fields, early_fields, late_parts, placed_parts, path_parts, early_parts, make_template, any_template, template, make_start, start_part, start, count_fields, frame_fields, frame_parts, make_frame, any_frame, frame}
-
-pub variable_laws : IsFormat variable
-unfolding variable
-variable_laws = mapped_laws _ _ (pair text text) (pair_laws text text text_laws text_laws) (λ x v. refl) (λ y v. refl)
-
-pub resource_limit_laws : IsFormat resource_limit
-unfolding resource_limit
-resource_limit_laws = mapped_laws _ _ (pair capitals (number (2 ^ 64))) (pair_laws capitals _ capitals_laws number_laws_64) (λ x v. refl) (λ y v. refl)
+use Rattle.text_words.specs.Numbers.{reservation_id}
+use Rattle.text_words.specs.NumberLaws.{reservation_id_laws}
+use Rattle.text_words.specs.Words.{attribute_form}
+use Rattle.text_words.specs.WordLaws.{attribute_laws}
+use Rattle.text_words.specs.TemplateParts.{variable, resource_limit, start}
+use Rattle.text_words.specs.TemplatePartLaws.{variable_laws, resource_limit_laws, start_laws}
+use Rattle.text_forms.specs.Templates.{is_other, other_form, late_fields, placed_fields, path_fields, early_fields, late_parts, placed_parts, path_parts, early_parts, make_template, any_template, template, count_fields, frame_fields, frame_parts, make_frame, any_frame, frame}
 
 pub other_laws : IsFormat other_form
 unfolding other_form
@@ -82,18 +72,6 @@ any_template_laws = mapped_laws make_template _ _ (in_braces_laws (codes "comman
 pub template_laws : IsFormat template
 unfolding template
 template_laws = checked_laws (λ t. list_all is_other t.others) any_template any_template_laws
-
-pub start_laws : IsFormat start
-unfolding start
-start_laws = mapped_laws make_start start_part _ (or_else_laws (codes "now") moment refl moment_laws (moment_avoids 110 (codes "ow") refl)) (λ x v. here x) (λ y v. there y)
-  where
-    here : (x : Option ℕ) → start_part (make_start x) ≡ x
-    here None = refl
-    here (Some m) = refl
-
-    there : (y : Start) → make_start (start_part y) ≡ y
-    there Now = refl
-    there (At m) = refl
 
 pub count_laws : AreFields count_fields
 unfolding count_fields field repeated no_more

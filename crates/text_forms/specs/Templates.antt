@@ -1,5 +1,5 @@
 -- Templates in braces: each field that is set stands behind its word, in one order. Our profile.
-use Rattle.std.specs.Prelude.{ℕ, ◌^◌, ℤ, Bool, true, false, List, Option, Some, None, codes}
+use Rattle.std.specs.Prelude.{ℕ, ◌^◌, ℤ, Bool, true, false, List, Option, codes}
 use Rattle.std.specs.List.{list_all}
 use Rattle.drmaa_types.specs.declared.identifiers.ReservationId.{ReservationId}
 use Rattle.drmaa_types.specs.declared.refusals.Attribute.{Attribute}
@@ -9,23 +9,14 @@ use Rattle.job_template.specs.declared.templates.ReservationTemplate.{Reservatio
 use Rattle.job_template.specs.declared.templates.Pair.{Pair}
 use Rattle.job_template.specs.declared.templates.ResourceLimit.{ResourceLimit}
 use Rattle.job_template.specs.declared.templates.Start.{Start}
-use Rattle.job_template.specs.declared.templates.Start.TheVariants.{At, Now}
-use Rattle.text_codec.specs.Formats.{Format, number, moment, pair, mapped, or_else, checked}
+use Rattle.text_codec.specs.Formats.{Format, number, moment, mapped, checked}
 use Rattle.text_codec.specs.Fields.{Fields, field, flag, repeated, no_more, in_braces}
 use Rattle.text_codec.specs.Braces.{braces}
 use Rattle.text_codec.specs.Integers.{integer}
 use Rattle.text_codec.specs.Quotes.{text}
-use Rattle.text_codec.specs.Words.{capitals}
-use Rattle.text_forms.specs.Numbers.{reservation_id}
-use Rattle.text_forms.specs.Words.{attribute_form}
-
--- a variable and its value
-unfoldable pub variable : Format Pair
-variable = mapped (λ p. record { name = p.0; value = p.1 }) (λ v. (v.name, v.value)) (pair text text)
-
--- a limit: a word of capitals, and a number
-unfoldable pub resource_limit : Format ResourceLimit
-resource_limit = mapped (λ p. record { name = p.0; value = p.1 }) (λ l. (l.name, l.value)) (pair capitals (number (2 ^ 64)))
+use Rattle.text_words.specs.Numbers.{reservation_id}
+use Rattle.text_words.specs.Words.{attribute_form}
+use Rattle.text_words.specs.TemplateParts.{variable, resource_limit, start}
 
 -- the attributes that a template has under `other`: all but queueName and the limits
 abbrev pub is_other : Attribute → Bool
@@ -143,18 +134,6 @@ any_template = mapped make_template (λ t. (t.remote_command, early_parts t)) (i
 
 unfoldable pub template : Format JobTemplate
 template = checked (λ t. list_all is_other t.others) any_template
-
--- when a reservation is to start
-abbrev pub make_start : Option ℕ → Start
-make_start None = Now
-make_start (Some m) = At m
-
-abbrev pub start_part : Start → Option ℕ
-start_part Now = None
-start_part (At m) = Some m
-
-unfoldable pub start : Format Start
-start = mapped make_start start_part (or_else (codes "now") moment)
 
 -- the fields of a reservation's template, in two groups, the last one first
 abbrev pub Counts : Type 0

@@ -2,13 +2,12 @@
 ghost use Rattle.std.specs.Prelude.{◌≡◌};
 ghost use Rattle.text_codec.specs.Formats.{Answers};
 ghost use Rattle.text_forms.specs.Templates as templates;
-ghost use Rattle.text_forms.specs.TemplateLaws as laws;
 
 use crate::job_templates::are_others;
-use crate::{ReadForm, read_all, read_set};
 use drmaa_types::{AttributeList, Moment, Text};
 use job_template::{ReservationTemplate, Start};
 use text_codec::{Cursor, Unread};
+use text_words::{read_all, read_set};
 
 /// The last fields: how many slots, and attributes that are not supported.
 type Counted = (Option<u32>, (Option<u32>, (AttributeList, ())));
@@ -18,20 +17,6 @@ type Frames = (
     Option<Text>,
     (Option<Start>, (Option<Moment>, (Option<u64>, Counted))),
 );
-
-impl ReadForm for Start {
-    ghost form = { templates.start };
-
-    ghost laws = { laws.start_laws };
-
-    #[tactic(auto, unfolding(crate::specs::Templates::start, text_codec::specs::Formats::mapped, text_codec::specs::Formats::or_else))]
-    fn read(cursor: &mut Cursor) -> Result<Start, Unread> {
-        if cursor.skip(b"now") {
-            return Ok(Start::Now);
-        }
-        Ok(Start::At(cursor.moment()?))
-    }
-}
 
 #[tactic(auto, unfolding(crate::specs::Templates::count_fields, text_codec::specs::Fields::repeated, text_codec::specs::Fields::field, text_codec::specs::Fields::no_more))]
 fn read_counts(cursor: &mut Cursor) -> Result<Counted, Unread>
@@ -83,18 +68,15 @@ fn read_any(cursor: &mut Cursor) -> Result<ReservationTemplate, Unread>
     Ok(made(fields))
 }
 
-impl ReadForm for ReservationTemplate {
-    ghost form = { templates.frame };
-
-    ghost laws = { laws.frame_laws };
-
-    #[tactic(auto, unfolding(crate::specs::Templates::frame, text_codec::specs::Formats::checked))]
-    fn read(cursor: &mut Cursor) -> Result<ReservationTemplate, Unread> {
-        let template = read_any(cursor)?;
-        if are_others(template.others.as_slice()) {
-            Ok(template)
-        } else {
-            Err(Unread::Unspelled)
-        }
+/// Reads a reservation's template in braces, with no attribute under `other` that scripts and journals don't have there.
+#[tactic(auto, unfolding(crate::specs::Templates::frame, text_codec::specs::Formats::checked))]
+pub fn read_frame(cursor: &mut Cursor) -> Result<ReservationTemplate, Unread>
+    ensures { Answers templates.frame.read cursor.old result cursor.new }
+{
+    let template = read_any(cursor)?;
+    if are_others(template.others.as_slice()) {
+        Ok(template)
+    } else {
+        Err(Unread::Unspelled)
     }
 }

@@ -1,14 +1,13 @@
 //! Templates of jobs in braces: read, in groups of fields, the last one first.
-ghost use Rattle.std.specs.Prelude.{◌≡◌, true};
+ghost use Rattle.std.specs.Prelude.{◌≡◌};
 ghost use Rattle.std.specs.List.{list_all};
 ghost use Rattle.text_codec.specs.Formats.{Answers};
 ghost use Rattle.text_forms.specs.Templates as templates;
-ghost use Rattle.text_forms.specs.TemplateLaws as laws;
 
-use crate::{ReadForm, read_all, read_set};
 use drmaa_types::{Attribute, AttributeList, Moment, ReservationId, Text, TextList};
-use job_template::{JobTemplate, LimitList, Pair, PairList, ResourceLimit};
-use text_codec::{Cursor, Unread, read_capitals};
+use job_template::{JobTemplate, LimitList, PairList};
+use text_codec::{Cursor, Unread};
+use text_words::{ReadForm, read_all, read_set};
 
 /// The last fields: priority, start, deadline, limits, and attributes that are not supported.
 type Late = (
@@ -39,34 +38,6 @@ type Paths = (
 
 /// The fields behind the command.
 type Early = (TextList, (bool, (bool, (PairList, Paths))));
-
-impl ReadForm for Pair {
-    ghost form = { templates.variable };
-
-    ghost laws = { laws.variable_laws };
-
-    #[tactic(auto, unfolding(crate::specs::Templates::variable, text_codec::specs::Formats::mapped, text_codec::specs::Formats::pair))]
-    fn read(cursor: &mut Cursor) -> Result<Pair, Unread> {
-        let name = cursor.text()?;
-        cursor.expect(b" ")?;
-        let value = cursor.text()?;
-        Ok(Pair { name, value })
-    }
-}
-
-impl ReadForm for ResourceLimit {
-    ghost form = { templates.resource_limit };
-
-    ghost laws = { laws.resource_limit_laws };
-
-    #[tactic(auto, unfolding(crate::specs::Templates::resource_limit, text_codec::specs::Formats::mapped, text_codec::specs::Formats::pair))]
-    fn read(cursor: &mut Cursor) -> Result<ResourceLimit, Unread> {
-        let name = read_capitals(cursor)?;
-        cursor.expect(b" ")?;
-        let value = cursor.u64()?;
-        Ok(ResourceLimit { name, value })
-    }
-}
 
 /// Whether a template has an attribute under `other`: all but `queueName` and the limits.
 pub fn is_other(attribute: Attribute) -> bool
@@ -210,18 +181,15 @@ fn read_any(cursor: &mut Cursor) -> Result<JobTemplate, Unread>
     Ok(made(command, early))
 }
 
-impl ReadForm for JobTemplate {
-    ghost form = { templates.template };
-
-    ghost laws = { laws.template_laws };
-
-    #[tactic(auto, unfolding(crate::specs::Templates::template, text_codec::specs::Formats::checked))]
-    fn read(cursor: &mut Cursor) -> Result<JobTemplate, Unread> {
-        let template = read_any(cursor)?;
-        if are_others(template.others.as_slice()) {
-            Ok(template)
-        } else {
-            Err(Unread::Unspelled)
-        }
+/// Reads a job's template in braces, with no attribute under `other` that scripts and journals don't have there.
+#[tactic(auto, unfolding(crate::specs::Templates::template, text_codec::specs::Formats::checked))]
+pub fn read_template(cursor: &mut Cursor) -> Result<JobTemplate, Unread>
+    ensures { Answers templates.template.read cursor.old result cursor.new }
+{
+    let template = read_any(cursor)?;
+    if are_others(template.others.as_slice()) {
+        Ok(template)
+    } else {
+        Err(Unread::Unspelled)
     }
 }

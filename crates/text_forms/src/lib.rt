@@ -1,31 +1,23 @@
-//! The forms that scripts and journals share: words, numbers, refusals, templates, infos and filters.
+//! The forms over words and numbers that scripts and journals share: templates, filters and refusals.
 #![tactic(auto)]
 
-mod arguments;
-mod attributes;
-mod call_words;
+mod filters;
 mod frames;
-mod info_printing;
-mod infos;
 mod job_templates;
-mod numbers;
-mod printing;
-mod reading;
 mod refusals;
-mod states;
 mod template_printing;
 
-pub use arguments::{ARGUMENTS, LIMITS, limit_of, spell_limit, spell_which, which_of};
-pub use attributes::{ATTRIBUTES, attribute_of, spell_attribute};
-pub use call_words::{CALL_WORDS, CallWord, call_word_of, spell_call_word};
-pub use info_printing::push_filter;
-pub use infos::read_filter;
-pub use job_templates::{is_other, read_other};
-pub use printing::{PrintForm, push_behind, push_each, push_list, push_set};
-pub use reading::{ReadForm, push_last, read_all, read_list, read_set};
-pub use refusals::{REFUSAL_WORDS, RefusalWord, push_refusal, refusal_word_of, spell_refusal_word};
-pub use states::{
-    KINDS, NOTES, STATES, kind_of, note_of, push_note, spell_kind, spell_note, spell_state,
-    state_of,
+pub use filters::{push_filter, read_filter};
+pub use frames::read_frame;
+pub use job_templates::{is_other, read_other, read_template};
+pub use refusals::{
+    REFUSAL_WORDS, RefusalWord, push_refusal, read_refusal, refusal_word_of, spell_refusal_word,
 };
 pub use template_printing::{push_frame, push_template};
+pub use text_words::{
+    ARGUMENTS, ATTRIBUTES, CALL_WORDS, CallWord, KINDS, LIMITS, NOTES, PrintForm, ReadForm, STATES,
+    attribute_of, call_word_of, kind_of, limit_of, note_of, push_behind, push_each, push_last,
+    push_list, push_note, push_set, read_all, read_list, read_set, spell_attribute,
+    spell_call_word, spell_kind, spell_limit, spell_note, spell_state, spell_which, state_of,
+    which_of,
+};

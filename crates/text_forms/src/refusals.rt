@@ -1,15 +1,14 @@
 //! Refusals: read and printed.
-ghost use Rattle.std.specs.Prelude.{◌≡◌, ◌++◌, OnOk};
+ghost use Rattle.std.specs.Prelude.{◌≡◌, ◌++◌, true, OnOk};
 ghost use Rattle.text_codec.specs.Formats.{Answers, first_spelled};
+ghost use Rattle.text_words.specs.Words.{limit_form, is_told};
 ghost use Rattle.text_forms.specs.Refusals as refusals;
-ghost use Rattle.text_forms.specs.RefusalLaws as laws;
 ghost use Rattle.text_forms.specs.declared.refusals.RefusalWord.TheVariants as why;
 
-use crate::arguments::spell_limit;
-use crate::{PrintForm, ReadForm};
 use drmaa_types::{Attribute, JobState, Limit, Moment, Refusal, Which};
 use std::alloc::AllocError;
 use text_codec::{Cursor, Unread};
+use text_words::{PrintForm, ReadForm, spell_limit};
 
 /// The refusals that stand in journals.
 #[derive(Clone, Copy, Debug, PartialEq, Eq)]
@@ -118,24 +117,22 @@ fn carried_at(word: RefusalWord, cursor: &mut Cursor) -> Result<Refusal, Unread>
     }
 }
 
-impl ReadForm for Refusal {
-    ghost form = { refusals.refusals };
-
-    ghost laws = { laws.refusals_laws };
-
-    #[tactic(auto, unfolding(crate::specs::Refusals::refusals, crate::specs::Refusals::refusal_sum, text_codec::specs::Sums::sum_of))]
-    fn read(cursor: &mut Cursor) -> Result<Refusal, Unread> {
-        match refusal_word_of(cursor.word()) {
-            Some(word) => carried_at(word, cursor),
-            None => Err(Unread::Unspelled),
-        }
+/// Reads a refusal by its number, and what it carries.
+#[tactic(auto, unfolding(crate::specs::Refusals::refusals, crate::specs::Refusals::refusal_sum, text_codec::specs::Sums::sum_of))]
+pub fn read_refusal(cursor: &mut Cursor) -> Result<Refusal, Unread>
+    ensures { Answers refusals.refusals.read cursor.old result cursor.new }
+{
+    match refusal_word_of(cursor.word()) {
+        Some(word) => carried_at(word, cursor),
+        None => Err(Unread::Unspelled),
     }
 }
 
 /// Prints the moment that is overfull, or `-` where there is none.
 #[tactic(auto, unfolding(crate::specs::Refusals::overfull, text_codec::specs::Formats::or_else))]
 fn push_overfull(out: &mut Vec<u8>, at: Option<Moment>) -> Result<(), AllocError>
-    ensures { OnOk result (out.new.items ≡ out.old.items ++ refusals.overfull.spell at) }
+    ensures text { OnOk result (out.new.items ≡ out.old.items ++ refusals.overfull.spell at) }
+    ensures valid { OnOk result (refusals.overfull.valid at) }
 {
     match at {
         Some(at) => at.push(out),
@@ -143,10 +140,19 @@ fn push_overfull(out: &mut Vec<u8>, at: Option<Moment>) -> Result<(), AllocError
     }
 }
 
+/// Prints the name of a limit.
+#[tactic(auto, unfolding(text_words::specs::Words::limit_form), using(text_words::specs::WordLaws::limit_stands))]
+fn push_limit(out: &mut Vec<u8>, limit: Limit) -> Result<(), AllocError>
+    ensures text { OnOk result (out.new.items ≡ out.old.items ++ limit_form.spell limit) }
+    ensures valid { is_told limit ≡ true → OnOk result (limit_form.valid limit) }
+{
+    out.extend_from_slice(spell_limit(limit).as_bytes())
+}
+
 /// Prints a refusal. One that stands in no journal is printed by its number, and is read by nobody.
-#[tactic(auto, unfolding(crate::specs::Words::limit_form))]
 pub fn push_refusal(out: &mut Vec<u8>, refusal: Refusal) -> Result<(), AllocError>
-    ensures { OnOk result (out.new.items ≡ out.old.items ++ (refusals.refusal_form refusal).text) }
+    ensures text { OnOk result (out.new.items ≡ out.old.items ++ (refusals.refusal_form refusal).text) }
+    ensures valid { refusals.may_stand refusal ≡ true → OnOk result ((refusals.refusal_form refusal).valid) }
 {
     match refusal {
         Refusal::DeniedByDrms(at) => {
@@ -166,7 +172,7 @@ pub fn push_refusal(out: &mut Vec<u8>, refusal: Refusal) -> Result<(), AllocErro
         }
         Refusal::OutOfResource(limit) => {
             out.extend_from_slice(b"7 ")?;
-            out.extend_from_slice(spell_limit(limit).as_bytes())
+            push_limit(out, limit)
         }
         Refusal::OutOfMemory => out.extend_from_slice(b"8"),
         Refusal::UnsupportedAttribute(attribute) => {

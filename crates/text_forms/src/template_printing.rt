@@ -6,23 +6,13 @@ ghost use Rattle.drmaa_model.specs.KeptCalls.{kept_limit, kept_template, is_word
 ghost use Rattle.text_codec.specs.Formats.{spell_each};
 ghost use Rattle.text_codec.specs.Words.{capitals};
 ghost use Rattle.text_forms.specs.Templates as templates;
+ghost use Rattle.text_words.specs.TemplateParts.{resource_limit};
 
-use crate::{PrintForm, push_each, push_set};
 use drmaa_types::Text;
-use job_template::{JobTemplate, Pair, ReservationTemplate, ResourceLimit, Start};
+use job_template::{JobTemplate, ReservationTemplate, ResourceLimit};
 use std::alloc::AllocError;
 use text_codec::{is_capitals, push_braces, push_mark, push_number, push_word};
-
-impl PrintForm for Pair {
-    ghost form = { templates.variable };
-
-    #[tactic(auto, unfolding(crate::specs::Templates::variable, text_codec::specs::Formats::mapped, text_codec::specs::Formats::pair))]
-    fn push(&self, out: &mut Vec<u8>) -> Result<(), AllocError> {
-        self.name.push(out)?;
-        out.extend_from_slice(b" ")?;
-        self.value.push(out)
-    }
-}
+use text_words::{PrintForm, push_each, push_set};
 
 /// Prints a limit's name, or `OTHER`.
 #[tactic(auto, unfolding(text_codec::specs::Words::capitals))]
@@ -38,10 +28,10 @@ fn push_limit_name(out: &mut Vec<u8>, limit: &ResourceLimit) -> Result<(), Alloc
 }
 
 /// Prints a limit.
-#[tactic(auto, unfolding(crate::specs::Templates::resource_limit, text_codec::specs::Formats::mapped, text_codec::specs::Formats::pair, text_codec::specs::Formats::number))]
+#[tactic(auto, unfolding(text_words::specs::TemplateParts::resource_limit, text_codec::specs::Formats::mapped, text_codec::specs::Formats::pair, text_codec::specs::Formats::number))]
 fn push_limit(out: &mut Vec<u8>, limit: &ResourceLimit) -> Result<(), AllocError>
-    ensures text { OnOk result (out.new.items ≡ out.old.items ++ templates.resource_limit.spell (kept_limit limit.now)) }
-    ensures valid { OnOk result (templates.resource_limit.valid (kept_limit limit.now)) }
+    ensures text { OnOk result (out.new.items ≡ out.old.items ++ resource_limit.spell (kept_limit limit.now)) }
+    ensures valid { OnOk result (resource_limit.valid (kept_limit limit.now)) }
 {
     push_limit_name(out, limit)?;
     out.extend_from_slice(b" ")?;
@@ -50,8 +40,8 @@ fn push_limit(out: &mut Vec<u8>, limit: &ResourceLimit) -> Result<(), AllocError
 
 /// Prints limits, each behind a key.
 fn push_limits(out: &mut Vec<u8>, key: &[u8], limits: &[ResourceLimit]) -> Result<(), AllocError>
-    ensures text { OnOk result (out.new.items ≡ out.old.items ++ spell_each key.now templates.resource_limit.spell (map kept_limit limits.now)) }
-    ensures valid { OnOk result (AllByRecursion templates.resource_limit.valid (map kept_limit limits.now)) }
+    ensures text { OnOk result (out.new.items ≡ out.old.items ++ spell_each key.now resource_limit.spell (map kept_limit limits.now)) }
+    ensures valid { OnOk result (AllByRecursion resource_limit.valid (map kept_limit limits.now)) }
 {
     for limit in limits {
         out.extend_from_slice(key)?;
@@ -120,18 +110,6 @@ pub fn push_template(out: &mut Vec<u8>, template: &JobTemplate) -> Result<(), Al
     template.remote_command.push(out)?;
     push_early(out, template)?;
     out.extend_from_slice(b"}")
-}
-
-impl PrintForm for Start {
-    ghost form = { templates.start };
-
-    #[tactic(auto, unfolding(crate::specs::Templates::start, text_codec::specs::Formats::mapped, text_codec::specs::Formats::or_else))]
-    fn push(&self, out: &mut Vec<u8>) -> Result<(), AllocError> {
-        match *self {
-            Start::At(moment) => moment.push(out),
-            Start::Now => out.extend_from_slice(b"now"),
-        }
-    }
 }
 
 #[tactic(auto, unfolding(crate::specs::Templates::count_fields, text_codec::specs::Fields::repeated, text_codec::specs::Fields::field, text_codec::specs::Fields::no_more))]

@@ -1,0 +1,10 @@
+pub mod Words
+pub mod WordLaws
+pub mod CallWords
+pub mod CallWordLaws
+pub mod Numbers
+pub mod NumberLaws
+pub mod TemplateParts
+pub mod TemplatePartLaws
+pub mod Infos
+pub mod InfoLaws

@@ -1,0 +1,99 @@
+//! The words of the attributes that this profile does not support.
+ghost use Rattle.std.specs.Prelude.{◌≡◌, ◌++◌, IfErr, OnOk};
+ghost use Rattle.text_codec.specs.declared.unread.Unread.{Unread};
+ghost use Rattle.text_codec.specs.Formats.{Answers, first_spelled};
+ghost use Rattle.text_words.specs.Words as words;
+ghost use Rattle.text_words.specs.WordLaws as laws;
+
+use crate::{PrintForm, ReadForm};
+use drmaa_types::Attribute;
+use std::alloc::AllocError;
+use text_codec::{Cursor, Unread};
+
+/// The attributes of the standard that this profile reads and does not support.
+pub const ATTRIBUTES: [Attribute; 20] = [
+    Attribute::QueueName,
+    Attribute::JobCategory,
+    Attribute::Email,
+    Attribute::EmailOnStarted,
+    Attribute::EmailOnTerminated,
+    Attribute::CandidateMachines,
+    Attribute::MinPhysMemory,
+    Attribute::MachineOs,
+    Attribute::MachineArch,
+    Attribute::StageInFiles,
+    Attribute::StageOutFiles,
+    Attribute::AccountingId,
+    Attribute::UsersAcl,
+    Attribute::CoreFileSize,
+    Attribute::CpuTime,
+    Attribute::DataSize,
+    Attribute::FileSize,
+    Attribute::OpenFiles,
+    Attribute::StackSize,
+    Attribute::VirtualMemory,
+];
+
+/// How an attribute is spelled.
+pub fn spell_attribute(attribute: Attribute) -> &'static str
+    ensures { result.now ≡ words.attribute_text attribute }
+{
+    match attribute {
+        Attribute::QueueName => "queueName",
+        Attribute::JobCategory => "jobCategory",
+        Attribute::Email => "email",
+        Attribute::EmailOnStarted => "emailOnStarted",
+        Attribute::EmailOnTerminated => "emailOnTerminated",
+        Attribute::CandidateMachines => "candidateMachines",
+        Attribute::MinPhysMemory => "minPhysMemory",
+        Attribute::MachineOs => "machineOS",
+        Attribute::MachineArch => "machineArch",
+        Attribute::StageInFiles => "stageInFiles",
+        Attribute::StageOutFiles => "stageOutFiles",
+        Attribute::AccountingId => "accountingId",
+        Attribute::UsersAcl => "usersACL",
+        Attribute::CoreFileSize => "CORE_FILE_SIZE",
+        Attribute::CpuTime => "CPU_TIME",
+        Attribute::DataSize => "DATA_SIZE",
+        Attribute::FileSize => "FILE_SIZE",
+        Attribute::OpenFiles => "OPEN_FILES",
+        Attribute::StackSize => "STACK_SIZE",
+        Attribute::VirtualMemory => "VIRTUAL_MEMORY",
+    }
+}
+
+/// The attribute that is spelled so.
+pub fn attribute_of(word: &[u8]) -> Option<Attribute>
+    ensures { result ≡ first_spelled words.attribute_text ATTRIBUTES word.now }
+{
+    ATTRIBUTES
+        .iter()
+        .copied()
+        .find(|attribute| spell_attribute(*attribute).as_bytes() == word)
+}
+
+impl ReadForm for Attribute {
+    ghost form = { words.attribute_form };
+
+    ghost laws = { laws.attribute_laws };
+
+    #[tactic(auto, unfolding(crate::specs::Words::attribute_form))]
+    fn read(cursor: &mut Cursor) -> Result<Attribute, Unread>
+        ensures reads { Answers words.attribute_form.read cursor.old result cursor.new }
+        ensures memory { IfErr result (λ e. e ≡ Unread.Unspelled) }
+    {
+        match attribute_of(cursor.word()) {
+            Some(attribute) => Ok(attribute),
+            None => Err(Unread::Unspelled),
+        }
+    }
+}
+
+impl PrintForm for Attribute {
+    ghost form = { words.attribute_form };
+
+    #[tactic(auto, unfolding(crate::specs::Words::attribute_form), using(crate::specs::WordLaws::attribute_stands))]
+    fn push(&self, out: &mut Vec<u8>) -> Result<(), AllocError> {
+        out.extend_from_slice(spell_attribute(*self).as_bytes())
+    }
+}

@@ -1,0 +1,195 @@
+//! The words of states, of kinds of signal and of notes.
+ghost use Rattle.std.specs.Prelude.{◌≡◌, ◌++◌, IfErr, OnOk};
+ghost use Rattle.text_codec.specs.declared.unread.Unread.{Unread};
+ghost use Rattle.text_codec.specs.Formats.{Answers, first_spelled, valid_or};
+ghost use Rattle.text_codec.specs.Fields.{spell_set};
+ghost use Rattle.text_words.specs.Words as words;
+ghost use Rattle.text_words.specs.WordLaws as laws;
+
+use crate::{PrintForm, ReadForm};
+use drmaa_types::{JobState, Note, SignalKind};
+use std::alloc::AllocError;
+use text_codec::{Cursor, Unread};
+
+/// The states of jobs.
+pub const STATES: [JobState; 9] = [
+    JobState::Undetermined,
+    JobState::Queued,
+    JobState::QueuedHeld,
+    JobState::Running,
+    JobState::Suspended,
+    JobState::Requeued,
+    JobState::RequeuedHeld,
+    JobState::Done,
+    JobState::Failed,
+];
+
+/// How a state is spelled.
+pub fn spell_state(state: JobState) -> &'static str
+    ensures { result.now ≡ words.state_text state }
+{
+    match state {
+        JobState::Undetermined => "UNDETERMINED",
+        JobState::Queued => "QUEUED",
+        JobState::QueuedHeld => "QUEUED_HELD",
+        JobState::Running => "RUNNING",
+        JobState::Suspended => "SUSPENDED",
+        JobState::Requeued => "REQUEUED",
+        JobState::RequeuedHeld => "REQUEUED_HELD",
+        JobState::Done => "DONE",
+        JobState::Failed => "FAILED",
+    }
+}
+
+/// The state that is spelled so.
+pub fn state_of(word: &[u8]) -> Option<JobState>
+    ensures { result ≡ first_spelled words.state_text STATES word.now }
+{
+    STATES
+        .iter()
+        .copied()
+        .find(|state| spell_state(*state).as_bytes() == word)
+}
+
+impl ReadForm for JobState {
+    ghost form = { words.state_form };
+
+    ghost laws = { laws.state_laws };
+
+    #[tactic(auto, unfolding(crate::specs::Words::state_form))]
+    fn read(cursor: &mut Cursor) -> Result<JobState, Unread>
+        ensures reads { Answers words.state_form.read cursor.old result cursor.new }
+        ensures memory { IfErr result (λ e. e ≡ Unread.Unspelled) }
+    {
+        match state_of(cursor.word()) {
+            Some(state) => Ok(state),
+            None => Err(Unread::Unspelled),
+        }
+    }
+}
+
+impl PrintForm for JobState {
+    ghost form = { words.state_form };
+
+    #[tactic(auto, unfolding(crate::specs::Words::state_form), using(crate::specs::WordLaws::state_stands))]
+    fn push(&self, out: &mut Vec<u8>) -> Result<(), AllocError> {
+        out.extend_from_slice(spell_state(*self).as_bytes())
+    }
+}
+
+/// The kinds of signal.
+pub const KINDS: [SignalKind; 3] = [SignalKind::Stop, SignalKind::Cont, SignalKind::Kill];
+
+/// How a kind of signal is spelled.
+pub fn spell_kind(kind: SignalKind) -> &'static str
+    ensures { result.now ≡ words.kind_text kind }
+{
+    match kind {
+        SignalKind::Stop => "stop",
+        SignalKind::Cont => "cont",
+        SignalKind::Kill => "kill",
+    }
+}
+
+/// The kind of signal that is spelled so.
+pub fn kind_of(word: &[u8]) -> Option<SignalKind>
+    ensures { result ≡ first_spelled words.kind_text KINDS word.now }
+{
+    KINDS
+        .iter()
+        .copied()
+        .find(|kind| spell_kind(*kind).as_bytes() == word)
+}
+
+impl ReadForm for SignalKind {
+    ghost form = { words.kind_form };
+
+    ghost laws = { laws.kind_laws };
+
+    #[tactic(auto, unfolding(crate::specs::Words::kind_form))]
+    fn read(cursor: &mut Cursor) -> Result<SignalKind, Unread>
+        ensures reads { Answers words.kind_form.read cursor.old result cursor.new }
+        ensures memory { IfErr result (λ e. e ≡ Unread.Unspelled) }
+    {
+        match kind_of(cursor.word()) {
+            Some(kind) => Ok(kind),
+            None => Err(Unread::Unspelled),
+        }
+    }
+}
+
+impl PrintForm for SignalKind {
+    ghost form = { words.kind_form };
+
+    #[tactic(auto, unfolding(crate::specs::Words::kind_form), using(crate::specs::WordLaws::kind_stands))]
+    fn push(&self, out: &mut Vec<u8>) -> Result<(), AllocError> {
+        out.extend_from_slice(spell_kind(*self).as_bytes())
+    }
+}
+
+/// The notes that are spelled.
+pub const NOTES: [Note; 7] = [
+    Note::Terminated,
+    Note::PastDeadline,
+    Note::PastLimit,
+    Note::ReservationGone,
+    Note::StartFailed,
+    Note::ExitUnknown,
+    Note::SignalFailed,
+];
+
+/// How a note is spelled.
+pub fn spell_note(note: Note) -> &'static str
+    ensures { result.now ≡ words.note_text note }
+{
+    match note {
+        Note::None => "",
+        Note::Terminated => "terminated",
+        Note::PastDeadline => "pastDeadline",
+        Note::PastLimit => "pastLimit",
+        Note::ReservationGone => "reservationGone",
+        Note::StartFailed => "startFailed",
+        Note::ExitUnknown => "exitUnknown",
+        Note::SignalFailed => "signalFailed",
+    }
+}
+
+/// The note that is spelled so.
+pub fn note_of(word: &[u8]) -> Option<Note>
+    ensures { result ≡ first_spelled words.note_text NOTES word.now }
+{
+    NOTES
+        .iter()
+        .copied()
+        .find(|note| spell_note(*note).as_bytes() == word)
+}
+
+impl ReadForm for Note {
+    ghost form = { words.note_form };
+
+    ghost laws = { laws.note_laws };
+
+    #[tactic(auto, unfolding(crate::specs::Words::note_form))]
+    fn read(cursor: &mut Cursor) -> Result<Note, Unread>
+        ensures reads { Answers words.note_form.read cursor.old result cursor.new }
+        ensures memory { IfErr result (λ e. e ≡ Unread.Unspelled) }
+    {
+        match note_of(cursor.word()) {
+            Some(note) => Ok(note),
+            None => Err(Unread::Unspelled),
+        }
+    }
+}
+
+/// Prints a note behind a key, where there is one.
+#[tactic(auto, unfolding(crate::specs::Words::note_form))]
+pub fn push_note(out: &mut Vec<u8>, key: &[u8], note: Note) -> Result<(), AllocError>
+    ensures text { OnOk result (out.new.items ≡ out.old.items ++ spell_set key.now words.note_form.spell (words.note_part note)) }
+    ensures valid { OnOk result (valid_or words.note_form.valid (words.note_part note)) }
+{
+    if let Note::None = note {
+        return Ok(());
+    }
+    out.extend_from_slice(key)?;
+    out.extend_from_slice(spell_note(note).as_bytes())
+}
