@@ -1,0 +1,5 @@
+pub mod ControlLaws
+pub mod Searches
+pub mod SignalLaws
+pub mod Steps
+pub mod TargetLaws
