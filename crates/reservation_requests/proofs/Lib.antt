@@ -1,0 +1,5 @@
+pub mod CalendarLaws
+pub mod FrameLaws
+pub mod OfferLaws
+pub mod RefusalSteps
+pub mod TableLaws
