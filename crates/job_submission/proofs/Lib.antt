@@ -1,0 +1,5 @@
+pub mod BatchLaws
+pub mod LastingLaws
+pub mod Meetings
+pub mod SubmitSteps
+pub mod Tables

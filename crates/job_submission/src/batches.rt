@@ -1,0 +1,200 @@
+//! The rows of the jobs of one submission. They are made whole, with the memory that they want, before anything changes.
+ghost use Rattle.std.specs.Prelude.{◌≡◌, ◌≤◌, ◌<◌, ◌+◌, ◌*◌, ◌^◌, None, Some, IfOk, IfErr};
+ghost use Rattle.drmaa_types.specs.Refusals.{first_refusal};
+ghost use Rattle.drmaa_model.specs.Courses.{wants_of};
+ghost use Rattle.drmaa_model.specs.Submitting.{bulk_tests, index_count, kept_text, new_text, most_kept_text};
+ghost use Rattle.drmaa_model.specs.Time.{advance_plan};
+ghost use Rattle.plan_book.specs.Book.{plan_of};
+ghost use Rattle.job_submission.specs.Early.{AreSteps, asked};
+ghost use Rattle.job_submission.specs.Batches.{place, placed, batch_of, batch_row, batch_rows, batch_member, batch_members};
+
+use crate::bulks::{index_at, index_count};
+use crate::texts::{without_rows, without_template};
+use drmaa_model::{Indices, Row, Wants};
+use drmaa_types::{ArrayId, JobId, Moment};
+use job_template::{JobTemplate, expand};
+use plan_book::Book;
+use plan_book::courses::submitted;
+use std::alloc::Global;
+
+/// The most text of the templates of all kept jobs, in bytes.
+const MOST_KEPT_TEXT: usize = 67_108_864;
+
+/// What the jobs of one submission share.
+#[derive(Drop)]
+pub struct Batch {
+    pub home: u64,
+    pub moment: Moment,
+    /// The number of the first job.
+    pub first: u64,
+    /// The number that an array has.
+    pub array: u64,
+}
+
+/// Why rows are not made.
+#[derive(Clone, Copy)]
+pub enum Unmade {
+    OutOfMemory,
+    /// With them the text of all kept templates would be too long.
+    TooMuchText,
+}
+
+/// What the jobs share that are submitted once time has come to this moment.
+pub fn batch_of(book: &Book, at: Moment, home: u64) -> Batch
+    ensures { result ≡ batch_of home (advance_plan 0 at (plan_of book.now)) }
+{
+    Batch {
+        home,
+        moment: book.moment_at(at),
+        first: book.next_job(),
+        array: book.next_array(),
+    }
+}
+
+/// The row of a job, with its place in an array where it is a member of one.
+fn row_of(
+    b: &Batch,
+    number: u64,
+    template: JobTemplate,
+    array: Option<ArrayId>,
+    index: Option<u32>,
+    bound: Option<u32>,
+) -> Row
+    ensures { result ≡ batch_row b.now number (placed template array index bound) }
+{
+    Row {
+        job: JobId(number),
+        home: Some(b.home),
+        wants: wants_of(&template, array, index, bound),
+        submitted: b.moment,
+        course: submitted(template.submit_as_hold),
+        template,
+    }
+}
+
+/// What a job asks for: what its template says, and its place in an array.
+fn wants_of(
+    t: &JobTemplate,
+    array: Option<ArrayId>,
+    index: Option<u32>,
+    bound: Option<u32>,
+) -> Wants
+    ensures { result ≡ wants_of t.now (place array index bound) }
+{
+    Wants {
+        min: t.min_slots(),
+        max: t.max_slots(),
+        priority: t.priority(),
+        start: t.start_time,
+        deadline: t.deadline_time,
+        limit: t.wallclock_limit(),
+        reservation: t.reservation_id,
+        array,
+        index,
+        bound,
+        rerunnable: t.rerunnable,
+    }
+}
+
+/// The row of the member in this place of an array, from 0.
+fn member_row(
+    alloc: Global,
+    b: &Batch,
+    t: &JobTemplate,
+    i: &Indices,
+    place: u32,
+) -> Result<Row, Unmade>
+    requires steps { AreSteps i.now }
+    requires place { place < index_count i.now }
+    requires number { b.now.first + place < 2 ^ 64 }
+    ensures row { IfOk result (λ row. row ≡ batch_row b.now (b.now.first + place) (batch_member b.now t.now i.now (i.now.begin + place * i.now.step))) }
+    ensures err { IfErr result (λ why. why ≡ Unmade.OutOfMemory) }
+{
+    let number = b.first + u64::from(place);
+    let array = ArrayId(b.array);
+    let index = index_at(i, place);
+    match expand(alloc, t, index) {
+        Ok(template) => Ok(row_of(b, number, template, Some(array), Some(index), i.bound)),
+        Err(_) => Err(Unmade::OutOfMemory),
+    }
+}
+
+/// The rows of all members of an array, whose templates have this room.
+fn array_rows(
+    alloc: Global,
+    b: &Batch,
+    t: &JobTemplate,
+    i: &Indices,
+    room: usize,
+) -> Result<Vec<Row>, Unmade>
+    requires steps { AreSteps i.now }
+    requires numbers { b.now.first + index_count i.now < 2 ^ 64 }
+    ensures rows { IfOk result (λ rows. rows.items ≡ batch_rows b.now b.now.first (batch_members b.now t.now (Some i.now))) }
+    ensures fits { IfOk result (λ rows. new_text (batch_members b.now t.now (Some i.now)) ≤ room) }
+    ensures err { IfErr result (λ why. why ≡ Unmade.TooMuchText → room < new_text (batch_members b.now t.now (Some i.now))) }
+{
+    let count = index_count(i);
+    let Ok(mut rows) = Vec::with_capacity(alloc, count as usize) else {
+        return Err(Unmade::OutOfMemory);
+    };
+    let mut room = room;
+    for place in 0..count {
+        let row = member_row(alloc, b, t, i, place)?;
+        let Some(left) = without_template(room, &row.template) else {
+            return Err(Unmade::TooMuchText);
+        };
+        if rows.push(row).is_err() {
+            return Err(Unmade::OutOfMemory);
+        }
+        room = left;
+    }
+    Ok(rows)
+}
+
+/// The row of the one job, whose template has this room.
+fn single_rows(
+    alloc: Global,
+    b: &Batch,
+    template: JobTemplate,
+    room: usize,
+) -> Result<Vec<Row>, Unmade>
+    ensures rows { IfOk result (λ rows. rows.items ≡ batch_rows b.now b.now.first (batch_members b.now template None)) }
+    ensures fits { IfOk result (λ rows. new_text (batch_members b.now template None) ≤ room) }
+    ensures err { IfErr result (λ why. why ≡ Unmade.TooMuchText → room < new_text (batch_members b.now template None)) }
+{
+    if without_template(room, &template).is_none() {
+        return Err(Unmade::TooMuchText);
+    }
+    let Ok(mut rows) = Vec::with_capacity(alloc, 1) else {
+        return Err(Unmade::OutOfMemory);
+    };
+    let row = row_of(b, b.first, template, None, None, None);
+    if rows.push(row).is_err() {
+        return Err(Unmade::OutOfMemory);
+    }
+    Ok(rows)
+}
+
+/// The rows of the jobs that are asked for. It is told where the text of all kept templates would be too long with theirs; the
+/// members up to there are made before that is known.
+pub fn rows_of(
+    book: &Book,
+    alloc: Global,
+    b: &Batch,
+    template: JobTemplate,
+    indices: Option<Indices>,
+) -> Result<Vec<Row>, Unmade>
+    requires bulk { first_refusal (bulk_tests indices) ≡ None }
+    requires numbers { b.now.first + asked indices < 2 ^ 64 }
+    ensures rows { IfOk result (λ rows. rows.items ≡ batch_rows b.now b.now.first (batch_members b.now template indices)) }
+    ensures fits { IfOk result (λ rows. kept_text (plan_of book.now).rows + new_text (batch_members b.now template indices) ≤ most_kept_text) }
+    ensures err { IfErr result (λ why. why ≡ Unmade.TooMuchText → most_kept_text < kept_text (plan_of book.now).rows + new_text (batch_members b.now template indices)) }
+{
+    let Some(room) = without_rows(MOST_KEPT_TEXT, &book.rows) else {
+        return Err(Unmade::TooMuchText);
+    };
+    match indices {
+        None => single_rows(alloc, b, template, room),
+        Some(i) => array_rows(alloc, b, &template, &i, room),
+    }
+}

@@ -1,0 +1,11 @@
+//! Jobs and arrays of jobs that are submitted.
+#![tactic(auto)]
+
+mod batches;
+mod bulks;
+mod named;
+mod refusals;
+mod submits;
+mod texts;
+
+pub use submits::submit;
