@@ -11,8 +11,9 @@ use Rattle.drmaa_model.specs.Courses.{planned_end, launched}
 use Rattle.drmaa_model.specs.ReadyLaws.{ready-same, seen-advance, slots_for-same, not-late, planned-ahead}
 use Rattle.drmaa_model.specs.MomentLaws.{greatest-is}
 use Rattle.drmaa_model.specs.Load.{ends_after, fits, covers, in_reservation, reservation_of, load}
-use Rattle.drmaa_types.specs.States.{is_waiting, is_started}
+use Rattle.drmaa_types.specs.States.{is_waiting, is_started, is_state}
 use Rattle.drmaa_types.specs.declared.states.JobState.{JobState}
+use Rattle.drmaa_types.specs.declared.states.JobState.TheVariants.{Running}
 use Rattle.drmaa_types.specs.declared.identifiers.ReservationId.{ReservationId}
 use Rattle.reservation_calendar.specs.declared.bookings.Key.TheVariants.{Job}
 use Rattle.reservation_calendar.specs.Schedules.{Schedule, is_booked}
@@ -38,7 +39,7 @@ use Rattle.drmaa_model.specs.Time.{come_to, let_go, lasts, called_in, lapsed, ad
 use Rattle.drmaa_model.specs.TimeLaws.{timed, map-twice, lapsed-cases, called-cases, waits-not_started, row_of-advance, lapsed-job, called-job, timed-wants}
 use Rattle.scheduler_core.specs.declared.launches.Next.{Next}
 use Rattle.plan_book.specs.declared.moves.Move.{Move}
-use Rattle.plan_book.specs.Book.{IsMove, moved}
+use Rattle.plan_book.specs.Book.{IsMove, moved, grows, owes}
 use Rattle.scheduler_core.specs.Launches.{may_launch, launch-move, IsLaunchOf, IsNext, IsNextIn, MayMakeNext, seen, seen_row, turn_of, slots_of, IsMost, launch_booking}
 use Rattle.scheduler_core.proofs.Priorities.{first_of}
 use Rattle.scheduler_core.proofs.SeenLaws.{tied-seen}
@@ -352,3 +353,16 @@ looked-beside rs p o next is said =
 
 pub looked-may : (s : Schedule) (o : Option Next) (next : Next) → o ≡ Some next → MayMakeNext s o → MayMake s next.m.booked
 looked-may s o next is said = subst (MayMakeNext s) is said
+
+-- a launch wants no more room than one change and what a started job may still make
+launch-grows : (m : ℕ) (row : Row) (slots : ℕ) → is_waiting row.course.state ≡ true → grows (launch-move m row slots) ≤ 2
+launch-grows m row slots waits =
+    let one : owes row.course ≡ 1 = ap (λ b. cond {A = ℕ} b 1 (cond {A = ℕ} (is_started row.course.state) 2 0)) waits in
+    let change : cond {A = ℕ} (is_state row.course.state Running) 0 1 ≤ 1 = elim (is_state row.course.state Running) as (λ b. cond {A = ℕ} b 0 1 ≤ 1) [ true ↦ omega arith | false ↦ omega arith ] in
+    omega (arith, one, change)
+
+pub looked-grows : (p : Plan) (o : Option Next) (next : Next) → IsFit p → o ≡ Some next → IsNextIn p o → grows next.m ≤ 2
+looked-grows p o next fit is said =
+    let named : IsNext p next = subst (IsNextIn p) is said in
+    let fact = next_launch-is p (named.row, named.slots) fit.jobs.rising named.first in
+    subst (λ (m : Move). grows m ≤ 2) (sym named.is.move_is) (launch-grows p.moment named.row named.slots fact.state.waits)

@@ -1,6 +1,6 @@
 -- What a move that is an operation's comes to, and how a refusal is met.
-use Rattle.std.proofs.Common.{◌≡◌, ℕ, true, false, List, Some, None, refl, sym, ◌∙◌, ap, subst}
-use Rattle.std.specs.Prelude.{Result, Ok, Err}
+use Rattle.std.proofs.Common.{◌≡◌, ℕ, ◌≤◌, true, false, List, Some, None, refl, sym, ◌∙◌, ap, subst, arith}
+use Rattle.std.specs.Prelude.{◌≢◌, Result, Ok, Err}
 use Rattle.std.specs.Option.{option_map}
 use Rattle.drmaa_types.specs.declared.identifiers.JobId.{JobId}
 use Rattle.drmaa_types.specs.declared.refusals.Refusal.{Refusal}
@@ -94,4 +94,14 @@ err-meets {A} {B} a b why entry limit p n new result is met =
       | served s ↦ (let e = s.answered in absurd (cc))
       | full f ↦ (let e = f.answered in full (record { answered = (let same : why ≡ OutOfResource (Journal (size_at entry n)) = cc in ap (λ (r : Refusal). let y : Result B Refusal = Err r in y) same); above = f.above; plan = f.plan }))
       | short s ↦ (let e = s.answered in short (record { answered = (let same : why ≡ OutOfMemory = cc in ap (λ (r : Refusal). let y : Result B Refusal = Err r in y) same); plan = s.plan }))
+    ]
+
+-- time passes, where the journal has room for it and no memory is wanted
+pub passes : (entry limit : ℕ) (p q new : Plan) (result : Result (Unit {0}) Refusal) → size_at entry q ≤ limit → result ≢ Err OutOfMemory
+    → Meets (record { answer = Ok tt; plan = q }) p entry limit result new → new ≡ q
+passes entry limit p q new result within ample met =
+    elim met [
+      | served s ↦ s.plan
+      | full f ↦ (let above = f.above in absurd (omega arith))
+      | short s ↦ absurd (ample s.answered)
     ]

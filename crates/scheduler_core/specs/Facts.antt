@@ -1,9 +1,9 @@
 -- What is told of a kept job, and which job comes next: our profile.
-use Rattle.std.specs.Prelude.{ℕ, Bool, false, max, nat_le, List, filter, find, Option}
+use Rattle.std.specs.Prelude.{ℕ, Bool, false, max, nat_le, List, filter, find, sum_by, Option}
 use Rattle.std.specs.Option.{option_map, option_map_or}
 use Rattle.drmaa_types.specs.declared.identifiers.JobId.{JobId}
-use Rattle.drmaa_types.specs.declared.identifiers.ReservationId.{ReservationId}
-use Rattle.drmaa_model.specs.declared.reservations.Accepted.{Accepted}
+use Rattle.drmaa_model.specs.declared.courses.Phase.{Phase}
+use Rattle.drmaa_model.specs.declared.courses.Phase.TheVariants.{Idle, Launching, Alive}
 use Rattle.drmaa_model.specs.declared.rows.Row.{Row}
 use Rattle.drmaa_model.specs.Plan.{Plan}
 use Rattle.drmaa_model.specs.Rows.{row_of}
@@ -43,6 +43,12 @@ job_from number p = option_map (λ (row : Row). row.job) (find (λ (row : Row). 
 abbrev pub lapses_at : ℕ → JobId → Plan → Bool
 lapses_at at job p = option_map_or (lapses (max p.moment at) (filter (lasts (max p.moment at)) p.reservations)) (row_of job p.rows) false
 
--- the first accepted reservation whose number is at this one or above it; they stand in order of number
-abbrev pub reservation_from : ℕ → List Accepted → Option ReservationId
-reservation_from number rs = option_map (λ (a : Accepted). a.reservation) (find (λ (a : Accepted). nat_le number a.reservation.0) rs)
+-- the reports that a job's process may still bring of its start and its end
+abbrev pub reports_due : Phase → ℕ
+reports_due Idle = 0
+reports_due Launching = 2
+reports_due Alive = 1
+
+-- those that the processes of all jobs may still bring
+abbrev pub reports_to_come : List Row → ℕ
+reports_to_come rows = sum_by (λ (row : Row). reports_due row.course.phase) rows

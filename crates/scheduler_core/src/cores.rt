@@ -1,26 +1,37 @@
 //! The core of the scheduler, as the machine sees it.
-ghost use Rattle.std.specs.Prelude.{◌≡◌, ◌≢◌, ◌+◌, ◌≤◌, IfOk, IfErr, OnOk, Ok, Err, IsSome, None, Some, true};
+ghost use Rattle.std.specs.Prelude.{◌≡◌, ◌≢◌, ◌+◌, ◌*◌, ◌≤◌, IfOk, IfErr, OnOk, OnErr, Ok, Err, IsSome, None, Some, true, false};
 ghost use Rattle.std.specs.Option.{option_map, option_and_then, option_copied};
+ghost use Rattle.drmaa_types.specs.Refusals.{first_refusal};
 ghost use Rattle.drmaa_model.specs.declared.rows.Row.{Row};
 ghost use Rattle.drmaa_model.specs.Operation.{Meets, outcome};
-ghost use Rattle.drmaa_model.specs.Order.{held, next_launch};
+ghost use Rattle.drmaa_model.specs.Order.{held, next_launch, settled};
+ghost use Rattle.drmaa_model.specs.Fit.{IsFit};
 ghost use Rattle.drmaa_model.specs.Plan.{opening_plan};
 ghost use Rattle.drmaa_model.specs.Reporting.{report_of};
-ghost use Rattle.drmaa_model.specs.Controlling.{reap};
-ghost use Rattle.drmaa_model.specs.Launching.{launch};
+ghost use Rattle.drmaa_model.specs.Controlling.{control, reap};
+ghost use Rattle.drmaa_model.specs.Effects.{forget_home};
+ghost use Rattle.drmaa_model.specs.Launching.{launch, next_signal, signal};
 ghost use Rattle.drmaa_model.specs.Load.{reservation_of};
-ghost use Rattle.drmaa_model.specs.Requests.{end_reservation};
+ghost use Rattle.drmaa_model.specs.Requests.{end_reservation, request};
 ghost use Rattle.drmaa_model.specs.Rows.{row_of};
 ghost use Rattle.drmaa_model.specs.Size.{weight};
+ghost use Rattle.drmaa_model.specs.Submitting.{submit};
 ghost use Rattle.drmaa_model.specs.Time.{advance_plan, rows_at};
-ghost use Rattle.scheduler_core.specs.Facts.{row_facts, job_from, lapses_at, reservation_from};
+ghost use Rattle.plan_book.specs.Sweeps.{acted, growth, is_asking};
+ghost use Rattle.job_control.specs.Targets.{is_one_quiet};
+ghost use Rattle.job_submission.specs.Early.{asked, early_tests};
+ghost use Rattle.reservation_requests.specs.Reservations.{reservation_from};
+ghost use Rattle.scheduler_core.specs.Facts.{row_facts, job_from, lapses_at, reports_to_come};
 
 use crate::facts::{self, RowFacts};
-use crate::rows::held;
-use crate::{launches, reaps, reports, reservations};
-use drmaa_model::{Accepted, Launch, Report, Target};
-use drmaa_types::{Change, JobId, Moment, Refusal, ReservationId, Text};
+use crate::ready::is_settled;
+use crate::rows::{held, reports_to_come};
+use crate::{launches, reports};
+use drmaa_model::{Accepted, Indices, Launch, Report, Signal, Submitted, Target};
+use drmaa_types::{Change, Control, JobId, Moment, Refusal, ReservationId, Reserved, Text};
+use job_template::{JobTemplate, ReservationTemplate};
 use plan_book::Book;
+use reservation_requests::{lasting_from, lasting_of};
 use std::alloc::Global;
 use std::marker::Model;
 
@@ -62,7 +73,17 @@ impl Core {
         ensures spare { self.new.spare ≡ self.old.spare }
         ensures size { weight self.new.plan ≡ weight self.old.plan }
     {
-        self.book.advance(at, entry);
+        let _passed = self.book.pass(at, entry, 9_000_000);
+    }
+
+    /// A named session is destroyed: its ended jobs are forgotten, and its other jobs and its reservations are left without
+    /// one. It takes no memory, and leaves the size.
+    pub fn forget_home(&mut self, at: Moment, entry: u64, home: u64)
+        ensures plan { self.new.plan ≡ forget_home home (advance_plan entry at self.old.plan) }
+        ensures spare { self.new.spare ≡ self.old.spare }
+        ensures size { weight self.new.plan ≡ weight self.old.plan }
+    {
+        self.book.forget_home(at, entry, home);
     }
 
     /// What would be launched at this moment. Where that is nothing it takes no memory.
@@ -96,8 +117,11 @@ impl Core {
         requires entry { entry ≤ 4_000_001 }
         requires limit { limit ≤ 4_000_000 }
         ensures nothing { next_launch (advance_plan entry at self.old.plan) ≡ None → (result ≡ Ok None) × (self.new.plan ≡ self.old.plan) }
+        ensures left { next_launch (advance_plan entry at self.old.plan) ≡ None → self.new.spare ≡ self.old.spare }
         ensures meets { IsSome (next_launch (advance_plan entry at self.old.plan)) →
             Meets (outcome launch entry (advance_plan entry at self.old.plan)) self.old.plan entry limit result self.new.plan }
+        ensures spare { self.old.spare ≤ self.new.spare + 2 }
+        ensures err { OnErr result (self.old.spare ≤ self.new.spare) }
     {
         launches::take_launch(&mut self.book, self.alloc, at, entry, limit)
     }
@@ -124,12 +148,79 @@ impl Core {
         reports::report(&mut self.book, at, entry, limit, report)
     }
 
+    /// Submits a job, or with `indices` an array of jobs, for the named session of the number `home`. The jobs have consecutive
+    /// numbers, the next ones.
+    ///
+    /// # Errors
+    ///
+    /// The first of these that holds: what is wrong with the indices, then with the template, then with the reservation that it
+    /// names; `OutOfResource(Jobs)` where more than 100,000 jobs would be kept; `OutOfResource(KeptText)` where their templates
+    /// would have more than 67,108,864 bytes. Want of memory is told only where none of these but the last holds. A journal that
+    /// would be too large comes before all of them.
+    pub fn submit(
+        &mut self,
+        at: Moment,
+        entry: u64,
+        limit: u64,
+        home: u64,
+        template: JobTemplate,
+        indices: Option<Indices>,
+    ) -> Result<Submitted, Refusal>
+        requires entry { entry ≤ 4_000_001 }
+        requires limit { limit ≤ 4_000_000 }
+        requires jobs { self.old.plan.next_job ≤ 10_000 * entry }
+        requires arrays { self.old.plan.next_array ≤ entry }
+        ensures meets { Meets (outcome (submit home template indices) entry (advance_plan entry at self.old.plan)) self.old.plan entry limit result self.new.plan }
+        ensures spare { self.old.spare ≤ self.new.spare + asked indices }
+        ensures err { OnErr result (self.old.spare ≤ self.new.spare) }
+        ensures memory { IsSome (first_refusal (early_tests template indices (advance_plan entry at self.old.plan))) → result ≢ Err Refusal.OutOfMemory }
+    {
+        job_submission::submit(
+            &mut self.book,
+            self.alloc,
+            at,
+            entry,
+            limit,
+            home,
+            template,
+            indices,
+        )
+    }
+
+    /// Holds, releases, suspends, resumes or terminates each job that is meant and whose state permits it, in one step. A hold
+    /// or a release of one job uses one change of what is reserved, and takes no memory where that is there.
+    ///
+    /// # Errors
+    ///
+    /// `InvalidArgument` where no kept job is meant; `InvalidState` with the state of the job, or of the array's kept member of
+    /// least number, where the state of none permits it; a journal that would be too large, and want of memory.
+    pub fn control(
+        &mut self,
+        at: Moment,
+        entry: u64,
+        limit: u64,
+        target: Target,
+        what: Control,
+    ) -> Result<(), Refusal>
+        requires entry { entry ≤ 4_000_001 }
+        requires limit { limit ≤ 4_000_000 }
+        ensures meets { Meets (outcome (control target what) entry (advance_plan entry at self.old.plan)) self.old.plan entry limit result self.new.plan }
+        ensures spare { self.old.spare ≤ self.new.spare + growth what (acted target what (rows_at at self.old.plan)) }
+        ensures err { OnErr result (self.old.spare ≤ self.new.spare) }
+        ensures enough { growth what (acted target what (rows_at at self.old.plan)) ≤ self.old.spare → is_asking what ≡ false
+            → result ≢ Err Refusal.OutOfMemory }
+        ensures one { is_one_quiet target what ≡ true → self.old.spare ≤ self.new.spare + 1 }
+        ensures memory { is_one_quiet target what ≡ true → 1 ≤ self.old.spare → result ≢ Err Refusal.OutOfMemory }
+    {
+        job_control::control(&mut self.book, at, entry, limit, &target, what)
+    }
+
     /// Forgets the ended ones of the jobs that are meant. It takes no memory.
     ///
     /// # Errors
     ///
-    /// `InvalidArgument` where no kept job is meant, `InvalidState` where none of them has ended, and a journal that would be
-    /// too large.
+    /// `InvalidArgument` where no kept job is meant; `InvalidState` with the state of the job, or of the array's kept member of
+    /// least number, where none of them has ended; and a journal that would be too large.
     pub fn reap(
         &mut self,
         at: Moment,
@@ -143,7 +234,65 @@ impl Core {
         ensures spare { self.new.spare ≡ self.old.spare }
         ensures memory { result ≢ Err Refusal.OutOfMemory }
     {
-        reaps::reap(&mut self.book, at, entry, limit, &target)
+        job_control::reap(&mut self.book, at, entry, limit, &target)
+    }
+
+    /// The signal that would be handed out at this moment, if there is one. It takes no memory.
+    pub fn next_signal(&self, at: Moment) -> Option<Signal>
+        ensures { result ≡ signal.told (advance_plan 0 at self.now.plan) }
+    {
+        job_control::next_signal(&self.book, at)
+    }
+
+    /// Hands out the signal that is next, if there is one: the first in order of asking that was not handed out and whose job
+    /// has a process. Where there is none nothing changes, the moment neither. It takes no memory.
+    ///
+    /// # Errors
+    ///
+    /// A journal that would be too large.
+    pub fn take_signal(
+        &mut self,
+        at: Moment,
+        entry: u64,
+        limit: u64,
+    ) -> Result<Option<Signal>, Refusal>
+        requires entry { entry ≤ 4_000_001 }
+        requires limit { limit ≤ 4_000_000 }
+        ensures nothing { next_signal (advance_plan entry at self.old.plan) ≡ None → (result ≡ Ok None) × (self.new.plan ≡ self.old.plan) × (self.new.spare ≡ self.old.spare) }
+        ensures meets { IsSome (next_signal (advance_plan entry at self.old.plan)) →
+            Meets (outcome signal entry (advance_plan entry at self.old.plan)) self.old.plan entry limit result self.new.plan }
+        ensures spare { self.old.spare ≤ self.new.spare }
+        ensures memory { result ≢ Err Refusal.OutOfMemory }
+    {
+        job_control::take_signal(&mut self.book, at, entry, limit)
+    }
+
+    /// Asks for a reservation, for the named session of this number. It starts at the least start in the frame of its template
+    /// from which the least number of slots fits, has the greatest number of slots that fits from there, and has the next
+    /// number.
+    ///
+    /// # Errors
+    ///
+    /// The first of these that holds: what is wrong with the template; `OutOfResource(Reservations)` where 10,000 reservations
+    /// last; `DeniedByDrms` where no start fits, with the least overfull moment of the interval, and with none where start, end
+    /// and duration are all set. Want of memory is told only where none of these holds. A journal that would be too large comes
+    /// before all of them.
+    pub fn request_reservation(
+        &mut self,
+        at: Moment,
+        entry: u64,
+        limit: u64,
+        home: u64,
+        template: ReservationTemplate,
+    ) -> Result<Reserved, Refusal>
+        requires entry { entry ≤ 4_000_001 }
+        requires limit { limit ≤ 4_000_000 }
+        requires number { self.old.plan.next_reservation ≤ entry }
+        ensures meets { Meets (outcome (request home template) entry (advance_plan entry at self.old.plan)) self.old.plan entry limit result self.new.plan }
+        ensures spare { self.new.spare ≡ self.old.spare }
+        ensures memory { IsSome ((request home template).refusal (advance_plan entry at self.old.plan)) → result ≢ Err Refusal.OutOfMemory }
+    {
+        reservation_requests::request_reservation(&mut self.book, at, entry, limit, home, template)
     }
 
     /// Ends a reservation: the waiting jobs that name it end with it, and the started ones are asked to end. It takes no memory.
@@ -164,7 +313,7 @@ impl Core {
         ensures spare { self.new.spare ≡ self.old.spare }
         ensures memory { result ≢ Err Refusal.OutOfMemory }
     {
-        reservations::end_reservation(&mut self.book, at, entry, limit, reservation)
+        reservation_requests::end_reservation(&mut self.book, at, entry, limit, reservation)
     }
 
     /// Takes the memory for so many further changes.
@@ -200,8 +349,26 @@ impl Core {
     pub fn size(&self) -> u64
         ensures value { result ≡ weight self.now.plan }
         ensures small { result ≤ 4_000_000 }
+        ensures fit { IsFit self.now.plan }
     {
         self.book.weight()
+    }
+
+    /// The reports of starts and ends that the processes of all jobs may still bring: two for a job that is handed out to be
+    /// started, one for a job whose start is reported. The journal has room for them.
+    pub fn reports_to_come(&self) -> u64
+        ensures value { result ≡ reports_to_come self.now.plan.rows }
+        ensures room { result ≤ weight self.now.plan }
+    {
+        let _weight = self.book.weight();
+        reports_to_come(self.book.rows())
+    }
+
+    /// Whether, once time has come to this moment, no job holds slots, no order stands and none is ready.
+    pub fn settled(&self, at: Moment) -> bool
+        ensures { result ≡ settled (advance_plan 0 at self.now.plan) }
+    {
+        is_settled(&self.book, at)
     }
 
     /// What became of the jobs' states, in order.
@@ -246,7 +413,7 @@ impl Core {
     pub fn reservation(&self, at: Moment, reservation: ReservationId) -> Option<&Accepted>
         ensures { option_copied result ≡ reservation_of reservation (advance_plan 0 at self.now.plan).reservations }
     {
-        reservations::lasting_of(
+        lasting_of(
             self.book.reservations(),
             reservation,
             self.book.moment_at(at),
@@ -257,6 +424,6 @@ impl Core {
     pub fn next_reservation(&self, at: Moment, from: ReservationId) -> Option<ReservationId>
         ensures { result ≡ reservation_from from.0 (advance_plan 0 at self.now.plan).reservations }
     {
-        reservations::lasting_from(self.book.reservations(), from.0, self.book.moment_at(at))
+        lasting_from(self.book.reservations(), from.0, self.book.moment_at(at))
     }
 }

@@ -1,5 +1,5 @@
 //! The next launch.
-ghost use Rattle.std.specs.Prelude.{true, false, IfSome, ◌≡◌, ◌≢◌, ◌+◌, ◌-◌, ◌^◌, ◌<◌, ◌≤◌, min, filter, map, IfOk, OnOk, IsSome, None, Some, Ok};
+ghost use Rattle.std.specs.Prelude.{true, false, IfSome, ◌≡◌, ◌≢◌, ◌+◌, ◌-◌, ◌^◌, ◌<◌, ◌≤◌, min, filter, map, IfOk, OnOk, OnErr, IsSome, None, Some, Ok};
 ghost use Rattle.std.specs.Option.{option_copied, option_map};
 ghost use Rattle.job_template.specs.Launch.{launch_words};
 ghost use Rattle.drmaa_model.specs.declared.rows.Row.{Row};
@@ -9,14 +9,14 @@ ghost use Rattle.drmaa_model.specs.Launching.{launch};
 ghost use Rattle.drmaa_model.specs.Order.{held, is_ready, slots_for, next_launch};
 ghost use Rattle.drmaa_model.specs.Time.{advance_plan, lasts};
 ghost use Rattle.drmaa_model.specs.TimeLaws.{timed};
-ghost use Rattle.plan_book.specs.Book.{plan_of, spare, IsKept};
+ghost use Rattle.plan_book.specs.Book.{plan_of, calendar_of, spare, IsKept};
 ghost use Rattle.reservation_calendar.specs.Schedules.{is_booked};
 ghost use Rattle.plan_book.specs.Ties.{MayMake};
 ghost use Rattle.scheduler_core.specs.Launches.{IsLaunchOf, IsNext, IsNextIn, MayMakeNext, launch_booking, seen, seen_row};
 
 use crate::ready::{first_ready_at, slots_at};
 use crate::rows::held;
-use crate::times::course_at;
+use crate::times::course_then;
 use drmaa_model::{Launch, Row};
 use drmaa_types::{End, Moment, Refusal, TextList};
 use job_template::{JobTemplate, launch_words};
@@ -36,12 +36,12 @@ pub struct Next {
 pub fn next_launch(book: &Book, alloc: Global, at: Moment) -> Result<Option<Next>, AllocError>
     requires kept { IsKept book.now }
     ensures next { IfOk result (IsNextIn (advance_plan 0 at (plan_of book.now))) }
-    ensures may { IfOk result (MayMakeNext book.now.calendar) }
+    ensures may { IfOk result (MayMakeNext (calendar_of book.now)) }
     ensures some { next_launch (advance_plan 0 at (plan_of book.now)) ≡ None → result ≡ Ok None }
 {
     let moment = book.moment_at(at);
-    let _total = book.total;
-    let used = held(&book.rows);
+    let _total = book.total();
+    let used = held(book.rows());
     match first_ready_at(book, moment, used) {
         None => Ok(None),
         Some(row) => Ok(Some(next_of(book, alloc, row, moment, used)?)),
@@ -60,9 +60,12 @@ pub fn take_launch(
     requires entry { entry ≤ 4_000_001 }
     requires limit { limit ≤ 4_000_000 }
     ensures nothing { next_launch (advance_plan entry at (plan_of book.old)) ≡ None → (result ≡ Ok None) × (plan_of book.new ≡ plan_of book.old) }
+    ensures left { next_launch (advance_plan entry at (plan_of book.old)) ≡ None → spare book.new ≡ spare book.old }
     ensures meets { IsSome (next_launch (advance_plan entry at (plan_of book.old))) →
         Meets (outcome launch entry (advance_plan entry at (plan_of book.old))) (plan_of book.old) entry limit result (plan_of book.new) }
     ensures kept { IsKept book.new }
+    ensures spare { spare book.old ≤ spare book.new + 2 }
+    ensures err { OnErr result (spare book.old ≤ spare book.new) }
 {
     match next_launch(book, alloc, at) {
         Err(_) => Err(Refusal::OutOfMemory),
@@ -82,18 +85,18 @@ fn next_of(
     used: u32,
 ) -> Result<Next, AllocError>
     requires kept { IsKept book.now }
-    requires later { book.now.moment ≤ moment }
-    requires used { used ≡ held book.now.rows.items }
+    requires later { (plan_of book.now).moment ≤ moment }
+    requires used { used ≡ held (plan_of book.now).rows }
     requires ready { is_ready (seen moment (plan_of book.now)) row.now.wants.min (seen_row moment (plan_of book.now) row.now) ≡ true }
     requires order { row.now.wants.min ≤ row.now.wants.max }
     requires least { 1 ≤ row.now.wants.min }
     requires limit { IfSome row.now.wants.limit (λ seconds. 1 ≤ seconds) }
-    requires fresh { is_booked book.now.calendar.bookings (Key.Job row.now.job) ≡ false }
+    requires fresh { is_booked (calendar_of book.now).bookings (Key.Job row.now.job) ≡ false }
     requires attempt { (seen_row moment (plan_of book.now) row.now).course.attempt + 1 < 2 ^ 32 }
-    ensures may { IfOk result (λ next. MayMake book.now.calendar next.m.booked) }
+    ensures may { IfOk result (λ next. MayMake (calendar_of book.now) next.m.booked) }
     ensures launch { IfOk result (IsLaunchOf (record row.now { course = (seen_row moment (plan_of book.now) row.now).course }) moment (slots_for (seen moment (plan_of book.now)) (seen_row moment (plan_of book.now) row.now))) }
 {
-    let before = course_at(&book.reservations, row, moment);
+    let before = course_then(book, row, moment);
     let slots = slots_at(book, row, moment, used);
     let planned = planned_end(&row.wants, moment);
     let after = launched(&before, moment, slots, planned);

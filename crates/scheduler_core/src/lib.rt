@@ -5,12 +5,10 @@ mod cores;
 mod facts;
 mod launches;
 mod ready;
-mod reaps;
 mod reports;
-mod reservations;
 mod rows;
 mod times;
 
 pub use cores::Core;
-pub use drmaa_model::{Accepted, Indices, Launch, Report, Signal, Submitted, Target};
+pub use drmaa_model::{Accepted, Indices, Kill, Launch, Phase, Report, Signal, Submitted, Target};
 pub use facts::RowFacts;

@@ -4,31 +4,31 @@ ghost use Rattle.std.specs.Option.{option_copied, option_map, option_map_or};
 ghost use Rattle.drmaa_model.specs.declared.reservations.Accepted.{Accepted};
 ghost use Rattle.drmaa_model.specs.declared.rows.Row.{Row};
 ghost use Rattle.drmaa_model.specs.Load.{covers, in_reservation, in_array, holds_in, held_inside, reservation_of};
-ghost use Rattle.drmaa_model.specs.Order.{held, is_queued, is_reached, is_ready, has_slots_in, has_turn, first_in_order};
-ghost use Rattle.drmaa_model.specs.Time.{lasts};
+ghost use Rattle.drmaa_model.specs.Order.{held, is_queued, is_reached, is_ready, has_slots_in, has_turn, first_in_order, settled};
+ghost use Rattle.drmaa_model.specs.Time.{lasts, advance_plan};
 ghost use Rattle.plan_book.specs.Book.{plan_of, IsKept};
 ghost use Rattle.scheduler_core.specs.Launches.{seen, seen_row, may_launch, turn_of, slots_of, IsMost};
 
-use crate::reservations::lasting_of;
-use crate::rows::{best_of, is_reached};
-use crate::times::course_at;
+use crate::rows::{best_of, held, is_reached};
+use crate::times::course_then;
 use drmaa_model::{Accepted, Row, Wants};
 use drmaa_types::{ArrayId, JobState, Moment, ReservationId};
 use plan_book::Book;
 use plan_book::courses::planned_end;
 use plan_book::states::is_queued;
+use reservation_requests::lasting_of;
 
 /// Of the jobs that may be launched once time has come to this moment the first by priority descending and number
 /// ascending.
 pub fn first_ready_at<'a>(book: &'a Book, moment: Moment, used: u32) -> Option<&'a Row>
     requires kept { IsKept book.now }
-    requires later { book.now.moment ≤ moment }
-    requires used { used ≡ held book.now.rows.items }
+    requires later { (plan_of book.now).moment ≤ moment }
+    requires used { used ≡ held (plan_of book.now).rows }
     ensures { option_map (seen_row moment (plan_of book.now)) (option_copied result)
-        ≡ first_in_order (filter (may_launch moment (plan_of book.now)) (map (seen_row moment (plan_of book.now)) book.now.rows.items)) }
+        ≡ first_in_order (filter (may_launch moment (plan_of book.now)) (map (seen_row moment (plan_of book.now)) (plan_of book.now).rows)) }
 {
     let mut best: Option<&Row> = None;
-    for row in &book.rows {
+    for row in book.rows() {
         if may_launch_at(book, row, moment, used) {
             best = Some(best_of(best, row));
         }
@@ -36,14 +36,28 @@ pub fn first_ready_at<'a>(book: &'a Book, moment: Moment, used: u32) -> Option<&
     best
 }
 
+/// Whether nothing is left to do once time has come to this moment. Where no job holds slots, no order stands.
+pub fn is_settled(book: &Book, at: Moment) -> bool
+    requires kept { IsKept book.now }
+    ensures { result ≡ settled (advance_plan 0 at (plan_of book.now)) }
+{
+    let moment = book.moment_at(at);
+    let _total = book.total();
+    let used = held(book.rows());
+    if used > 0 {
+        return false;
+    }
+    first_ready_at(book, moment, used).is_none()
+}
+
 fn may_launch_at(book: &Book, row: &Row, moment: Moment, used: u32) -> bool
     requires kept { IsKept book.now }
-    requires later { book.now.moment ≤ moment }
-    requires used { used ≡ held book.now.rows.items }
+    requires later { (plan_of book.now).moment ≤ moment }
+    requires used { used ≡ held (plan_of book.now).rows }
     ensures { result ≡ may_launch moment (plan_of book.now) (seen_row moment (plan_of book.now) row.now) }
 {
-    let course = course_at(&book.reservations, row, moment);
-    let free = is_free(used, row.wants.min, book.total);
+    let course = course_then(book, row, moment);
+    let free = is_free(used, row.wants.min, book.total());
     let come = may_come(book, &row.wants, course.state, moment);
     let has = has_slots(book, &row.wants, moment, row.wants.min);
     all_three(come, free, has)
@@ -63,8 +77,8 @@ fn all_three(come: bool, free: bool, has: bool) -> bool
 
 fn may_come(book: &Book, wants: &Wants, state: JobState, moment: Moment) -> bool
     requires kept { IsKept book.now }
-    requires few { book.now.total < 2 ^ 32 }
-    ensures { result ≡ (is_queued state && is_reached moment wants.now.start && turn_of book.now.rows.items wants.now) }
+    requires few { (plan_of book.now).total < 2 ^ 32 }
+    ensures { result ≡ (is_queued state && is_reached moment wants.now.start && turn_of (plan_of book.now).rows wants.now) }
 {
     if !is_queued(state) {
         return false;
@@ -77,8 +91,8 @@ fn may_come(book: &Book, wants: &Wants, state: JobState, moment: Moment) -> bool
 
 fn has_turn(book: &Book, wants: &Wants) -> bool
     requires kept { IsKept book.now }
-    requires few { book.now.total < 2 ^ 32 }
-    ensures { result ≡ turn_of book.now.rows.items wants.now }
+    requires few { (plan_of book.now).total < 2 ^ 32 }
+    ensures { result ≡ turn_of (plan_of book.now).rows wants.now }
 {
     let Some(bound) = wants.bound else {
         return true;
@@ -86,7 +100,7 @@ fn has_turn(book: &Book, wants: &Wants) -> bool
     let Some(array) = wants.array else {
         return true;
     };
-    in_array(&book.rows, array) < bound
+    in_array(book.rows(), array) < bound
 }
 
 /// How many members of an array hold slots.
@@ -142,30 +156,30 @@ fn held_inside(row: &Row, number: ReservationId) -> u32
 /// The slots that a job may have more, of the calendar or of its reservation.
 fn has_slots(book: &Book, wants: &Wants, moment: Moment, slots: u32) -> bool
     requires kept { IsKept book.now }
-    requires few { book.now.total < 2 ^ 32 }
-    requires later { book.now.moment ≤ moment }
+    requires few { (plan_of book.now).total < 2 ^ 32 }
+    requires later { (plan_of book.now).moment ≤ moment }
     ensures { result ≡ slots_of (seen moment (plan_of book.now)) slots wants.now }
 {
     match wants.reservation {
         Some(number) => has_slots_in(book, number, moment, slots),
         None => book
-            .calendar
+            .calendar()
             .fits(slots, moment, planned_end(wants, moment)),
     }
 }
 
 fn has_slots_in(book: &Book, number: ReservationId, moment: Moment, slots: u32) -> bool
     requires kept { IsKept book.now }
-    requires few { book.now.total < 2 ^ 32 }
+    requires few { (plan_of book.now).total < 2 ^ 32 }
     ensures { result ≡ has_slots_in (seen moment (plan_of book.now)) slots number }
 {
-    let Some(r) = lasting_of(&book.reservations, number, moment) else {
+    let Some(r) = lasting_of(book.reservations(), number, moment) else {
         return false;
     };
     if !covers(r, moment) {
         return false;
     }
-    u64::from(in_reservation(&book.rows, number)) + u64::from(slots) <= u64::from(r.slots)
+    u64::from(in_reservation(book.rows(), number)) + u64::from(slots) <= u64::from(r.slots)
 }
 
 fn covers(r: &Accepted, moment: Moment) -> bool
@@ -177,11 +191,11 @@ fn covers(r: &Accepted, moment: Moment) -> bool
 /// The slots of a reservation that are left.
 fn left_in(book: &Book, number: ReservationId, moment: Moment) -> u32
     requires kept { IsKept book.now }
-    requires few { book.now.total < 2 ^ 32 }
-    ensures { result ≡ option_map_or (λ (r : Accepted). r.slots - in_reservation number book.now.rows.items) (reservation_of number (filter (lasts moment) book.now.reservations.items)) 0 }
+    requires few { (plan_of book.now).total < 2 ^ 32 }
+    ensures { result ≡ option_map_or (λ (r : Accepted). r.slots - in_reservation number (plan_of book.now).rows) (reservation_of number (filter (lasts moment) (plan_of book.now).reservations)) 0 }
 {
-    match lasting_of(&book.reservations, number, moment) {
-        Some(r) => r.slots.saturating_sub(in_reservation(&book.rows, number)),
+    match lasting_of(book.reservations(), number, moment) {
+        Some(r) => r.slots.saturating_sub(in_reservation(book.rows(), number)),
         None => 0,
     }
 }
@@ -189,20 +203,23 @@ fn left_in(book: &Book, number: ReservationId, moment: Moment) -> u32
 /// The slots that a job gets which is ready for its least number.
 pub fn slots_at(book: &Book, row: &Row, moment: Moment, used: u32) -> u32
     requires kept { IsKept book.now }
-    requires later { book.now.moment ≤ moment }
-    requires used { used ≡ held book.now.rows.items }
+    requires later { (plan_of book.now).moment ≤ moment }
+    requires used { used ≡ held (plan_of book.now).rows }
     requires least { 1 ≤ row.now.wants.min }
     requires order { row.now.wants.min ≤ row.now.wants.max }
-    requires free { used + row.now.wants.min ≤ book.now.total }
+    requires free { used + row.now.wants.min ≤ (plan_of book.now).total }
     requires has { slots_of (seen moment (plan_of book.now)) row.now.wants.min row.now.wants ≡ true }
     ensures { IsMost (seen moment (plan_of book.now)) row.now.wants result }
 {
-    let most = row.wants.max.min(book.total - used);
+    let most = row.wants.max.min(book.total() - used);
     match row.wants.reservation {
         Some(number) => most.min(left_in(book, number, moment)),
         None => {
             let planned = planned_end(&row.wants, moment);
-            match book.calendar.largest(row.wants.min, most, moment, planned) {
+            match book
+                .calendar()
+                .largest(row.wants.min, most, moment, planned)
+            {
                 Some(slots) => slots,
                 None => row.wants.min,
             }

@@ -40,16 +40,16 @@ returns-clause-launch c =
     let row = c.args.row.now in
     let n = c.slots_at-slots.result in
     let course = (seen_row m p row).course in
-    let before : c.course_at-before.result ≡ course = c.course_at-before.ensures in
+    let before : c.course_then-before.result ≡ course = c.course_then-before.ensures in
     let planned : c.planned_end-planned.result ≡ planned_end row.wants m = c.planned_end-planned.ensures in
     let after : c.launched-after.result ≡ launched m n (planned_end row.wants m) course =
-    c.launched-after.ensures ∙ ap (λ (e : End). launched m n e c.course_at-before.result) planned ∙ ap (launched m n (planned_end row.wants m)) before in
+    c.launched-after.ensures ∙ ap (λ (e : End). launched m n e c.course_then-before.result) planned ∙ ap (launched m n (planned_end row.wants m)) before in
     let booked : c.booking_of.result ≡ launch_booking row m n (planned_end row.wants m) = c.booking_of.ensures ∙ ap (launch_booking row m n) planned in
     let mk : Course → Course → Booked → Move = λ b a k. record { job = row.job; home = row.home; before = b; after = a; orders = Keep; booked = k } in
-    let move : mk c.course_at-before.result c.launched-after.result c.booking_of.result ≡ launch-move m (record row { course = course }) n =
+    let move : mk c.course_then-before.result c.launched-after.result c.booking_of.result ≡ launch-move m (record row { course = course }) n =
     ap (λ (b : Course). mk b c.launched-after.result c.booking_of.result) before ∙ ap (λ (a : Course). mk course a c.booking_of.result) after ∙ ap (mk course (launched m n (planned_end row.wants m) course)) booked in
     let told : Course → List (List ℕ) → Launch = λ b words. record { job = row.job; attempt = b.attempt + 1; slots = n; words = words } in
-    let next : Next = record { m = mk c.course_at-before.result c.launched-after.result c.booking_of.result; launch = told c.course_at-before.result c.in_ok-words_of.field-0 } in
+    let next : Next = record { m = mk c.course_then-before.result c.launched-after.result c.booking_of.result; launch = told c.course_then-before.result c.in_ok-words_of.field-0 } in
     subst (λ (k : ℕ). IsLaunchOf (record row { course = course }) m k next) (sym (seen-slots p m row n c.requires.ready c.requires.order c.slots_at-slots.ensures))
     (record {
       move_is = move;

@@ -1,10 +1,11 @@
-use Rattle.std.proofs.Common.{Some, sym, subst}
+use Rattle.std.proofs.Common.{Some, sym, subst, arith}
 use Rattle.std.specs.Prelude.{Ok, Err, Option}
 use Rattle.drmaa_model.specs.declared.replies.Launch.{Launch}
+use Rattle.drmaa_model.specs.FitLaws.{advance-fit}
 use Rattle.drmaa_model.specs.Operation.{Outcome, Meets}
 use Rattle.drmaa_model.specs.Time.{advance_plan}
 use Rattle.plan_book.specs.Book.{plan_of, moved}
-use Rattle.scheduler_core.proofs.LaunchSteps.{looked, looked-fit, looked-may, looked-beside}
+use Rattle.scheduler_core.proofs.LaunchSteps.{looked, looked-fit, looked-may, looked-beside, looked-grows}
 use Rattle.scheduler_core.proofs.Steps.{ok-meets, err-meets}
 use Rattle.scheduler_core.proofs.launches.take_launch.Goals as goal
 
@@ -41,3 +42,15 @@ make-requires-clause-beside c =
 
 pub make-requires-clause-may : goal.make-requires-clause-may
 make-requires-clause-may c = looked-may c.args.book.now.calendar c.in-Ok-Some.field-0 c.in-Ok-Some.next c.in-Ok-Some.field-0-is (c.in-Ok-Some.ensures {u = tt}).may
+
+pub returns-in-Ok-clause-spare : goal.returns-in-Ok-clause-spare
+returns-in-Ok-clause-spare c =
+    let few = looked-grows (advance_plan 0 c.args.at (plan_of c.args.book.now)) c.in-Ok-Some.field-0 c.in-Ok-Some.next (advance-fit 0 c.args.at (plan_of c.args.book.now) c.requires.kept.fit) c.in-Ok-Some.field-0-is (c.in-Ok-Some.ensures {u = tt}).next in
+    let spare = c.make.ensures.spare in
+    omega (arith, few, spare)
+
+pub returns-in-Err-make-clause-spare : goal.returns-in-Err-make-clause-spare
+returns-in-Err-make-clause-spare c =
+    let few = looked-grows (advance_plan 0 c.args.at (plan_of c.args.book.now)) c.in-Ok-Some.field-0 c.in-Ok-Some.next (advance-fit 0 c.args.at (plan_of c.args.book.now) c.requires.kept.fit) c.in-Ok-Some.field-0-is (c.in-Ok-Some.ensures {u = tt}).next in
+    let spare = c.make.ensures.spare in
+    omega (arith, few, spare)

@@ -1,5 +1,7 @@
-use Rattle.std.proofs.Common.{refl}
+use Rattle.std.proofs.Common.{ℕ, ◌-◌, min, refl, sym, ◌∙◌, ap, subst}
+use Rattle.reservation_calendar.specs.Schedules.{Schedule}
 use Rattle.plan_book.specs.Book.{plan_of}
+use Rattle.plan_book.specs.Ties.{IsTied}
 use Rattle.scheduler_core.proofs.LaunchSteps.{most-calendar, most-inside, calendar-has}
 use Rattle.scheduler_core.proofs.ready.slots_at.Goals as goal
 
@@ -7,19 +9,19 @@ pub returns-in-Some-largest : goal.returns-in-Some-largest
 returns-in-Some-largest c =
     let p = plan_of c.args.book.now in
     let found = c.in-Some-largest.ensures {u = tt} in
-    most-calendar c.args.book.now.calendar p c.args.moment c.args.row.now.wants c.in-Some-largest.slots c.min-most.result c.args.used c.planned_end-planned.result
-    c.requires.kept.fit c.requires.kept.tied c.requires.later c.in-None.is c.requires.used c.requires.free c.min-most.ensures c.planned_end-planned.ensures
+    most-calendar c.calendar.result.now p c.args.moment c.args.row.now.wants c.in-Some-largest.slots c.min-most.result c.args.used c.planned_end-planned.result
+    c.requires.kept.fit (subst (λ (s : Schedule). IsTied s p) (sym c.calendar.ensures) c.requires.kept.tied) c.requires.later c.in-None.is c.requires.used c.requires.free (c.min-most.ensures ∙ ap (λ (n : ℕ). min c.args.row.now.wants.max (n - c.args.used)) c.total.ensures) c.planned_end-planned.ensures
     found.range.0 found.range.1 found.fits found.greatest
 
 pub returns-in-None-largest : goal.returns-in-None-largest
 returns-in-None-largest c =
     let p = plan_of c.args.book.now in
     let not = (c.in-None-largest.ensures {u = tt}).none in
-    absurd (not.0 refl (calendar-has c.args.book.now.calendar p c.args.moment c.args.row.now.wants c.args.row.now.wants.min c.planned_end-planned.result
-    c.requires.kept.fit c.requires.kept.tied c.requires.later c.in-None.is c.planned_end-planned.ensures c.requires.has))
+    absurd (not.0 refl (calendar-has c.calendar.result.now p c.args.moment c.args.row.now.wants c.args.row.now.wants.min c.planned_end-planned.result
+    c.requires.kept.fit (subst (λ (s : Schedule). IsTied s p) (sym c.calendar.ensures) c.requires.kept.tied) c.requires.later c.in-None.is c.planned_end-planned.ensures c.requires.has))
 
 pub returns-in-Some : goal.returns-in-Some
 returns-in-Some c =
     let p = plan_of c.args.book.now in
     most-inside p c.args.moment c.args.row.now.wants c.in-Some.number c.min.result c.min-most.result c.args.used c.left_in.result c.in-Some.is
-    c.requires.used c.requires.free c.requires.order c.min-most.ensures c.left_in.ensures c.min.ensures c.requires.has
+    c.requires.used c.requires.free c.requires.order (c.min-most.ensures ∙ ap (λ (n : ℕ). min c.args.row.now.wants.max (n - c.args.used)) c.total.ensures) c.left_in.ensures c.min.ensures c.requires.has
