@@ -1,5 +1,5 @@
 -- Laws of histories: beginnings of one list, a caller's entries in them, and empty places.
-use Rattle.std.proofs.Common.{◌≡◌, ◌≢◌, ℕ, zero, suc, ◌<◌, ◌≤◌, Bool, true, false, cond, eqb, eq-eqb, ne_eqb, List, [], ◌∷◌, ◌++◌, length, get_or, set, refl, sym, ap, ◌∙◌, subst, arith, append_assoc, append-nil, length-append}
+use Rattle.std.proofs.Common.{◌≡◌, ◌≢◌, ◌⊎◌, inl, inr, ℕ, zero, suc, ◌<◌, ◌≤◌, Bool, true, false, cond, eqb, eq-eqb, ne_eqb, List, [], ◌∷◌, ◌++◌, length, get_or, set, refl, sym, ap, ◌∙◌, subst, arith, append_assoc, append-nil, length-append}
 use Rattle.std.specs.Prelude.{Option, Some, None, nat_le}
 use Rattle.std.proofs.lemmas.Bool.Decides.{nat_tests}
 use Rattle.std.proofs.lemmas.List.Elements.{filter-append}
@@ -34,6 +34,12 @@ module _ {A : Type 0} where
   -- of two beginnings of one list, the longer begins with the shorter
   pub shorter : (h a b : List A) → BeginsWith h a → BeginsWith h b → length b ≤ length a → BeginsWith a b
   shorter h a b p q le = shorter_of a b p.rest q.rest (sym p.whole ∙ q.whole) le
+
+  -- a beginning of a list with one more at its end is one of the list without it, or the whole
+  pub beginning_of : (h : List A) (e : A) (start rest : List A) → h ++ e ∷ [] ≡ start ++ rest → BeginsWith h start ⊎ (start ≡ h ++ e ∷ [])
+  beginning_of h e start [] is = inr (sym (append-nil start) ∙ sym is)
+  beginning_of h e start (r ∷ rest) is =
+      inl (shorter (h ++ e ∷ []) h start (begins_append h (e ∷ [])) record { rest = r ∷ rest; whole = is } (omega (arith, ap length is, length-append h (e ∷ []), length-append start (r ∷ rest))))
 
   pub record Joined (h a b : List A) : Type 0 where
     pub whole : BeginsWith h (longer a b)

@@ -29,11 +29,11 @@ module _ {A : Type 0} where
   past_end (x ∷ places) zero h = absurd (omega arith)
   past_end (x ∷ places) (suc n) h = past_end places n (omega arith)
 
-module _ {Ask Answer Fixed V : Type 0} (entries : V → List (ChronicleEntry Ask Answer)) (fixed_of : V → Fixed) (fixed : Fixed) where
-  pub hires : (id : ℕ) (v : View Ask Answer Fixed) → v.kind ≡ Opener → Splits (LockHolds entries fixed_of fixed) id v (hiring v) (hired v)
+module _ {Ask Answer Fixed V : Type 0} (entries : V → List (ChronicleEntry Ask Answer)) (fixed_of : V → Fixed) (legal : Fixed → List (ChronicleEntry Ask Answer) → Type 0) (fixed : Fixed) where
+  pub hires : (id : ℕ) (v : View Ask Answer Fixed) → v.kind ≡ Opener → Splits (LockHolds entries fixed_of legal fixed) id v (hiring v) (hired v)
   hires id v is s law at =
       let x : Scene Ask Answer = law.0 in
-      let r : LockRule entries fixed_of fixed s x = law.1 in
+      let r : LockRule entries fixed_of legal fixed s x = law.1 in
       let so = as_opener fixed x id v (r.each id v at) is in
       let know = so.0 in
       let n : ℕ = length x.retired in
@@ -86,14 +86,15 @@ module _ {Ask Answer Fixed V : Type 0} (entries : V → List (ChronicleEntry Ask
               (sits_after (HasTicket t) (HasTicket t) s.views id v (hiring v) at (λ p. p) (λ u p. p) (x.owner t) (r.tickets t a b c));
           gone = λ k own e. r.gone k own (sym (at_none x.retired k) ∙ e);
           strangers = λ k h. r.strangers k (omega arith);
+          beginnings = r.beginnings;
           each = all_split fixed x y s.views id (hiring v) (hired v) m here there r.each;
         },
       )
 
-  pub copies : (id : ℕ) (v : View Ask Answer Fixed) → v.kind ≡ Caller → Splits (LockHolds entries fixed_of fixed) id v v (note_of v)
+  pub copies : (id : ℕ) (v : View Ask Answer Fixed) → v.kind ≡ Caller → Splits (LockHolds entries fixed_of legal fixed) id v v (note_of v)
   copies id v is s law at =
       let x : Scene Ask Answer = law.0 in
-      let r : LockRule entries fixed_of fixed s x = law.1 in
+      let r : LockRule entries fixed_of legal fixed s x = law.1 in
       let so = as_caller fixed x id v (r.each id v at) is in
       let know = so.0 in
       let there : Stands fixed x (length s.views) (note_of v) = (
@@ -113,15 +114,16 @@ module _ {Ask Answer Fixed V : Type 0} (entries : V → List (ChronicleEntry Ask
               (sits_after (HasTicket t) (HasTicket t) s.views id v v at (λ p. p) (λ u p. p) (x.owner t) (r.tickets t a b c));
           gone = r.gone;
           strangers = r.strangers;
+          beginnings = r.beginnings;
           each = all_split fixed x x s.views id v (note_of v) (stays_put x id id) (r.each id v at) there r.each;
         },
       )
 
   pub learns : (id : ℕ) (v : View Ask Answer Fixed) (other : ℕ) (w : View Ask Answer Fixed) → v.kind ≡ Caller → v.stage ≡ Idle → w.kind ≡ Note
-      → Joins (LockHolds entries fixed_of fixed) id v other w (learning v w) spent
+      → Joins (LockHolds entries fixed_of legal fixed) id v other w (learning v w) spent
   learns id v other w is idle note s law at apart at' =
       let x : Scene Ask Answer = law.0 in
-      let r : LockRule entries fixed_of fixed s x = law.1 in
+      let r : LockRule entries fixed_of legal fixed s x = law.1 in
       let so = as_caller fixed x id v (r.each id v at) is in
       let no = as_note fixed x other w (r.each other w (sym (set_else s.views id other (learning v w) apart) ∙ at')) note in
       let j = joined x.history v.seen w.seen so.0.seen no.0.seen in
@@ -148,15 +150,16 @@ module _ {Ask Answer Fixed V : Type 0} (entries : V → List (ChronicleEntry Ask
               (sits_after (HasTicket t) (HasTicket t) s.views id v (learning v w) at (λ p. p) (λ u p. p) (x.owner t) (r.tickets t a b c));
           gone = r.gone;
           strangers = r.strangers;
-          each = all_joined fixed x x s.views id other (learning v w) spent (stays_put x id other) here refl refl r.each;
+          beginnings = r.beginnings;
+          each = all_joined fixed x x s.views id other (learning v w) spent (stays_put x id other) here refl record { idle = refl; nothing = refl; low = zero-le } r.each;
         },
       )
 
   pub retires : (id : ℕ) (v : View Ask Answer Fixed) (other : ℕ) (w : View Ask Answer Fixed) → v.kind ≡ Opener → w.kind ≡ Caller → w.stage ≡ Idle
-      → Joins (LockHolds entries fixed_of fixed) id v other w (retiring v w) spent
+      → Joins (LockHolds entries fixed_of legal fixed) id v other w (retiring v w) spent
   retires id v other w is caller idle s law at apart at' =
       let x : Scene Ask Answer = law.0 in
-      let r : LockRule entries fixed_of fixed s x = law.1 in
+      let r : LockRule entries fixed_of legal fixed s x = law.1 in
       let so = as_opener fixed x id v (r.each id v at) is in
       let no = as_caller fixed x other w (r.each other w (sym (set_else s.views id other (retiring v w) apart) ∙ at')) caller in
       let j = joined x.history v.seen w.seen so.0.seen no.0.seen in
@@ -205,6 +208,7 @@ module _ {Ask Answer Fixed V : Type 0} (entries : V → List (ChronicleEntry Ask
               ap (λ (i : ℕ). of x.history i) is' ∙ (no.1.mine ∙ one))
               (λ ne. r.gone n own (sym (get_or-set_other x.retired k n (Some w.mine) None ne) ∙ e));
           strangers = λ n h. r.strangers n (omega (arith, length-set x.retired k (Some w.mine)));
-          each = all_joined fixed x y s.views id other (retiring v w) spent m here refl refl r.each;
+          beginnings = r.beginnings;
+          each = all_joined fixed x y s.views id other (retiring v w) spent m here refl record { idle = refl; nothing = refl; low = zero-le } r.each;
         },
       )

@@ -5,3 +5,4 @@ pub mod Joins
 pub mod Tickets
 pub mod Serving
 pub mod Passing
+pub mod Owners

@@ -7,7 +7,7 @@ use Rattle.drmaa_types.specs.declared.chronicles.ChronicleEntry.{ChronicleEntry}
 use Rattle.turn_lock.specs.declared.views.View.{View}
 use Rattle.turn_lock.specs.declared.views.Kind.{Kind}
 use Rattle.turn_lock.specs.declared.views.Kind.TheVariants.{Opener}
-use Rattle.turn_lock.specs.Histories.{of, BeginsWith, left_of}
+use Rattle.turn_lock.specs.Histories.{of, BeginsWith, IsLegalSoFar, left_of}
 use Rattle.turn_lock.specs.Views.{hiring, retiring, looked}
 use Rattle.turn_lock.specs.Plays.{Learns, LearnsWhole, OpenerLearns, Looks}
 use Rattle.turn_lock.specs.Tokens.{GoesOn}
@@ -55,6 +55,7 @@ module _ {V Ask Answer Fixed : Type 0} where
         clean = λ n le. ap (λ (m : Me (Option V) (View Ask Answer Fixed)). of m.0.seen n) e ∙ k.clean n (omega arith);
       }
 
+module _ {V Ask Answer Fixed : Type 0} (legal : Fixed → List (ChronicleEntry Ask Answer) → Type 0) where
   -- the opener took a pass back, and looked
   pub record TookBack (seat pass after : Seat (Option V) (View Ask Answer Fixed)) (next gone : ℕ) : Type 0 where
     pub opener : IsOpener after next (gone + 1)
@@ -63,18 +64,20 @@ module _ {V Ask Answer Fixed : Type 0} where
     pub from_old : BeginsWith after.me.0.seen seat.me.0.seen
     pub from_pass : BeginsWith after.me.0.seen pass.me.0.seen
     pub empty : WasEmpty seat.me.0.retired pass.me.0.number
+    pub low : seat.me.0.low ≤ after.me.0.low
+    pub sees : (fixed : Fixed) → seat.me.0.fixed ≡ Some fixed → IsLegalSoFar (legal fixed) after.me.0.seen
 
-  took : (v w : View Ask Answer Fixed) (hand : List (ℕ × Option V)) (n : ℕ) (after : Me (Option V) (View Ask Answer Fixed)) → v.kind ≡ Opener → Looks (retiring v w, hand) n after → OpenerLearns (retiring v w) × BeginsWith (retiring v w).seen v.seen × BeginsWith (retiring v w).seen w.seen
+  took : (v w : View Ask Answer Fixed) (hand : List (ℕ × Option V)) (n : ℕ) (after : Me (Option V) (View Ask Answer Fixed)) → v.kind ≡ Opener → Looks legal (retiring v w, hand) n after → OpenerLearns (retiring v w) × BeginsWith (retiring v w).seen v.seen × BeginsWith (retiring v w).seen w.seen
   took v w hand n after is l =
       let a : Learns (retiring v w) Opener = subst (λ (k : Kind). Learns (retiring v w) k) is l.learns in
       let b : LearnsWhole (retiring v w) Opener = subst (λ (k : Kind). LearnsWhole (retiring v w) k) is l.both in
       (a, b.0, b.1)
 
-  pub took_back : (seat mid pass after : Seat (Option V) (View Ask Answer Fixed)) (next gone n : ℕ) → IsOpener seat next gone → mid.me ≡ (retiring seat.me.0 pass.me.0, seat.me.1) → Looks mid.me n after.me → TookBack seat pass after next gone
+  pub took_back : (seat mid pass after : Seat (Option V) (View Ask Answer Fixed)) (next gone n : ℕ) → IsOpener seat next gone → mid.me ≡ (retiring seat.me.0 pass.me.0, seat.me.1) → Looks legal mid.me n after.me → TookBack seat pass after next gone
   took_back seat mid pass after next gone n k e l =
       let v : View Ask Answer Fixed = seat.me.0 in
       let w : View Ask Answer Fixed = pass.me.0 in
-      let l' : Looks (retiring v w, seat.me.1) n after.me = subst (λ (m : Me (Option V) (View Ask Answer Fixed)). Looks m n after.me) e l in
+      let l' : Looks legal (retiring v w, seat.me.1) n after.me = subst (λ (m : Me (Option V) (View Ask Answer Fixed)). Looks legal m n after.me) e l in
       let t = took v w seat.me.1 n after.me k.kind l' in
       let is : after.me ≡ (looked n (retiring v w), seat.me.1) = l'.after in
       let view : after.me.0 ≡ looked n (retiring v w) = ap (λ (m : Me (Option V) (View Ask Answer Fixed)). m.0) is in
@@ -101,4 +104,6 @@ module _ {V Ask Answer Fixed : Type 0} where
         from_old = subst (λ (x : List (ChronicleEntry Ask Answer)). BeginsWith x v.seen) (sym (ap (λ (u : View Ask Answer Fixed). u.seen) view)) t.1;
         from_pass = subst (λ (x : List (ChronicleEntry Ask Answer)). BeginsWith x w.seen) (sym (ap (λ (u : View Ask Answer Fixed). u.seen) view)) t.2;
         empty = was_empty v.retired w.number w.mine (omega arith);
+        low = let read : after.me.0.low ≡ n = ap (λ (u : View Ask Answer Fixed). u.low) view in let least : v.low ≤ n = l'.low in omega arith;
+        sees = λ f q. subst (λ (x : List (ChronicleEntry Ask Answer)). IsLegalSoFar (legal f) x) (sym (ap (λ (u : View Ask Answer Fixed). u.seen) view)) (l'.sees f q);
       }

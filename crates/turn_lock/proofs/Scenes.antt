@@ -1,6 +1,6 @@
 -- What may change in a scene without touching a view that stands in it, and how the rule's facts on views go over one step.
 use Rattle.std.proofs.Common.{◌≡◌, ◌≢◌, ◌⊎◌, inl, inr, ⊎_elim, ℕ, zero, suc, ◌<◌, ◌≤◌, Bool, true, false, List, [], ◌∷◌, ◌++◌, length, set, refl, sym, ap, ◌∙◌, subst, arith, le_refl, length-set}
-use Rattle.std.specs.Prelude.{None, slice_index_or}
+use Rattle.std.specs.Prelude.{Some, None, slice_index_or}
 use mathlib.Core.Option.{some, some-injective, some-ne-none}
 use lib.ListN.{get_elem?}
 use Rattle.drmaa_types.specs.declared.chronicles.ChronicleEntry.{ChronicleEntry}
@@ -9,8 +9,8 @@ use Rattle.turn_lock.specs.declared.views.Kind.{Kind}
 use Rattle.turn_lock.specs.declared.views.Stage.{Stage}
 use Rattle.turn_lock.specs.declared.views.Kind.TheVariants.{Spent, Note, Opener, Caller}
 use Rattle.turn_lock.specs.declared.views.Stage.TheVariants.{Idle, Waiting, Turn}
-use Rattle.turn_lock.specs.Histories.{of, BeginsWith}
-use Rattle.turn_lock.specs.Rule.{Scene, InTurn, AtStage, Knows, StandsAsNote, StandsAsOpener, StandsAsCaller, StandsAs, Stands, Sits, HasTicket, HasTurn}
+use Rattle.turn_lock.specs.Histories.{of, BeginsWith, IsLegalSoFar}
+use Rattle.turn_lock.specs.Rule.{Scene, InTurn, AtStage, Knows, StandsAsSpent, StandsAsNote, StandsAsOpener, StandsAsCaller, StandsAs, Stands, Sits, HasTicket, HasTurn}
 use Rattle.turn_lock.proofs.Histories.{begins_refl, begins_trans}
 use mathlib.Core.Logic.{dite}
 use native.Mathlib.Decide.{ℕ_discrete}
@@ -75,7 +75,7 @@ module _ {Ask Answer Fixed : Type 0} (fixed : Fixed) (x y : Scene Ask Answer) (a
       record { next = h.next ∙ sym kept.1; drawn = omega arith; owned = m.owner t h.drawn ∙ h.owned; taken = kept.0; whole = h.whole ∙ sym kept.2 }
 
   stands_on : (i : ℕ) (v : View Ask Answer Fixed) → i ≢ a → i ≢ b → (k : Kind) → StandsAs fixed x i v k → StandsAs fixed y i v k
-  stands_on i v na nb Spent h = h
+  stands_on i v na nb Spent h = let low : v.low ≤ x.served = h.low in let up : x.served ≤ y.served = m.served in record { idle = h.idle; nothing = h.nothing; low = omega arith }
   stands_on i v na nb Note h = (knows_on v h.0, h.1)
   stands_on i v na nb Opener h =
       (knows_on v h.0, record { first = h.1.first; idle = h.1.idle; lists = h.1.lists ∙ sym (m.lists (λ e. na (h.1.first ∙ e))); counted = h.1.counted })
@@ -99,9 +99,9 @@ module _ {Ask Answer Fixed : Type 0} (fixed : Fixed) (x y : Scene Ask Answer) wh
       (λ t. stands_after fixed x y id id m i u t.0 t.0 (all i u t.1)) (at_set views id i w u e)
 
   -- after a seat took in another
-  pub all_joined : (views : List (View Ask Answer Fixed)) (id other : ℕ) (w gone : View Ask Answer Fixed) → Moves x y id other → Stands fixed y id w → gone.kind ≡ Spent → gone.stage ≡ Idle → AllStand fixed x views → AllStand fixed y (set (set views id w) other gone)
-  all_joined views id other w gone m new is idle all i u e =
-      ⊎_elim (λ t. subst (λ (z : View Ask Answer Fixed). Stands fixed y i z) t.1 (subst (λ (k : Kind). StandsAs fixed y i gone k) (sym is) idle))
+  pub all_joined : (views : List (View Ask Answer Fixed)) (id other : ℕ) (w gone : View Ask Answer Fixed) → Moves x y id other → Stands fixed y id w → gone.kind ≡ Spent → StandsAsSpent y gone → AllStand fixed x views → AllStand fixed y (set (set views id w) other gone)
+  all_joined views id other w gone m new is spent all i u e =
+      ⊎_elim (λ t. subst (λ (z : View Ask Answer Fixed). Stands fixed y i z) t.1 (subst (λ (k : Kind). StandsAs fixed y i gone k) (sym is) spent))
       (λ t. ⊎_elim (λ r. subst (λ (k : ℕ). Stands fixed y k u) (sym r.0) (subst (λ (z : View Ask Answer Fixed). Stands fixed y id z) r.1 new))
       (λ r. stands_after fixed x y id other m i u r.0 t.0 (all i u r.1)) (at_set views id i w u t.1))
       (at_set (set views id w) other i gone u e)
@@ -127,7 +127,7 @@ module _ {Ask Answer Fixed : Type 0} (P : View Ask Answer Fixed → Type 0) (Q :
 
 module _ {Ask Answer Fixed : Type 0} (fixed : Fixed) (x : Scene Ask Answer) (i : ℕ) (v : View Ask Answer Fixed) where
   turn_as : (t : ℕ) (k : Kind) → StandsAs fixed x i v k → v.stage ≡ Turn t → InTurn x i t v.seen
-  turn_as t Spent h e = absurd (cc (e, h))
+  turn_as t Spent h e = absurd (cc (e, h.idle))
   turn_as t Note h e = absurd (cc (e, h.1.idle))
   turn_as t Opener h e = absurd (cc (e, h.1.idle))
   turn_as t Caller h e = subst (λ (s : Stage). AtStage x i v.seen s) e h.1.stage
@@ -135,6 +135,27 @@ module _ {Ask Answer Fixed : Type 0} (fixed : Fixed) (x : Scene Ask Answer) (i :
   -- who has the turn is the one whom the next ticket is
   pub in_turn : (t : ℕ) → Stands fixed x i v → v.stage ≡ Turn t → InTurn x i t v.seen
   in_turn t h e = turn_as t v.kind h e
+
+  low_as : (k : Kind) → StandsAs fixed x i v k → v.low ≤ x.served
+  low_as Spent h = h.low
+  low_as Note h = h.0.low
+  low_as Opener h = h.0.low
+  low_as Caller h = h.0.low
+
+  -- no view's last reading is above what is served
+  pub low_of : Stands fixed x i v → v.low ≤ x.served
+  low_of h = low_as v.kind h
+
+  known_as : (f : Fixed) → v.fixed ≡ Some f → (k : Kind) → StandsAs fixed x i v k → (fixed ≡ f) × BeginsWith x.history v.seen
+  known_as f e Spent h = absurd (cc (e, h.nothing))
+  known_as f e Note h = (let s : Some fixed ≡ Some f = sym h.0.fixed_is ∙ e in cc s, h.0.seen)
+  known_as f e Opener h = (let s : Some fixed ≡ Some f = sym h.0.fixed_is ∙ e in cc s, h.0.seen)
+  known_as f e Caller h = (let s : Some fixed ≡ Some f = sym h.0.fixed_is ∙ e in cc s, h.0.seen)
+
+  -- what a view has seen is legal where each beginning of the history is
+  pub legal_of : (legal : Fixed → List (ChronicleEntry Ask Answer) → Type 0) → ((start : List (ChronicleEntry Ask Answer)) → BeginsWith x.history start → IsLegalSoFar (legal fixed) start) → Stands fixed x i v
+      → (f : Fixed) → v.fixed ≡ Some f → IsLegalSoFar (legal f) v.seen
+  legal_of legal all h f e = let t = known_as f e v.kind h in subst (λ (g : Fixed). IsLegalSoFar (legal g) v.seen) t.0 (all v.seen t.1)
 
   pub as_caller : Stands fixed x i v → v.kind ≡ Caller → Knows fixed x v × StandsAsCaller x i v
   as_caller h e = subst (λ (k : Kind). StandsAs fixed x i v k) e h

@@ -14,21 +14,21 @@ use Rattle.turn_lock.specs.declared.views.Kind.{Kind}
 use Rattle.turn_lock.specs.declared.views.Stage.{Stage}
 use Rattle.turn_lock.specs.declared.views.Kind.TheVariants.{Spent, Note, Opener, Caller}
 use Rattle.turn_lock.specs.declared.views.Stage.TheVariants.{Turn}
-use Rattle.turn_lock.specs.Histories.{of, BeginsWith, left_of}
+use Rattle.turn_lock.specs.Histories.{of, BeginsWith, IsLegalSoFar, left_of}
 use Rattle.turn_lock.specs.Views.{acted, left}
 use Rattle.turn_lock.specs.Rule.{greatest, last_ticket, Scene, InTurn, AtStage, StandsAs, Stands, HasTicket, HasTurn, Lies, LockRule, LockHolds}
 use Rattle.turn_lock.specs.Plays.{in_hand, Raises, Serves, HasLeft}
-use Rattle.turn_lock.proofs.Histories.{begins_refl, begins_trans, begins_along, begins_append, of-other, none_left}
-use Rattle.turn_lock.proofs.Scenes.{Moves, in_turn, as_caller, as_opener, stands_caller, all_after, sits_after}
+use Rattle.turn_lock.proofs.Histories.{begins_refl, begins_trans, begins_along, begins_append, beginning_of, of-other, none_left}
+use Rattle.turn_lock.proofs.Scenes.{Moves, legal_of, in_turn, as_caller, as_opener, stands_caller, all_after, sits_after}
 
-module _ {Ask Answer Fixed V : Type 0} (entries : V → List (ChronicleEntry Ask Answer)) (fixed_of : V → Fixed) (fixed : Fixed) where
+module _ {Ask Answer Fixed V : Type 0} (entries : V → List (ChronicleEntry Ask Answer)) (fixed_of : V → Fixed) (legal : Fixed → List (ChronicleEntry Ask Answer) → Type 0) (fixed : Fixed) where
   -- the value in the pass's hand has one entry more, the pass's own
   pub raises : (slots id : ℕ) (m : Me (Option V) (View Ask Answer Fixed)) (t : ℕ) (e : ChronicleEntry Ask Answer) → m.0.kind ≡ Caller → m.0.stage ≡ Turn t
-      → in_hand entries m.1 ≡ m.0.seen ++ e ∷ [] → e.caller.0 ≡ m.0.number → length (in_hand entries m.1) < 2 ^ 64
-      → Allows (LockHolds entries fixed_of fixed) slots id m 0 (λ n. (n + 1) % 2 ^ 64) (λ n w. Raises entries m w)
-  raises slots id m t e caller stage adds mine fits s law wide at _ =
+      → in_hand entries m.1 ≡ m.0.seen ++ e ∷ [] → e.caller.0 ≡ m.0.number → length (in_hand entries m.1) < 2 ^ 64 → legal fixed (in_hand entries m.1)
+      → Allows (LockHolds entries fixed_of legal fixed) slots id m 0 (λ n. (n + 1) % 2 ^ 64) (λ n w. Raises entries m w)
+  raises slots id m t e caller stage adds mine fits sound s law wide at _ =
       let x : Scene Ask Answer = law.0 in
-      let r : LockRule entries fixed_of fixed s x = law.1 in
+      let r : LockRule entries fixed_of legal fixed s x = law.1 in
       let v : View Ask Answer Fixed = m.0 in
       let new : List (ChronicleEntry Ask Answer) = in_hand entries m.1 in
       let own : List (ChronicleEntry Ask Answer) = of new v.number in
@@ -85,6 +85,9 @@ module _ {Ask Answer Fixed V : Type 0} (entries : V → List (ChronicleEntry Ask
             tickets = λ k a b c. sits_after (HasTicket k) (HasTicket k) s.views id v w at (λ p. p) (λ u p. p) (x.owner k) (r.tickets k a b c);
             gone = λ k l q. others k (λ is'. cc (q, ap (λ (i : ℕ). get_or x.retired i None) is', so.1.out)) ∙ r.gone k l q;
             strangers = λ k h. others k (λ is'. let g : v.number < length x.retired = so.1.given in omega arith) ∙ r.strangers k h;
+            beginnings = λ start b. ⊎_elim (λ old. r.beginnings start old)
+                (λ all. subst (λ (l : List (ChronicleEntry Ask Answer)). IsLegalSoFar (legal fixed) l) (adds' ∙ sym all) record { holds = λ _. sound })
+                (beginning_of x.history e start b.rest (sym adds' ∙ b.whole));
             each = all_after fixed x y s.views id w m' here r.each;
           },
         ),
@@ -94,10 +97,10 @@ module _ {Ask Answer Fixed V : Type 0} (entries : V → List (ChronicleEntry Ask
   -- the value is in the pass's hand with the whole history: it goes home, and the next ticket is served
   pub serves : (slots id : ℕ) (m : Me (Option V) (View Ask Answer Fixed)) (t k : ℕ) (value : V) → m.0.kind ≡ Caller → m.0.stage ≡ Turn t
       → m.1 ≡ (0, Some value) ∷ [] → entries value ≡ m.0.seen → fixed_of value ≡ fixed → (t ≡ last_ticket → k ≡ 0) → (t ≢ last_ticket → k ≡ 1)
-      → Allows (LockHolds entries fixed_of fixed) slots id m 2 (λ n. (n + k) % 2 ^ 64) (λ n w. Serves m w)
+      → Allows (LockHolds entries fixed_of legal fixed) slots id m 2 (λ n. (n + k) % 2 ^ 64) (λ n w. Serves legal m w)
   serves slots id m t k value caller stage holds whole same zero_at one_at s law wide at _ =
       let x : Scene Ask Answer = law.0 in
-      let r : LockRule entries fixed_of fixed s x = law.1 in
+      let r : LockRule entries fixed_of legal fixed s x = law.1 in
       let v : View Ask Answer Fixed = m.0 in
       let w : View Ask Answer Fixed = left v in
       let n : ℕ = get_or s.words 2 0 in
@@ -149,28 +152,29 @@ module _ {Ask Answer Fixed V : Type 0} (entries : V → List (ChronicleEntry Ask
                 (λ u p. p) (x.owner i) (r.tickets i (omega arith) b c);
             gone = r.gone;
             strangers = r.strangers;
+            beginnings = r.beginnings;
             each = all_after fixed x y s.views id w m' here r.each;
           },
         ),
-        refl,
+        record { after = refl; sees = legal_of fixed x id v legal r.beginnings (r.each id v at) },
       )
 
   nobody : (x : Scene Ask Answer) (i t : ℕ) (v : View Ask Answer Fixed) → left_of x.retired ≡ 0 → (k : Kind) → StandsAs fixed x i v k → v.stage ≡ Turn t → ⊥
-  nobody x i t v back Spent h e = cc (e, h)
+  nobody x i t v back Spent h e = cc (e, h.idle)
   nobody x i t v back Note h e = cc (e, h.1.idle)
   nobody x i t v back Opener h e = cc (e, h.1.idle)
   nobody x i t v back Caller h e = none_left x.retired v.number h.1.given back h.1.out
 
-  all_back : (s : State (Option V) (View Ask Answer Fixed)) (x : Scene Ask Answer) (r : LockRule entries fixed_of fixed s x) → left_of x.retired ≡ 0 → (b : Bool) → x.taken ≡ b → x.taken ≡ false
+  all_back : (s : State (Option V) (View Ask Answer Fixed)) (x : Scene Ask Answer) (r : LockRule entries fixed_of legal fixed s x) → left_of x.retired ≡ 0 → (b : Bool) → x.taken ≡ b → x.taken ≡ false
   all_back s x r back true e = let t = r.turn e in absurd (nobody x (x.owner x.served) x.served t.view back t.view.kind (r.each (x.owner x.served) t.view t.at) t.has)
   all_back s x r back false e = e
 
-  pub closes : (id : ℕ) (v : View Ask Answer Fixed) (ws : List ℕ) (xs : List (Option V)) → v.kind ≡ Opener → left_of v.retired ≡ 0 → Final (Seen (LockHolds entries fixed_of fixed) id v) ws xs
-      → (value : V) × (get_elem? xs 0 ≡ some (Some value)) × HasLeft entries fixed_of fixed v value
+  pub closes : (id : ℕ) (v : View Ask Answer Fixed) (ws : List ℕ) (xs : List (Option V)) → v.kind ≡ Opener → left_of v.retired ≡ 0 → Final (Seen (LockHolds entries fixed_of legal fixed) id v) ws xs
+      → (value : V) × (get_elem? xs 0 ≡ some (Some value)) × HasLeft entries fixed_of legal fixed v value
   closes id v ws xs is back final =
       let s : State (Option V) (View Ask Answer Fixed) = final.0 in
       let x : Scene Ask Answer = final.1.0.0 in
-      let r : LockRule entries fixed_of fixed s x = final.1.0.1 in
+      let r : LockRule entries fixed_of legal fixed s x = final.1.0.1 in
       let so = as_opener fixed x id v (r.each id v final.1.1) is in
       let back' : left_of x.retired ≡ 0 = ap (λ (l : List (Option (List (ChronicleEntry Ask Answer)))). left_of l) (sym so.1.lists) ∙ back in
       let free = all_back s x r back' x.taken refl in
@@ -182,5 +186,6 @@ module _ {Ask Answer Fixed V : Type 0} (entries : V → List (ChronicleEntry Ask
           retired = λ n own e. ap (λ (l : List (ChronicleEntry Ask Answer)). of l n) h.whole ∙ r.gone n own (ap (λ (l : List (Option (List (ChronicleEntry Ask Answer)))). get_or l n None) (sym so.1.lists) ∙ e);
           strangers = λ n le. ap (λ (l : List (ChronicleEntry Ask Answer)). of l n) h.whole ∙ r.strangers n (let same : length v.retired ≡ length x.retired = ap (λ (l : List (Option (List (ChronicleEntry Ask Answer)))). length l) so.1.lists in omega arith);
           same = h.same;
+          is_legal = subst (λ (l : List (ChronicleEntry Ask Answer)). IsLegalSoFar (legal fixed) l) (sym h.whole) (r.beginnings x.history (begins_refl x.history));
         },
       )

@@ -15,24 +15,24 @@ use Rattle.turn_lock.specs.declared.views.Kind.{Kind}
 use Rattle.turn_lock.specs.declared.views.Stage.{Stage}
 use Rattle.turn_lock.specs.declared.views.Kind.TheVariants.{Spent, Note, Opener, Caller}
 use Rattle.turn_lock.specs.declared.views.Stage.TheVariants.{Idle, Waiting, Turn}
-use Rattle.turn_lock.specs.Histories.{of, BeginsWith}
+use Rattle.turn_lock.specs.Histories.{of, BeginsWith, IsLegalSoFar}
 use Rattle.turn_lock.specs.Views.{looked, waiting, called, tried, granted}
 use Rattle.turn_lock.specs.Rule.{greatest, Scene, IsTicket, AtStage, StandsAs, Stands, Sits, HasTicket, HasTurn, IsHome, Lies, LockRule, LockHolds}
 use Rattle.turn_lock.specs.Plays.{Learns, LearnsWhole, Looks, Draws, Awaits, Tries}
 use Rattle.turn_lock.proofs.Histories.{begins_refl, begins_trans, begins_along, of-none}
-use Rattle.turn_lock.proofs.Scenes.{within, put, put-here, put-else, Moves, as_caller, stands_caller, no_ticket, no_turn, all_after, sits_after}
+use Rattle.turn_lock.proofs.Scenes.{within, put, put-here, put-else, Moves, low_of, legal_of, as_caller, stands_caller, no_ticket, no_turn, all_after, sits_after}
 use Rattle.turn_lock.proofs.Quiet.{quiet, turn_below}
 
 older : (t old drawn : ℕ) → t < drawn → (old ≤ t → ⊥) → t < old
 older t old drawn b no_more = lt_of_not-le no_more
 
-module _ {Ask Answer Fixed V : Type 0} (entries : V → List (ChronicleEntry Ask Answer)) (fixed_of : V → Fixed) (fixed : Fixed) where
+module _ {Ask Answer Fixed V : Type 0} (entries : V → List (ChronicleEntry Ask Answer)) (fixed_of : V → Fixed) (legal : Fixed → List (ChronicleEntry Ask Answer) → Type 0) (fixed : Fixed) where
   -- what a step of a seat owes when the word becomes `new`
   abbrev pub Goes : State (Option V) (View Ask Answer Fixed) → ℕ → ℕ → Me (Option V) (View Ask Answer Fixed) → (Me (Option V) (View Ask Answer Fixed) → Type 0) → ℕ → Type 0
-  Goes s i id m then new = (w : View Ask Answer Fixed) × (a : Act (Option V)) × Valid s.homes m.1 a × LockHolds entries fixed_of fixed (stepped s i new id m.1 w a) × then (w, carried_after m.1 a)
+  Goes s i id m then new = (w : View Ask Answer Fixed) × (a : Act (Option V)) × Valid s.homes m.1 a × LockHolds entries fixed_of legal fixed (stepped s i new id m.1 w a) × then (w, carried_after m.1 a)
 
   stands_looked : (x : Scene Ask Answer) (id : ℕ) (v : View Ask Answer Fixed) (n : ℕ) → n ≤ x.served → (k : Kind) → StandsAs fixed x id v k → StandsAs fixed x id (looked n v) k
-  stands_looked x id v n le Spent h = h
+  stands_looked x id v n le Spent h = record { idle = h.idle; nothing = h.nothing; low = le }
   stands_looked x id v n le Note h = (record { fixed_is = h.0.fixed_is; seen = h.0.seen; before = h.0.before; learnt = h.0.learnt; low = le; high = h.0.high }, record { idle = h.1.idle; none = h.1.none })
   stands_looked x id v n le Opener h = (record { fixed_is = h.0.fixed_is; seen = h.0.seen; before = h.0.before; learnt = h.0.learnt; low = le; high = h.0.high }, record { first = h.1.first; idle = h.1.idle; lists = h.1.lists; counted = h.1.counted })
   stands_looked x id v n le Caller h = (
@@ -40,7 +40,7 @@ module _ {Ask Answer Fixed V : Type 0} (entries : V → List (ChronicleEntry Ask
     record { given = h.1.given; held = h.1.held; out = h.1.out; mine = h.1.mine; own = h.1.own; stage = h.1.stage },
   )
 
-  shows : (s : State (Option V) (View Ask Answer Fixed)) (x : Scene Ask Answer) (r : LockRule entries fixed_of fixed s x) (id : ℕ) (v : View Ask Answer Fixed) (k : Kind) → StandsAs fixed x id v k → Learns v k
+  shows : (s : State (Option V) (View Ask Answer Fixed)) (x : Scene Ask Answer) (r : LockRule entries fixed_of legal fixed s x) (id : ℕ) (v : View Ask Answer Fixed) (k : Kind) → StandsAs fixed x id v k → Learns v k
   shows s x r id v Spent h = tt
   shows s x r id v Note h = tt
   shows s x r id v Opener h = record {
@@ -56,18 +56,18 @@ module _ {Ask Answer Fixed V : Type 0} (entries : V → List (ChronicleEntry Ask
   shows_both x id v Caller h = (h.0.before, h.0.learnt)
 
   -- a look by a seat that waits for no turn, or whose turn has not come
-  quiet_look : (s : State (Option V) (View Ask Answer Fixed)) (x : Scene Ask Answer) (r : LockRule entries fixed_of fixed s x) (id : ℕ) (v : View Ask Answer Fixed) → get_elem? s.views id ≡ some v
-      → LockRule entries fixed_of fixed record { words = set s.words 2 (get_or s.words 2 0); homes = s.homes; views = set s.views id (looked (get_or s.words 2 0) v) } x
+  quiet_look : (s : State (Option V) (View Ask Answer Fixed)) (x : Scene Ask Answer) (r : LockRule entries fixed_of legal fixed s x) (id : ℕ) (v : View Ask Answer Fixed) → get_elem? s.views id ≡ some v
+      → LockRule entries fixed_of legal fixed record { words = set s.words 2 (get_or s.words 2 0); homes = s.homes; views = set s.views id (looked (get_or s.words 2 0) v) } x
   quiet_look s x r id v at =
       let n : ℕ = get_or s.words 2 0 in
       let is : n ≡ x.served = ap (λ (ws : List ℕ). get_or ws 2 0) r.words in
-      quiet entries fixed_of fixed s x r id v (looked n v) at (set s.words 2 n) (ap (λ (ws : List ℕ). set ws 2 (get_or ws 2 0)) r.words) refl
+      quiet entries fixed_of legal fixed s x r id v (looked n v) at (set s.words 2 n) (ap (λ (ws : List ℕ). set ws 2 (get_or ws 2 0)) r.words) refl
       (stands_looked x id v n (omega arith) v.kind (r.each id v at))
 
-  pub looks : (slots id : ℕ) (m : Me (Option V) (View Ask Answer Fixed)) → Allows (LockHolds entries fixed_of fixed) slots id m 2 (λ n. n) (Looks m)
+  pub looks : (slots id : ℕ) (m : Me (Option V) (View Ask Answer Fixed)) → Allows (LockHolds entries fixed_of legal fixed) slots id m 2 (λ n. n) (Looks legal m)
   looks slots id m s law wide at _ =
       let x : Scene Ask Answer = law.0 in
-      let r : LockRule entries fixed_of fixed s x = law.1 in
+      let r : LockRule entries fixed_of legal fixed s x = law.1 in
       let v : View Ask Answer Fixed = m.0 in
       let n : ℕ = get_or s.words 2 0 in
       let is : n ≡ x.served = ap (λ (ws : List ℕ). get_or ws 2 0) r.words in
@@ -76,11 +76,11 @@ module _ {Ask Answer Fixed V : Type 0} (entries : V → List (ChronicleEntry Ask
         keeps,
         tt,
         (x, quiet_look s x r id v at),
-        record { after = refl; below = subst (λ (k : ℕ). k < greatest) (sym is) below; learns = shows s x r id v v.kind (r.each id v at); both = shows_both x id v v.kind (r.each id v at) },
+        record { after = refl; below = subst (λ (k : ℕ). k < greatest) (sym is) below; learns = shows s x r id v v.kind (r.each id v at); both = shows_both x id v v.kind (r.each id v at); low = let le : v.low ≤ x.served = low_of fixed x id v (r.each id v at) in omega arith; sees = legal_of fixed x id v legal r.beginnings (r.each id v at) },
       )
 
   -- The pass has the next ticket, so the value is at home
-  free_at : (s : State (Option V) (View Ask Answer Fixed)) (x : Scene Ask Answer) (r : LockRule entries fixed_of fixed s x) (id : ℕ) (v : View Ask Answer Fixed) → get_elem? s.views id ≡ some v → v.stage ≡ Waiting x.served → x.owner x.served ≡ id
+  free_at : (s : State (Option V) (View Ask Answer Fixed)) (x : Scene Ask Answer) (r : LockRule entries fixed_of legal fixed s x) (id : ℕ) (v : View Ask Answer Fixed) → get_elem? s.views id ≡ some v → v.stage ≡ Waiting x.served → x.owner x.served ≡ id
       → (b : Bool) → x.taken ≡ b → x.taken ≡ false
   free_at s x r id v at stage owned true e =
       let t = r.turn e in
@@ -90,16 +90,22 @@ module _ {Ask Answer Fixed V : Type 0} (entries : V → List (ChronicleEntry Ask
   free_at s x r id v at stage owned false e = e
 
   -- the value, when nobody is in turn
-  at_home : (s : State (Option V) (View Ask Answer Fixed)) (x : Scene Ask Answer) (r : LockRule entries fixed_of fixed s x) → x.taken ≡ false → IsHome entries fixed_of fixed s.homes x.history
+  at_home : (s : State (Option V) (View Ask Answer Fixed)) (x : Scene Ask Answer) (r : LockRule entries fixed_of legal fixed s x) → x.taken ≡ false → IsHome entries fixed_of fixed s.homes x.history
   at_home s x r free = subst (λ (b : Bool). Lies entries fixed_of fixed s.homes x.history b) free r.home
 
+  -- the value at home is legal
+  home_legal : (s : State (Option V) (View Ask Answer Fixed)) (x : Scene Ask Answer) (r : LockRule entries fixed_of legal fixed s x) (h : IsHome entries fixed_of fixed s.homes x.history) → IsLegalSoFar (legal (fixed_of h.value)) (entries h.value)
+  home_legal s x r h =
+      subst (λ (l : List (ChronicleEntry Ask Answer)). IsLegalSoFar (legal (fixed_of h.value)) l) (sym h.whole)
+      (subst (λ (f : Fixed). IsLegalSoFar (legal f) x.history) (sym h.same) (r.beginnings x.history (begins_refl x.history)))
+
   -- the new scene is y, and the seat stands in it with the turn
-  takes_turn : (s : State (Option V) (View Ask Answer Fixed)) (x : Scene Ask Answer) (r : LockRule entries fixed_of fixed s x) (id : ℕ) (v w : View Ask Answer Fixed) → get_elem? s.views id ≡ some v → v.kind ≡ Caller
+  takes_turn : (s : State (Option V) (View Ask Answer Fixed)) (x : Scene Ask Answer) (r : LockRule entries fixed_of legal fixed s x) (id : ℕ) (v w : View Ask Answer Fixed) → get_elem? s.views id ≡ some v → v.kind ≡ Caller
       → (h : IsHome entries fixed_of fixed s.homes x.history) (drawn : ℕ) (owner : ℕ → ℕ) → x.drawn ≤ drawn → drawn ≤ greatest → x.served < drawn → owner x.served ≡ id → ((t : ℕ) → t < x.drawn → owner t ≡ x.owner t)
       → ((t : ℕ) → x.drawn ≤ t → t < drawn → t ≡ x.served) → ((t : ℕ) → HasTicket t v → t ≡ x.served)
       → w ≡ record v { stage = Turn x.served; seen = entries h.value; low = w.low; high = w.high; looks = w.looks; tries = w.tries; draws = w.draws } → w.low ≤ x.served → w.high ≤ drawn
       → (ws : List ℕ) → ws ≡ length x.history ∷ drawn ∷ x.served ∷ [] → x.taken ≡ false
-      → LockHolds entries fixed_of fixed record { words = ws; homes = set s.homes 0 none; views = set s.views id w }
+      → LockHolds entries fixed_of legal fixed record { words = ws; homes = set s.homes 0 none; views = set s.views id w }
   takes_turn s x r id v w at caller h drawn owner more top next owned owners fresh only is low high ws words free =
       let so = as_caller fixed x id v (r.each id v at) caller in
       let y : Scene Ask Answer = record { history = x.history; drawn = drawn; served = x.served; taken = true; owner = owner; holder = x.holder; retired = x.retired } in
@@ -151,18 +157,21 @@ module _ {Ask Answer Fixed V : Type 0} (entries : V → List (ChronicleEntry Ask
               (sits_after (HasTicket t) (HasTicket t) s.views id v w at (λ p. absurd (ne (only t p))) (λ u p. p) (x.owner t) (r.tickets t a old c)));
           gone = r.gone;
           strangers = r.strangers;
+          beginnings = r.beginnings;
           each = all_after fixed x y s.views id w m (subst (λ (u : View Ask Answer Fixed). Stands fixed y id u) (sym is) here) r.each;
         },
       )
 
-  pub awaits : (slots id : ℕ) (m : Me (Option V) (View Ask Answer Fixed)) (t : ℕ) → m.0.kind ≡ Caller → m.0.stage ≡ Waiting t → Allows (LockHolds entries fixed_of fixed) slots id m 2 (λ n. n) (Awaits entries fixed_of m)
+  pub awaits : (slots id : ℕ) (m : Me (Option V) (View Ask Answer Fixed)) (t : ℕ) → m.0.kind ≡ Caller → m.0.stage ≡ Waiting t → Allows (LockHolds entries fixed_of legal fixed) slots id m 2 (λ n. n) (Awaits entries fixed_of legal m)
   awaits slots id m t caller stage s law wide at _ =
       let x : Scene Ask Answer = law.0 in
-      let r : LockRule entries fixed_of fixed s x = law.1 in
+      let r : LockRule entries fixed_of legal fixed s x = law.1 in
       let v : View Ask Answer Fixed = m.0 in
       let n : ℕ = get_or s.words 2 0 in
       let is : n ≡ x.served = ap (λ (ws : List ℕ). get_or ws 2 0) r.words in
       let so = as_caller fixed x id v (r.each id v at) caller in
+      let below_it : v.low ≤ x.served = so.0.low in
+      let least : v.low ≤ n = omega arith in
       let ticket : IsTicket x id t = subst (λ (st : Stage). AtStage x id v.seen st) stage so.1.stage in
       dite (ℕ_discrete n t)
       (λ hit.
@@ -188,8 +197,10 @@ module _ {Ask Answer Fixed V : Type 0} (entries : V → List (ChronicleEntry Ask
             goes_on = begins_along x.history (entries h.value) v.seen v.seen (sym h.whole) refl so.0.seen;
             own = ap (λ (l : List (ChronicleEntry Ask Answer)). of l v.number) h.whole ∙ so.1.mine;
             same = so.0.fixed_is ∙ ap (λ (f : Fixed). Some f) (sym h.same);
+            is_legal = home_legal s x r h;
           };
           miss = λ no'. absurd (no' (stage ∙ ap (λ (k : ℕ). Waiting k) (sym hit)));
+          low = least;
         },
       ))
       (λ miss. (
@@ -197,13 +208,13 @@ module _ {Ask Answer Fixed V : Type 0} (entries : V → List (ChronicleEntry Ask
         keeps,
         tt,
         (x, quiet_look s x r id v at),
-        record { hit = λ e. absurd (miss (cc (e, stage))); miss = λ _. refl },
+        record { hit = λ e. absurd (miss (cc (e, stage))); miss = λ _. refl; low = least },
       ))
 
   -- the next ticket was drawn, and its owner waits
-  drawn_on : (s : State (Option V) (View Ask Answer Fixed)) (x : Scene Ask Answer) (r : LockRule entries fixed_of fixed s x) (id : ℕ) (v : View Ask Answer Fixed) → get_elem? s.views id ≡ some v → v.kind ≡ Caller → v.stage ≡ Idle
+  drawn_on : (s : State (Option V) (View Ask Answer Fixed)) (x : Scene Ask Answer) (r : LockRule entries fixed_of legal fixed s x) (id : ℕ) (v : View Ask Answer Fixed) → get_elem? s.views id ≡ some v → v.kind ≡ Caller → v.stage ≡ Idle
       → (d : ℕ) → x.drawn ≡ d → d < greatest → (ws : List ℕ) → ws ≡ length x.history ∷ (d + 1) ∷ x.served ∷ []
-      → LockHolds entries fixed_of fixed record { words = ws; homes = s.homes; views = set s.views id (waiting d v) }
+      → LockHolds entries fixed_of legal fixed record { words = ws; homes = s.homes; views = set s.views id (waiting d v) }
   drawn_on s x r id v at caller idle d is room ws words =
       let so = as_caller fixed x id v (r.each id v at) caller in
       let w : View Ask Answer Fixed = waiting d v in
@@ -242,7 +253,7 @@ module _ {Ask Answer Fixed V : Type 0} (entries : V → List (ChronicleEntry Ask
           served = r.served;
           drawn = let g : d < greatest = room in omega arith;
           home = r.home;
-          turn = λ h. let below = turn_below entries fixed_of fixed s x r h in
+          turn = λ h. let below = turn_below entries fixed_of legal fixed s x r h in
               subst (λ (k : ℕ). Sits (set s.views id w) k (HasTurn x.served)) (sym (owners x.served below))
               (sits_after (HasTurn x.served) (HasTurn x.served) s.views id v w at (λ p. absurd (no_turn v v x.served idle p)) (λ u p. p) (x.owner x.served) (r.turn h));
           tickets = λ t a b c. dite (ℕ_discrete t d)
@@ -252,15 +263,16 @@ module _ {Ask Answer Fixed V : Type 0} (entries : V → List (ChronicleEntry Ask
               (sits_after (HasTicket t) (HasTicket t) s.views id v w at (λ p. absurd (no_ticket v v t idle p)) (λ u p. p) (x.owner t) (r.tickets t a old c)));
           gone = r.gone;
           strangers = r.strangers;
+          beginnings = r.beginnings;
           each = all_after fixed x y s.views id w m here r.each;
         },
       )
 
   pub draws : (slots id : ℕ) (m : Me (Option V) (View Ask Answer Fixed)) (d : ℕ) → m.0.kind ≡ Caller → m.0.stage ≡ Idle → d < greatest
-      → Allows (LockHolds entries fixed_of fixed) slots id m 1 (λ n. either (eqb n d) (d + 1) n) (Draws d m)
+      → Allows (LockHolds entries fixed_of legal fixed) slots id m 1 (λ n. either (eqb n d) (d + 1) n) (Draws d m)
   draws slots id m d caller idle room s law wide at _ =
       let x : Scene Ask Answer = law.0 in
-      let r : LockRule entries fixed_of fixed s x = law.1 in
+      let r : LockRule entries fixed_of legal fixed s x = law.1 in
       let v : View Ask Answer Fixed = m.0 in
       let n : ℕ = get_or s.words 1 0 in
       let is : n ≡ x.drawn = ap (λ (ws : List ℕ). get_or ws 1 0) r.words in
@@ -276,20 +288,20 @@ module _ {Ask Answer Fixed V : Type 0} (entries : V → List (ChronicleEntry Ask
         v,
         keeps,
         tt,
-        (x, quiet entries fixed_of fixed s x r id v v at (set s.words 1 n) (ap (λ (ws : List ℕ). set ws 1 (get_or ws 1 0)) r.words) refl (r.each id v at)),
+        (x, quiet entries fixed_of legal fixed s x r id v v at (set s.words 1 n) (ap (λ (ws : List ℕ). set ws 1 (get_or ws 1 0)) r.words) refl (r.each id v at)),
         record { hit = λ e. absurd (miss e); miss = λ _. refl },
       ))
 
   -- the next ticket is also the next that is served: nobody is in turn
-  idle_home : (s : State (Option V) (View Ask Answer Fixed)) (x : Scene Ask Answer) (r : LockRule entries fixed_of fixed s x) → x.served ≡ x.drawn → (b : Bool) → x.taken ≡ b → x.taken ≡ false
-  idle_home s x r is true e = let below = turn_below entries fixed_of fixed s x r e in absurd (omega arith)
+  idle_home : (s : State (Option V) (View Ask Answer Fixed)) (x : Scene Ask Answer) (r : LockRule entries fixed_of legal fixed s x) → x.served ≡ x.drawn → (b : Bool) → x.taken ≡ b → x.taken ≡ false
+  idle_home s x r is true e = let below = turn_below entries fixed_of legal fixed s x r e in absurd (omega arith)
   idle_home s x r is false e = e
 
   pub tries : (slots id : ℕ) (m : Me (Option V) (View Ask Answer Fixed)) (d : ℕ) → m.0.kind ≡ Caller → m.0.stage ≡ Idle → m.0.low ≡ d → d < greatest
-      → Allows (LockHolds entries fixed_of fixed) slots id m 1 (λ n. either (eqb n d) (d + 1) n) (Tries entries fixed_of d m)
+      → Allows (LockHolds entries fixed_of legal fixed) slots id m 1 (λ n. either (eqb n d) (d + 1) n) (Tries entries fixed_of legal d m)
   tries slots id m d caller idle low room s law wide at _ =
       let x : Scene Ask Answer = law.0 in
-      let r : LockRule entries fixed_of fixed s x = law.1 in
+      let r : LockRule entries fixed_of legal fixed s x = law.1 in
       let v : View Ask Answer Fixed = m.0 in
       let n : ℕ = get_or s.words 1 0 in
       let is : n ≡ x.drawn = ap (λ (ws : List ℕ). get_or ws 1 0) r.words in
@@ -297,7 +309,7 @@ module _ {Ask Answer Fixed V : Type 0} (entries : V → List (ChronicleEntry Ask
       let least : v.low ≤ x.served = so.0.low in
       let order : x.served ≤ x.drawn = r.order in
       let high : v.high ≤ x.drawn = so.0.high in
-      exchanged n d (d + 1) (Goes s 1 id m (Tries entries fixed_of d m n))
+      exchanged n d (d + 1) (Goes s 1 id m (Tries entries fixed_of legal d m n))
       (λ hit.
       let all : x.served ≡ d = omega arith in
       let same : x.drawn ≡ d = sym is ∙ hit in
@@ -321,6 +333,7 @@ module _ {Ask Answer Fixed V : Type 0} (entries : V → List (ChronicleEntry Ask
             goes_on = begins_along x.history (entries h.value) v.seen v.seen (sym h.whole) refl so.0.seen;
             own = ap (λ (l : List (ChronicleEntry Ask Answer)). of l v.number) h.whole ∙ so.1.mine;
             same = so.0.fixed_is ∙ ap (λ (f : Fixed). Some f) (sym h.same);
+            is_legal = home_legal s x r h;
           };
           miss = λ differs. absurd (differs hit);
         },
@@ -332,6 +345,6 @@ module _ {Ask Answer Fixed V : Type 0} (entries : V → List (ChronicleEntry Ask
         tried n v,
         keeps,
         tt,
-        (x, quiet entries fixed_of fixed s x r id v (tried n v) at (set s.words 1 n) (ap (λ (ws : List ℕ). set ws 1 (get_or ws 1 0)) r.words) refl here),
+        (x, quiet entries fixed_of legal fixed s x r id v (tried n v) at (set s.words 1 n) (ap (λ (ws : List ℕ). set ws 1 (get_or ws 1 0)) r.words) refl here),
         record { hit = λ e. absurd (miss e); miss = λ _. (refl, (let lower : d ≤ n = omega arith in let differs : n ≢ d = miss in omega arith)) },
       ))

@@ -1,5 +1,5 @@
 -- Histories: which entries are a caller's, and what it means that one goes on from another. Our profile.
-use Rattle.std.specs.Prelude.{◌≡◌, ℕ, ◌==◌, nat_le, List, [], ◌∷◌, ◌++◌, length, cond, Option, Some, None, suc}
+use Rattle.std.specs.Prelude.{◌≡◌, ◌≢◌, ℕ, ◌==◌, nat_le, List, [], ◌∷◌, ◌++◌, length, cond, Option, Some, None, suc}
 use Rattle.std.specs.List.{filter}
 use Rattle.drmaa_types.specs.declared.chronicles.ChronicleEntry.{ChronicleEntry}
 
@@ -11,6 +11,10 @@ of entries number = filter (λ e. e.caller.0 == number) entries
 pub record BeginsWith {A : Type 0} (list start : List A) : Type 0 where
   pub rest : List A
   pub whole : list ≡ start ++ rest
+
+-- the list is legal, unless it is empty
+pub record IsLegalSoFar {A : Type 0} (legal : List A → Type 0) (list : List A) : Type 0 where
+  pub holds : list ≢ [] → legal list
 
 -- the longer of two lists
 abbrev pub longer : {A : Type 0} → List A → List A → List A

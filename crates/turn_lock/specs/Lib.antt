@@ -4,3 +4,4 @@ pub mod Rule
 pub mod Plays
 pub mod Tokens
 pub mod Seats
+pub mod Owners

@@ -10,7 +10,7 @@ use Rattle.turn_lock.specs.declared.views.Kind.{Kind}
 use Rattle.turn_lock.specs.declared.views.Stage.{Stage}
 use Rattle.turn_lock.specs.declared.views.Kind.TheVariants.{Spent, Note, Opener, Caller}
 use Rattle.turn_lock.specs.declared.views.Stage.TheVariants.{Idle, Waiting, Turn}
-use Rattle.turn_lock.specs.Histories.{of, BeginsWith, left_of}
+use Rattle.turn_lock.specs.Histories.{of, BeginsWith, IsLegalSoFar, left_of}
 
 -- no count of tickets is above it
 abbrev pub greatest : ℕ
@@ -59,6 +59,12 @@ module _ {Ask Answer Fixed : Type 0} where
     pub low : v.low ≤ c.served
     pub high : v.high ≤ c.drawn
 
+  -- a spent view has no ticket, and no fixed part
+  pub record StandsAsSpent (c : Scene Ask Answer) (v : View Ask Answer Fixed) : Type 0 where
+    pub idle : v.stage ≡ Idle
+    pub nothing : v.fixed ≡ None
+    pub low : v.low ≤ c.served
+
   -- a note has no ticket and no entries of its own
   pub record StandsAsNote (v : View Ask Answer Fixed) : Type 0 where
     pub idle : v.stage ≡ Idle
@@ -81,7 +87,7 @@ module _ {Ask Answer Fixed : Type 0} where
     pub stage : AtStage c seat v.seen v.stage
 
   abbrev pub StandsAs : Fixed → Scene Ask Answer → ℕ → View Ask Answer Fixed → Kind → Type 0
-  StandsAs fixed c seat v Spent = v.stage ≡ Idle
+  StandsAs fixed c seat v Spent = StandsAsSpent c v
   StandsAs fixed c seat v Note = Knows fixed c v × StandsAsNote v
   StandsAs fixed c seat v Opener = Knows fixed c v × StandsAsOpener c seat v
   StandsAs fixed c seat v Caller = Knows fixed c v × StandsAsCaller c seat v
@@ -114,16 +120,18 @@ module _ {Ask Answer Fixed : Type 0} where
     Lies homes history true = homes ≡ none ∷ []
     Lies homes history false = IsHome homes history
 
+  module _ {V : Type 0} (entries : V → List (ChronicleEntry Ask Answer)) (fixed_of : V → Fixed) (legal : Fixed → List (ChronicleEntry Ask Answer) → Type 0) (fixed : Fixed) where
     pub record LockRule (s : State (Option V) (View Ask Answer Fixed)) (c : Scene Ask Answer) : Type 0 where
       pub words : s.words ≡ length c.history ∷ c.drawn ∷ c.served ∷ []
       pub order : c.served ≤ c.drawn
       pub served : c.served < greatest
       pub drawn : c.drawn ≤ greatest
-      pub home : Lies s.homes c.history c.taken
+      pub home : Lies entries fixed_of fixed s.homes c.history c.taken
       pub turn : c.taken ≡ true → Sits s.views (c.owner c.served) (HasTurn c.served)
       pub tickets : (ticket : ℕ) → c.served ≤ ticket → ticket < c.drawn → ticket ≢ last_ticket → Sits s.views (c.owner ticket) (HasTicket ticket)
       pub gone : (number : ℕ) (own : List (ChronicleEntry Ask Answer)) → slice_index_or c.retired number None ≡ Some own → of c.history number ≡ own
       pub strangers : (number : ℕ) → length c.retired ≤ number → of c.history number ≡ []
+      pub beginnings : (start : List (ChronicleEntry Ask Answer)) → BeginsWith c.history start → IsLegalSoFar (legal fixed) start
       pub each : (seat : ℕ) (v : View Ask Answer Fixed) → get_elem? s.views seat ≡ some v → Stands fixed c seat v
 
     -- the rule of the lock

@@ -6,7 +6,7 @@ ghost use Rattle.turn_lock.specs.declared.views.Stage.TheVariants.{Idle, Waiting
 ghost use Rattle.turn_lock.specs.Views.{opener, hiring, hired, note_of, learning, retiring, waiting, left};
 ghost use Rattle.turn_lock.specs.Rule.{greatest, last_ticket};
 ghost use Rattle.turn_lock.specs.Histories.{left_of};
-ghost use Rattle.turn_lock.specs.Plays.{in_hand, Looks, Awaits, Draws, Tries, Raises, Serves, Arrives, HasLeft};
+ghost use Rattle.turn_lock.specs.Plays.{in_hand, Looks, Awaits, Draws, Tries, Raises, Serves, Arrives, HasLeft, SeesLegal};
 
 use crate::order::Order;
 use crate::plays::{Attempt, Await, Copy, Draw, Hire, Learn, Look, Raise, Retire, Serve};
@@ -101,7 +101,7 @@ impl<V: Chronicle + Drop> Bench<V> {
     pub fn look(&self, seat: &mut Place<V>) -> u64
         requires { seat.old.table_id ≡ self.now.table.shared.table_id }
         ensures same { seat.new.table_id ≡ seat.old.table_id }
-        ensures looks { Looks seat.old.me result seat.new.me }
+        ensures looks { Looks V.legal seat.old.me result seat.new.me }
     {
         self.table.shared.load::<Look>(seat, SERVED)
     }
@@ -111,7 +111,7 @@ impl<V: Chronicle + Drop> Bench<V> {
         requires table { seat.old.table_id ≡ self.now.table.shared.table_id }
         requires seat { (seat.old.me.0.kind ≡ Caller) × (seat.old.me.0.stage ≡ Waiting ticket) }
         ensures same { seat.new.table_id ≡ seat.old.table_id }
-        ensures awaits { Awaits V.entries V.fixed seat.old.me result seat.new.me }
+        ensures awaits { Awaits V.entries V.fixed V.legal seat.old.me result seat.new.me }
     {
         let _ = ticket;
         self.table.shared.load::<Await>(seat, SERVED)
@@ -137,7 +137,7 @@ impl<V: Chronicle + Drop> Bench<V> {
         requires low { seat.old.me.0.low ≡ ticket }
         requires room { ticket < greatest }
         ensures same { seat.new.table_id ≡ seat.old.table_id }
-        ensures tries { Tries V.entries V.fixed ticket seat.old.me result seat.new.me }
+        ensures tries { Tries V.entries V.fixed V.legal ticket seat.old.me result seat.new.me }
     {
         self.table
             .shared
@@ -166,7 +166,7 @@ impl<V: Chronicle + Drop> Bench<V> {
         requires table { seat.old.table_id ≡ self.now.table.shared.table_id }
         requires seat { (seat.old.me.0.kind ≡ Caller) × (seat.old.me.0.stage ≡ Waiting ticket) }
         ensures same { seat.new.table_id ≡ seat.old.table_id }
-        ensures arrives { Arrives V.entries V.fixed ticket seat.old.me seat.new.me }
+        ensures arrives { Arrives V.entries V.fixed V.legal ticket seat.old.me seat.new.me }
     {
         for _ in rt.forever() {
             let served = self.await_turn(seat, ticket);
@@ -203,6 +203,7 @@ impl<V: Chronicle + Drop> Bench<V> {
         requires seat { (seat.old.me.0.kind ≡ Caller) × ((t : ℕ) × (seat.old.me.0.stage ≡ Turn t)) }
         requires adds { (entry : ChronicleEntry V.Ask V.Answer) × (in_hand V.entries seat.old.me.1 ≡ seat.old.me.0.seen ++ entry ∷ []) × (entry.caller.0 ≡ seat.old.me.0.number) }
         requires short { length (in_hand V.entries seat.old.me.1) < 2 ^ 64 }
+        requires legal { V.legal (V.fixed self.now.table.shared.key.value) (in_hand V.entries seat.old.me.1) }
         ensures same { seat.new.table_id ≡ seat.old.table_id }
         ensures raises { Raises V.entries seat.old.me seat.new.me }
     {
@@ -215,7 +216,7 @@ impl<V: Chronicle + Drop> Bench<V> {
         requires seat { (seat.old.me.0.kind ≡ Caller) × (seat.old.me.0.stage ≡ Turn ticket) }
         requires hand { (value : V) × (seat.old.me.1 ≡ (0, Some value) ∷ []) × (V.entries value ≡ seat.old.me.0.seen) × (V.fixed value ≡ V.fixed self.now.table.shared.key.value) }
         ensures same { seat.new.table_id ≡ seat.old.table_id }
-        ensures serves { Serves seat.old.me seat.new.me }
+        ensures serves { Serves V.legal seat.old.me seat.new.me }
     {
         let step = step_after(ticket);
         self.table.shared.fetch_add::<Serve>(seat, SERVED, step);
@@ -228,7 +229,8 @@ impl<V: Chronicle + Drop> Bench<V> {
         requires seat { (seat.old.me.0.kind ≡ Caller) × (seat.old.me.0.stage ≡ Turn ticket) }
         requires hand { seat.old.me.1 ≡ (0, None) ∷ [] }
         requires value { (V.entries value ≡ seat.old.me.0.seen) × (V.fixed value ≡ V.fixed self.now.table.shared.key.value) }
-        ensures { (seat.new.table_id ≡ seat.old.table_id) × (seat.new.me ≡ (left seat.old.me.0, [])) }
+        ensures same { (seat.new.table_id ≡ seat.old.table_id) × (seat.new.me ≡ (left seat.old.me.0, [])) }
+        ensures sees { SeesLegal V.legal seat.old.me.0 }
     {
         self.put(seat, value);
         self.serve(seat, ticket);
@@ -239,7 +241,7 @@ impl<V: Chronicle + Drop> Bench<V> {
         requires table { seat.table_id ≡ self.table.shared.table_id }
         requires kind { seat.me.0.kind ≡ Opener }
         requires none_left { left_of seat.me.0.retired ≡ 0 }
-        ensures { HasLeft V.entries V.fixed (V.fixed self.table.shared.key.value) seat.me.0 result }
+        ensures { HasLeft V.entries V.fixed V.legal (V.fixed self.table.shared.key.value) seat.me.0 result }
     {
         let mut closed = self.table.close_with(seat);
         let value = closed.take(0);

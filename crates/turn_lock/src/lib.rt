@@ -3,6 +3,7 @@
 #![tactic(auto)]
 
 mod bench;
+mod laws;
 mod locks;
 mod openers;
 mod order;
@@ -14,6 +15,7 @@ mod turns;
 mod views;
 
 pub use drmaa_types::{CallerId, Chronicle, ChronicleEntry};
+pub use laws::no_two_turns;
 pub use locks::TurnLock;
 pub use openers::Opener;
 pub use passes::{NotePass, Pass};

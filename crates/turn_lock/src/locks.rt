@@ -1,6 +1,6 @@
 //! The lock: it makes itself and its opener, lets passes in, and is closed at the end.
-ghost use Rattle.std.specs.Prelude.{◌≡◌, ℕ, ◌<◌, [], Some, IfOk, IfErr, OnErr};
-ghost use Rattle.turn_lock.specs.Histories.{of, left_of};
+ghost use Rattle.std.specs.Prelude.{◌≡◌, ℕ, ◌<◌, ◌≤◌, [], Some, IfOk, IfErr, OnErr};
+ghost use Rattle.turn_lock.specs.Histories.{of, IsLegalSoFar, left_of};
 ghost use Rattle.turn_lock.specs.Views.{opener, note_of, looked, granted, entered};
 ghost use Rattle.turn_lock.specs.Plays.{HasLeft};
 ghost use Rattle.turn_lock.specs.Tokens.{Token, Named, BelongsTo, IsFree, Learns, FindsBusy, Enters, Together};
@@ -60,11 +60,13 @@ impl<V: Chronicle + Drop> TurnLock<V> {
         NotePass { seat }
     }
 
-    /// Lets the pass, which holds no turn, know what the note says. It takes no memory.
+    /// Lets the pass, which holds no turn, know what the note says. What it has then seen is legal, or empty. It takes no memory.
     pub fn learn(&self, pass: &mut Pass<V>, note: NotePass<V>)
         requires pass { IsFree self.now pass.old }
         requires note { BelongsTo self.now note }
         ensures learns { Learns pass.old note pass.new }
+        ensures legal { IsLegalSoFar (V.legal self.now.fixed) pass.new.view.seen }
+        ensures low { pass.old.view.low ≤ pass.new.view.low }
         ensures free { IsFree self.now pass.new }
     {
         let NotePass { seat } = note;
@@ -72,12 +74,15 @@ impl<V: Chronicle + Drop> TurnLock<V> {
         self.bench.look(&mut pass.seat);
     }
 
-    /// Waits for the turn. The value's list goes on from what the pass had seen, by entries of others alone, and the pass has then seen it. It takes no memory.
+    /// Waits for the turn. The value's list goes on from what the pass had seen, by entries of others alone, and the pass has then seen it. The list is legal, or empty. It takes no memory.
     pub fn enter<R: Wait>(&self, rt: &R, pass: &mut Pass<V>) -> Turn<V>
         requires { IsFree self.now pass.old }
         ensures enters { Enters V.entries V.fixed self.now pass.old pass.new result }
         ensures view { pass.new.view ≡ entered result.ticket (V.entries result.value) pass.new.view.looks pass.old.view }
         ensures together { Together V.entries V.fixed self.now pass.new result }
+        ensures legal { IsLegalSoFar (V.legal self.now.fixed) pass.new.view.seen }
+        ensures low { pass.old.view.low ≤ pass.new.view.low }
+        ensures looked { pass.old.view.looks < pass.new.view.looks }
     {
         let ticket = self.bench.queue(rt, &mut pass.seat);
         self.bench.wait_turn(rt, &mut pass.seat, ticket);
@@ -90,7 +95,7 @@ impl<V: Chronicle + Drop> TurnLock<V> {
         }
     }
 
-    /// As `enter`, without waiting. `Busy` says that another ticket was drawn that was not served. It takes no memory.
+    /// As `enter`, without waiting. `Busy` says that another ticket was drawn that was not served. Each reading of the tickets served is at least the one before. It takes no memory.
     pub fn try_enter(&self, pass: &mut Pass<V>) -> Result<Turn<V>, Busy>
         requires { IsFree self.now pass.old }
         ensures enters { IfOk result (λ turn. Enters V.entries V.fixed self.now pass.old pass.new turn) }
@@ -99,6 +104,8 @@ impl<V: Chronicle + Drop> TurnLock<V> {
         ensures busy { IfErr result (λ busy. FindsBusy pass.old pass.new busy.served busy.drawn) }
         ensures free { OnErr result (IsFree self.now pass.new) }
         ensures own { OnErr result (of pass.new.view.seen pass.new.view.number ≡ pass.new.view.mine) }
+        ensures legal { IsLegalSoFar (V.legal self.now.fixed) pass.new.view.seen }
+        ensures low { pass.old.view.low ≤ pass.new.view.low }
     {
         let served = self.bench.look(&mut pass.seat);
         let drawn = self.bench.attempt(&mut pass.seat, served);
@@ -114,11 +121,11 @@ impl<V: Chronicle + Drop> TurnLock<V> {
         })
     }
 
-    /// The value, when every pass is retired: its list begins with what the opener had seen, has for each pass exactly its entries, and has no entry of another number. It takes no memory.
+    /// The value, when every pass is retired: its list begins with what the opener had seen, has for each pass exactly its entries, and has no entry of another number. It is legal, or empty. It takes no memory.
     pub fn close(self, opener: Opener<V>) -> V
         requires belongs { BelongsTo self opener }
         requires none_left { left_of opener.view.retired ≡ 0 }
-        ensures { HasLeft V.entries V.fixed self.fixed opener.view result }
+        ensures { HasLeft V.entries V.fixed V.legal self.fixed opener.view result }
     {
         let TurnLock { bench } = self;
         let Opener {

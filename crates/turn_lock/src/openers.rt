@@ -1,6 +1,6 @@
 //! The opener gives passes out and takes them back.
 ghost use Rattle.std.specs.Prelude.{◌≡◌, ℕ, ◌<◌, ◌≤◌, length, []};
-ghost use Rattle.turn_lock.specs.Histories.{of, left_of};
+ghost use Rattle.turn_lock.specs.Histories.{of, IsLegalSoFar, left_of};
 ghost use Rattle.turn_lock.specs.Views.{hiring, hired};
 ghost use Rattle.turn_lock.specs.Tokens.{Token, Named, BelongsTo, IsFree, Retires};
 
@@ -49,12 +49,14 @@ impl<V: Chronicle + Drop> Opener<V> {
         Pass { seat, number }
     }
 
-    /// Takes a pass back, that holds no turn. The opener has then seen what the pass had seen, and has its entries. It takes no memory.
+    /// Takes a pass back, that holds no turn. The opener has then seen what the pass had seen, which is legal or empty, and has its entries. It takes no memory.
     pub fn retire(&mut self, lock: &TurnLock<V>, pass: Pass<V>)
         requires belongs { BelongsTo lock.now self.old }
         requires pass { IsFree lock.now pass }
         ensures retires { Retires self.old pass self.new }
         ensures belongs { BelongsTo lock.now self.new }
+        ensures legal { IsLegalSoFar (V.legal lock.now.fixed) self.new.view.seen }
+        ensures low { self.old.view.low ≤ self.new.view.low }
     {
         let Pass { seat, number: _ } = pass;
         lock.bench.retire(&mut self.seat, seat);

@@ -15,7 +15,7 @@ pub struct Order<V> {
 
 impl<V: Chronicle> TableRule<Option<V>, View<V::Ask, V::Answer, V::Fixed>, Snapshot<V>>
     for Order<V> {
-    ghost holds = { λ key. LockHolds V.entries V.fixed (V.fixed key.value) };
+    ghost holds = { λ key. LockHolds V.entries V.fixed V.legal (V.fixed key.value) };
 
     ghost first = { λ key. opener (V.fixed key.value) };
 }

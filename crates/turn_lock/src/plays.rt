@@ -10,14 +10,14 @@ use drmaa_types::Chronicle;
 pub struct Look;
 
 impl<V: Chronicle> Play<Option<V>, View<V::Ask, V::Answer, V::Fixed>> for Look {
-    ghost then = { λ s m n w. Looks m n w };
+    ghost then = { λ s m n w. Looks V.legal m n w };
 }
 
 /// A reading of the tickets served, by a seat that waits for its turn.
 pub struct Await;
 
 impl<V: Chronicle> Play<Option<V>, View<V::Ask, V::Answer, V::Fixed>> for Await {
-    ghost then = { λ s m n w. Awaits V.entries V.fixed m n w };
+    ghost then = { λ s m n w. Awaits V.entries V.fixed V.legal m n w };
 }
 
 /// A try to draw the next ticket, by a seat that will wait.
@@ -31,7 +31,7 @@ impl<V: Chronicle> Play<Option<V>, View<V::Ask, V::Answer, V::Fixed>> for Draw {
 pub struct Attempt;
 
 impl<V: Chronicle> Play<Option<V>, View<V::Ask, V::Answer, V::Fixed>> for Attempt {
-    ghost then = { λ s m n w. Tries V.entries V.fixed s.first m n w };
+    ghost then = { λ s m n w. Tries V.entries V.fixed V.legal s.first m n w };
 }
 
 /// The length of the history rises to that of the value in hand.
@@ -45,7 +45,7 @@ impl<V: Chronicle> Play<Option<V>, View<V::Ask, V::Answer, V::Fixed>> for Raise 
 pub struct Serve;
 
 impl<V: Chronicle> Play<Option<V>, View<V::Ask, V::Answer, V::Fixed>> for Serve {
-    ghost then = { λ s m n w. Serves m w };
+    ghost then = { λ s m n w. Serves V.legal m w };
 }
 
 /// The opener opens a pass.

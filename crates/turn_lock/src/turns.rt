@@ -1,6 +1,6 @@
 //! A turn: the value, for as long as one pass has it.
 ghost use Rattle.std.specs.Prelude.{◌≡◌, ℕ, [], ◌∷◌, ◌++◌, Some, IfOk, IfErr, OnErr};
-ghost use Rattle.turn_lock.specs.Histories.{of};
+ghost use Rattle.turn_lock.specs.Histories.{of, IsLegalSoFar};
 ghost use Rattle.turn_lock.specs.Views.{acted, left};
 ghost use Rattle.turn_lock.specs.Tokens.{Token, Named, Held, IsFree, Together, entry_of};
 
@@ -88,6 +88,7 @@ impl<V: Chronicle + Drop> Turn<V> {
     pub fn leave(self, lock: &TurnLock<V>, pass: &mut Pass<V>)
         requires { Together V.entries V.fixed lock.now pass.old self }
         ensures pass { pass.new ≡ record { lock = pass.old.lock; view = left pass.old.view } }
+        ensures legal { IsLegalSoFar (V.legal lock.now.fixed) pass.new.view.seen }
         ensures own { of pass.new.view.seen pass.new.view.number ≡ pass.new.view.mine }
         ensures free { IsFree lock.now pass.new }
     {

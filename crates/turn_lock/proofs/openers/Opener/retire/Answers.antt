@@ -4,7 +4,7 @@ use Rattle.turn_lock.proofs.openers.Opener.retire.Goals as goal
 
 pub returns-clause-retires : goal.returns-clause-retires
 returns-clause-retires g c =
-    let took = took_back c.self.inside.seat c.retire.new.seat c.pass.inside.seat c.look.new.seat c.self.inside.next c.self.inside.gone c.look.result c.self.invariant c.retire.ensures.1 c.look.ensures.looks in
+    let took = took_back g.V.Chronicle.legal c.self.inside.seat c.retire.new.seat c.pass.inside.seat c.look.new.seat c.self.inside.next c.self.inside.gone c.look.result c.self.invariant c.retire.ensures.1 c.look.ensures.looks in
     rw (← c.self.view_is, ← c.pass.view_is) record {
       lock = c.look.ensures.same ∙ c.retire.ensures.0;
       view = took.view;
