@@ -1,5 +1,5 @@
 -- The laws of filters: a line for each item.
-use Rattle.std.proofs.Common.{◌≡◌, ℕ, ◌^◌, true, List, codes, refl}
+use Rattle.std.proofs.Common.{◌^◌, codes, refl}
 use Rattle.text_codec.specs.Formats.{number, moment}
 use Rattle.text_codec.specs.Fields.{AreFields, field, no_more}
 use Rattle.text_codec.specs.FieldLaws.{no_more_laws, field_laws}

@@ -1,15 +1,10 @@
 -- The laws of refusals: two lines for each.
-use Rattle.std.proofs.Common.{◌≡◌, ℕ, List, [], ◌∷◌, codes, refl}
-use Rattle.std.specs.Prelude.{◌++◌}
+use Rattle.std.proofs.Common.{[], codes, refl}
 use Rattle.drmaa_types.specs.declared.refusals.Refusal.{Refusal}
 use Rattle.drmaa_types.specs.declared.refusals.Refusal.TheVariants as refusal
-use Rattle.drmaa_types.specs.declared.refusals.Limit.{Limit}
-use Rattle.drmaa_types.specs.declared.refusals.Limit.TheVariants as limit
-use Rattle.text_codec.specs.Lexical.{IsClean}
 use Rattle.text_codec.specs.Formats.{IsFormat, moment}
 use Rattle.text_codec.specs.FormatLaws.{or_else_laws}
 use Rattle.text_codec.specs.BaseLaws.{moment_laws, moment_avoids}
-use Rattle.text_codec.specs.CleanLaws.{plain_clean}
 use Rattle.text_codec.specs.Sums.{sum_of, read_sum, IsArm, Stands}
 use Rattle.text_codec.specs.SumLaws.{alone_found, keyed_found, alone_stands, keyed_stands, sum_laws, sum_form}
 use Rattle.text_forms.specs.declared.refusals.RefusalWord.{RefusalWord}

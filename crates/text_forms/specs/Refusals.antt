@@ -1,5 +1,5 @@
 -- Refusals as they stand in a journal: our profile. The numbers 2 and 8, and the journal's own limit, never stand in an entry.
-use Rattle.std.specs.Prelude.{ℕ, Bool, true, false, List, [], ◌∷◌, ◌++◌, Option, codes}
+use Rattle.std.specs.Prelude.{ℕ, Bool, true, false, List, [], Option, codes}
 use Rattle.drmaa_types.specs.declared.refusals.Refusal.{Refusal}
 use Rattle.drmaa_types.specs.declared.refusals.Refusal.TheVariants as refusal
 use Rattle.text_codec.specs.Formats.{Format, moment, or_else}

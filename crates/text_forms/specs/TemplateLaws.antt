@@ -2,7 +2,7 @@
 use Rattle.std.proofs.Common.{◌≡◌, ℕ, ◌^◌, true, List, ◌∷◌, codes, refl}
 use Rattle.std.specs.List.{list_all}
 use Rattle.text_codec.specs.Formats.{IsFormat, number, moment}
-use Rattle.text_codec.specs.Fields.{AreFields, clear, field, flag, repeated, no_more, in_braces}
+use Rattle.text_codec.specs.Fields.{AreFields, clear, field, flag, repeated, no_more}
 use Rattle.text_codec.specs.FormatLaws.{mapped_laws, checked_laws}
 use Rattle.text_codec.specs.FieldLaws.{no_more_laws, field_laws, flag_laws, repeated_laws, in_braces_laws}
 use Rattle.text_codec.specs.Braces.{braces}

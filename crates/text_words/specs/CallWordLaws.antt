@@ -1,5 +1,5 @@
 -- Each word of a call stands in the table of calls, and is no other call's.
-use Rattle.std.proofs.Common.{◌≡◌, ℕ, List, Option, Some, refl}
+use Rattle.std.proofs.Common.{◌≡◌, Some, refl}
 use Rattle.text_codec.specs.Formats.{first_spelled}
 use Rattle.text_words.specs.declared.call_words.CallWord.{CallWord}
 use Rattle.text_words.specs.declared.call_words.CallWord.TheVariants as word

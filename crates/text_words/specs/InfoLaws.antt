@@ -1,17 +1,16 @@
 -- The laws of infos: a line for each field.
-use Rattle.std.proofs.Common.{◌≡◌, ℕ, ◌^◌, true, List, [], ◌∷◌, Option, codes, refl, ap}
+use Rattle.std.proofs.Common.{◌≡◌, ◌^◌, Option, codes, refl, ap}
 use Rattle.drmaa_types.specs.declared.identifiers.JobId.{JobId}
 use Rattle.drmaa_types.specs.declared.states.Note.{Note}
-use Rattle.drmaa_types.specs.declared.infos.JobInfo.{JobInfo}
 use Rattle.text_codec.specs.Formats.{IsFormat, number, moment}
-use Rattle.text_codec.specs.Fields.{AreFields, clear, field, always, no_more, in_braces}
+use Rattle.text_codec.specs.Fields.{AreFields, field, always, no_more, in_braces}
 use Rattle.text_codec.specs.FormatLaws.{mapped_laws}
 use Rattle.text_codec.specs.FieldLaws.{no_more_laws, field_laws, always_laws, in_braces_laws}
 use Rattle.text_codec.specs.BaseLaws.{text_laws, moment_laws, number_laws_64, number_laws_32}
 use Rattle.text_codec.specs.Quotes.{text}
 use Rattle.text_words.specs.Numbers.{job_id, array_id, reservation_id, exit}
 use Rattle.text_words.specs.NumberLaws.{job_id_laws, array_id_laws, reservation_id_laws, exit_laws}
-use Rattle.text_words.specs.Words.{state_form, note_form, make_note, note_part}
+use Rattle.text_words.specs.Words.{state_form, note_form}
 use Rattle.text_words.specs.WordLaws.{state_laws, note_laws, note_of, note_there}
 use Rattle.text_words.specs.Infos.{Names, end_fields, time_fields, stand_fields, name_fields, end_parts, time_parts, stand_parts, name_parts, make_info, info_parts, job_info, booked_part, booked_fields, make_booked, booked_parts, reservation_info}
 

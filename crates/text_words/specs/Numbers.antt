@@ -1,5 +1,5 @@
 -- The numbers that name things, and how a job ended: our profile.
-use Rattle.std.specs.Prelude.{ℕ, ◌^◌, Bool, true, false, List, Option, Some, None, codes}
+use Rattle.std.specs.Prelude.{ℕ, ◌^◌, Bool, true, false, codes}
 use Rattle.drmaa_types.specs.declared.identifiers.JobId.{JobId}
 use Rattle.drmaa_types.specs.declared.identifiers.ArrayId.{ArrayId}
 use Rattle.drmaa_types.specs.declared.identifiers.ReservationId.{ReservationId}

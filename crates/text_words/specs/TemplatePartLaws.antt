@@ -1,8 +1,8 @@
 -- The laws of the parts of templates.
-use Rattle.std.proofs.Common.{◌≡◌, ℕ, ◌^◌, List, Option, Some, None, codes, refl}
+use Rattle.std.proofs.Common.{◌≡◌, ℕ, ◌^◌, Option, Some, None, codes, refl}
 use Rattle.job_template.specs.declared.templates.Start.{Start}
 use Rattle.job_template.specs.declared.templates.Start.TheVariants.{At, Now}
-use Rattle.text_codec.specs.Formats.{IsFormat, number, moment, pair, or_else}
+use Rattle.text_codec.specs.Formats.{IsFormat, number, moment, pair}
 use Rattle.text_codec.specs.FormatLaws.{pair_laws, mapped_laws, or_else_laws}
 use Rattle.text_codec.specs.BaseLaws.{text_laws, moment_laws, moment_avoids, number_laws_64}
 use Rattle.text_codec.specs.Quotes.{text}

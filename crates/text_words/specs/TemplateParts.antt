@@ -1,5 +1,5 @@
 -- The parts of templates that have a form of their own: our profile.
-use Rattle.std.specs.Prelude.{ℕ, ◌^◌, List, Option, Some, None, codes}
+use Rattle.std.specs.Prelude.{ℕ, ◌^◌, Option, Some, None, codes}
 use Rattle.job_template.specs.declared.templates.Pair.{Pair}
 use Rattle.job_template.specs.declared.templates.ResourceLimit.{ResourceLimit}
 use Rattle.job_template.specs.declared.templates.Start.{Start}

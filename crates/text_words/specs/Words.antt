@@ -1,6 +1,5 @@
 -- The words of scripts and journals: each value with its one spelling.
-use Rattle.std.specs.Prelude.{ℕ, Bool, true, false, List, [], ◌∷◌, Option, Some, None, codes}
-use Rattle.std.specs.Str.{bytes_eq}
+use Rattle.std.specs.Prelude.{ℕ, Bool, true, false, List, [], Option, Some, None, codes}
 use Rattle.drmaa_types.specs.declared.states.JobState.{JobState}
 use Rattle.drmaa_types.specs.declared.states.JobState.TheVariants as state
 use Rattle.drmaa_types.specs.declared.states.SignalKind.{SignalKind}
