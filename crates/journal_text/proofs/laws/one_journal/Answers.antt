@@ -1,0 +1,5 @@
+use Rattle.journal_text.specs.JournalLaws.{one_journal}
+use Rattle.journal_text.proofs.laws.one_journal.Goals as goal
+
+pub returns : goal.returns
+returns c = λ a b g h v w e. one_journal a b g h v w e

@@ -1,0 +1,215 @@
+-- The automaton reads the texts of journals, and from every state some text goes on.
+use Rattle.std.proofs.Common.{◌≡◌, ℕ, ◌+◌, ◌<◌, ◌≤◌, ◌^◌, ◌==◌, true, List, [], ◌∷◌, ◌++◌, length, Some, codes, lit<, refl, sym, ap, subst, ◌∙◌, arith, append_assoc, append-nil, length-append}
+use Rattle.std.specs.Prelude.{IsUtf8, IfOk, Result, Ok, Err}
+use Rattle.std.specs.List.{AllByRecursion}
+use Rattle.std.proofs.lemmas.Bool.Decides.{nat_tests}
+use Rattle.std.proofs.lemmas.Option.{none-some, same_Some, cond_some}
+use Rattle.drmaa_model.specs.declared.configs.Config.{Config}
+use Rattle.drmaa_model.specs.declared.entries.Entry.{Entry}
+use Rattle.text_codec.specs.Formats.{strip, number, pair, behind, checked, read_line}
+use Rattle.text_codec.specs.Quotes.{text}
+use Rattle.text_codec.specs.StepLaws.{bind, chosen, strip_found}
+use Rattle.text_codec.specs.FormatLaws.{line_found, line_again}
+use Rattle.text_codec.specs.BaseLaws.{number_laws_64}
+use Rattle.text_lines.specs.Lines.{kept, ended, whole_lines, AreLines, GoesOn, IsTextOf}
+use Rattle.text_lines.specs.LineLaws.{ended_text, both_lines, lines_again, one_text}
+use Rattle.text_lines.specs.Automata.{Runs, Reads, GoesBy, from}
+use Rattle.journal_text.specs.Journals.{header, title, journal_size, suspend, entry, closing, entry_lines, journal_lines, journal_text, IsEntry, IsWritable, Spells}
+use Rattle.journal_text.specs.LineLaws.{header_laws, entry_laws, closing_laws, entry_valid, entry_number, entry_is, number_is, closing_is, entry_no_end}
+use Rattle.journal_text.specs.Reading.{journal_of, next, ends, reading}
+use Rattle.journal_text.specs.declared.journals.Journal.{Journal}
+use Rattle.journal_text.specs.declared.reading.JournalReader.{JournalReader}
+use Rattle.journal_text.specs.declared.reading.JournalReader.TheVariants.{Start, Going, Ended}
+
+abbrev Goes : JournalReader → List ℕ → JournalReader → Type 0
+Goes s line t = next s line ≡ Some t
+
+-- what was read, by the state that was reached
+record IsGoing (ls : List (List ℕ)) (c : Config) (es : List Entry) : Type 0 where
+  config : header.valid c
+  each : AllByRecursion IsEntry es
+  few : length es < 2 ^ 64
+  text : ls ≡ header.spell c ∷ entry_lines 1 es
+
+abbrev Behind : List (List ℕ) → JournalReader → Type 0
+Behind ls Start = ls ≡ []
+Behind ls (Going c es) = IsGoing ls c es
+Behind ls (Ended j) = Spells ls j
+
+lines_more : (n : ℕ) (es : List Entry) (e : Entry) → entry_lines n (es ++ e ∷ []) ≡ entry_lines n es ++ entry.spell (n + length es, e) ∷ []
+lines_more n [] e = let here : n ≡ n + length {A = Entry} [] = omega arith in ap (λ k. entry.spell (k, e) ∷ []) here
+lines_more n (x ∷ xs) e =
+    let here : n + 1 + length xs ≡ n + length (x ∷ xs) = omega arith in
+    ap (λ ls. entry.spell (n, x) ∷ ls) (lines_more (n + 1) xs e ∙ ap (λ k. entry_lines (n + 1) xs ++ entry.spell (k, e) ∷ []) here)
+
+each_more : (es : List Entry) (e : Entry) → AllByRecursion IsEntry es → IsEntry e → AllByRecursion IsEntry (es ++ e ∷ [])
+each_more [] e h v = (v, tt)
+each_more (x ∷ xs) e h v = (h.0, each_more xs e h.1 v)
+
+same_number : (n m : ℕ) → (n == m) ≡ true → n ≡ m
+same_number n m e = grind (arith, nat_tests)
+
+same_test : (n : ℕ) → (n == n) ≡ true
+same_test n = grind (arith, nat_tests)
+
+header_more : (ls : List (List ℕ)) (l : List ℕ) (t : JournalReader) → ls ≡ [] → next Start l ≡ Some t → Behind (ls ++ l ∷ []) t
+header_more ls l t e g = bind (read_line header l) _ t g (λ c a b.
+    let h = line_found header header_laws l c a in
+    subst (Behind (ls ++ l ∷ [])) (same_Some _ _ b) (record { config = h.0; each = tt; few = lit< tt; text = ap (λ ks. ks ++ l ∷ []) e ∙ ap (λ k. k ∷ []) h.1 }))
+
+closing_line : (l rest : List ℕ) (n : ℕ) → strip (codes "end ") l ≡ Some rest → rest ≡ (number (2 ^ 64)).spell n → l ≡ closing.spell n
+unfolding closing behind
+closing_line l rest n a h = strip_found (codes "end ") l rest a ∙ ap (λ r. codes "end " ++ r) h
+
+going_more : (ls : List (List ℕ)) (l : List ℕ) (t : JournalReader) (c : Config) (es : List Entry) → IsGoing ls c es → next (Going c es) l ≡ Some t → Behind (ls ++ l ∷ []) t
+going_more ls l t c es s g = chosen (strip (codes "end ") l) _ _ _ g
+    (λ rest a b. bind (read_line (number (2 ^ 64)) rest) _ t b (λ n d f.
+    let k = cond_some (n == length es) (Ended (journal_of c es)) t f in
+    let h = line_found (number (2 ^ 64)) number_laws_64 rest n d in
+    let line : l ≡ closing.spell (length es) = closing_line l rest n a h.1 ∙ ap (λ m. closing.spell m) (same_number n (length es) k.0) in
+    subst (Behind (ls ++ l ∷ [])) k.1 (record { writable = record { config = s.config; each = s.each; few = s.few }; text = ap (λ ks. ks ++ l ∷ []) s.text ∙ ap (λ k. header.spell c ∷ (entry_lines 1 es ++ k ∷ [])) line })))
+    (λ a b. bind (read_line entry l) _ t b (λ p d f.
+    let k = cond_some (p.0 == length es + 1) (Going c (es ++ p.1 ∷ [])) t f in
+    let h = line_found entry entry_laws l p d in
+    let number : p.0 ≡ 1 + length es = omega (arith, same_number p.0 (length es + 1) k.0) in
+    let line : l ≡ entry.spell (1 + length es, p.1) = h.1 ∙ ap (λ n. entry.spell (n, p.1)) number in
+    let all : ls ++ l ∷ [] ≡ header.spell c ∷ entry_lines 1 (es ++ p.1 ∷ []) =
+    ap (λ ks. ks ++ l ∷ []) s.text ∙ ap (λ k. header.spell c ∷ (entry_lines 1 es ++ k ∷ [])) line ∙ ap (λ ks. header.spell c ∷ ks) (sym (lines_more 1 es p.1)) in
+    let small = entry_number p.0 p.1 h.0 in
+    subst (Behind (ls ++ l ∷ [])) k.1 (record {
+      config = s.config;
+      each = each_more es p.1 s.each (entry_is p.0 p.1 h.0);
+      few = omega (arith, small, number, length-append es (p.1 ∷ []));
+      text = all;
+    })))
+
+behind_more : (ls : List (List ℕ)) (l : List ℕ) (s t : JournalReader) → Behind ls s → next s l ≡ Some t → Behind (ls ++ l ∷ []) t
+behind_more ls l Start t b g = header_more ls l t b g
+behind_more ls l (Going c es) t b g = going_more ls l t c es b g
+behind_more ls l (Ended j) t b g = absurd (none-some _ g)
+
+behind_run : (front ls : List (List ℕ)) (s t : JournalReader) → Behind front s → Runs Goes s ls t → Behind (front ++ ls) t
+behind_run front [] s t b r = subst (Behind (front ++ [])) r (subst (λ ks. Behind ks s) (sym (append-nil front)) b)
+behind_run front (l ∷ ls) s t b r = subst (λ ks. Behind ks t) (append_assoc front (l ∷ []) ls) (behind_run (front ++ l ∷ []) ls r.0 t (behind_more front l s r.0 b r.1) r.2)
+
+sound : (ls : List (List ℕ)) (t : JournalReader) (q : Journal) → Runs Goes Start ls t → ends t ≡ Some q → Spells ls q
+sound ls Start q r e = absurd (none-some _ e)
+sound ls (Going c es) q r e = absurd (none-some _ e)
+sound ls (Ended j) q r e = subst (Spells ls) (same_Some _ _ e) (behind_run [] ls Start (Ended j) refl r)
+
+-- the lines of a journal are read
+end_run : (c : Config) (es : List Entry) → length es < 2 ^ 64 → next (Going c es) (closing.spell (length es)) ≡ Some (Ended (journal_of c es))
+unfolding closing behind
+end_run c es few = rw (line_again (number (2 ^ 64)) number_laws_64 (length es) (number_is (length es) few), same_test (length es)) refl
+
+entry_run : (c : Config) (es : List Entry) (e : Entry) → length es + 1 < 2 ^ 64 → IsEntry e → next (Going c es) (entry.spell (length es + 1, e)) ≡ Some (Going c (es ++ e ∷ []))
+entry_run c es e few v = rw (entry_no_end (length es + 1) e few, line_again entry entry_laws (length es + 1, e) (entry_valid (length es + 1) e few v), same_test (length es + 1)) refl
+
+entries_run : (c : Config) (es more : List Entry) → length (es ++ more) < 2 ^ 64 → AllByRecursion IsEntry more
+    → Runs Goes (Going c es) (entry_lines (length es + 1) more ++ closing.spell (length (es ++ more)) ∷ []) (Ended (journal_of c (es ++ more)))
+entries_run c es [] few each =
+    let P : List Entry → Type 0 = λ xs. Runs Goes (Going c es) (closing.spell (length xs) ∷ []) (Ended (journal_of c xs)) in
+    let small : length es < 2 ^ 64 = omega (arith, few, length-append es []) in
+    subst P (sym (append-nil es)) (Ended (journal_of c es), end_run c es small, refl)
+entries_run c es (e ∷ more) few each =
+    let small : length es + 1 < 2 ^ 64 = omega (arith, few, length-append es (e ∷ more)) in
+    let all : (es ++ e ∷ []) ++ more ≡ es ++ e ∷ more = append_assoc es (e ∷ []) more in
+    let len : length (es ++ e ∷ []) ≡ length es + 1 = length-append es (e ∷ []) in
+    let rest = entries_run c (es ++ e ∷ []) more (subst (λ xs. length xs < 2 ^ 64) (sym all) few) each.1 in
+    let P : List Entry → Type 0 = λ xs. Runs Goes (Going c (es ++ e ∷ [])) (entry_lines (length (es ++ e ∷ []) + 1) more ++ closing.spell (length xs) ∷ []) (Ended (journal_of c xs)) in
+    let Q : ℕ → Type 0 = λ n. Runs Goes (Going c (es ++ e ∷ [])) (entry_lines (n + 1) more ++ closing.spell (length (es ++ e ∷ more)) ∷ []) (Ended (journal_of c (es ++ e ∷ more))) in
+    (Going c (es ++ e ∷ []), entry_run c es e small each.0, subst Q len (subst P all rest))
+
+complete : (ls : List (List ℕ)) (q : Journal) → Spells ls q → (t : JournalReader) × Runs Goes Start ls t × (ends t ≡ Some q)
+complete ls q s =
+    let first : next Start (header.spell q.config) ≡ Some (Going q.config []) = rw (line_again header header_laws q.config s.writable.config) refl in
+    let run : Runs Goes Start (journal_lines q.config q.entries) (Ended q) = (Going q.config [], first, entries_run q.config [] q.entries s.writable.few s.writable.each) in
+    (Ended q, subst (λ ks. Runs Goes Start ks (Ended q)) (sym s.text) run, refl)
+
+-- the lines of a journal have no line feed
+entries_are_lines : (n : ℕ) (es : List Entry) → n + length es ≤ 2 ^ 64 → AllByRecursion IsEntry es → AreLines (entry_lines n es)
+entries_are_lines n [] few each = tt
+entries_are_lines n (e ∷ es) few each =
+    let small : n < 2 ^ 64 = omega (arith, few) in
+    let rest : n + 1 + length es ≤ 2 ^ 64 = omega (arith, few) in
+    ((entry_laws.clean (n, e) (entry_valid n e small each.0)).one_line, entries_are_lines (n + 1) es rest each.1)
+
+closing_is_line : (n : ℕ) → n < 2 ^ 64 → AreLines (closing.spell n ∷ [])
+closing_is_line n h = ((closing_laws.clean n (closing_is n h)).one_line, tt)
+
+pub journal_are_lines : (c : Config) (es : List Entry) → IsWritable c es → AreLines (journal_lines c es)
+journal_are_lines c es w =
+    let some : 1 + length es ≤ 2 ^ 64 = omega (arith, w.few) in
+    ((header_laws.clean c w.config).one_line, both_lines (entry_lines 1 es) (closing.spell (length es) ∷ []) (entries_are_lines 1 es some w.each) (closing_is_line (length es) w.few))
+
+-- a machine
+some_config : Config
+some_config = record { slots = 1; name = 109 ∷ []; suspend = true; journal = journal_size }
+
+some_valid : header.valid some_config
+unfolding header title checked behind pair number text suspend some_config lib.Utf8.encode
+some_valid = (((lit< tt, (is_utf8_m, refl)), refl), refl)
+  where
+    is_utf8_m : IsUtf8 (109 ∷ [])
+    is_utf8_m = (109 ∷ [], (refl, refl))
+
+some_writable : IsWritable some_config []
+some_writable = record { config = some_valid; each = tt; few = lit< tt }
+
+-- no line of a journal is one that a reader may skip
+first_kept : (c : Config) (ls : List (List ℕ)) → kept (header.spell c ∷ ls) ≡ header.spell c ∷ kept ls
+unfolding header title checked behind
+first_kept c ls = refl
+
+last_kept : (n : ℕ) → kept (closing.spell n ∷ []) ≡ closing.spell n ∷ []
+unfolding closing behind
+last_kept n = refl
+
+going_on : (ls : List (List ℕ)) (t : JournalReader) → Behind ls t → GoesOn Spells ls
+going_on ls Start b = record {
+  more = journal_lines some_config [];
+  are_lines = journal_are_lines some_config [] some_writable;
+  text = journal_of some_config [];
+  spelled = record { writable = some_writable; text = ap (λ ks. ks ++ journal_lines some_config []) b };
+  unskipped = first_kept some_config (closing.spell 0 ∷ []) ∙ ap (λ ks. header.spell some_config ∷ ks) (last_kept 0);
+}
+going_on ls (Going c es) b = record {
+  more = closing.spell (length es) ∷ [];
+  are_lines = closing_is_line (length es) b.few;
+  text = journal_of c es;
+  spelled = record { writable = record { config = b.config; each = b.each; few = b.few }; text = ap (λ ks. ks ++ closing.spell (length es) ∷ []) b.text };
+  unskipped = last_kept (length es);
+}
+going_on ls (Ended j) b = record { more = []; are_lines = tt; text = j; spelled = subst (λ ks. Spells ks j) (sym (append-nil ls)) b; unskipped = refl }
+
+goes_on : (ls : List (List ℕ)) (t : JournalReader) → Runs Goes Start ls t → GoesOn Spells ls
+goes_on ls t r = going_on ls t (behind_run [] ls Start t refl r)
+
+reads_journals : Reads Goes Start ends Spells
+reads_journals = record { sound = sound; complete = complete; goes_on = goes_on }
+
+pub reads_from : (first : JournalReader) → first ≡ Start → Reads (GoesBy (from reading first)) first ends Spells
+reads_from first e = subst (λ s. Reads (GoesBy (from reading s)) s ends Spells) (sym e) reads_journals
+
+-- what is read is the text of a journal, and such a text is one that is read
+pub text_is : (limit : ℕ) (bytes : List ℕ) (j : Journal) → IsTextOf Spells limit bytes j → bytes ≡ journal_text j.config j.entries
+text_is limit bytes j t = t.whole ∙ ap ended t.spelled.text
+
+pub is_text : (limit : ℕ) (c : Config) (es : List Entry) → IsWritable c es → length (journal_text c es) ≤ limit → IsTextOf Spells limit (journal_text c es) (journal_of c es)
+is_text limit c es w l = ended_text Spells (journal_lines c es) (journal_of c es) limit (journal_are_lines c es w) (record { writable = w; text = refl }) l
+
+pub text_for : (limit : ℕ) (bytes : List ℕ) (j : Journal) → IsWritable j.config j.entries → bytes ≡ journal_text j.config j.entries → length bytes ≤ limit → IsTextOf Spells limit bytes j
+text_for limit bytes j w e l = subst (λ b. IsTextOf Spells limit b j) (sym e) (is_text limit j.config j.entries w (subst (λ b. length b ≤ limit) e l))
+
+-- what holds of an answer
+pub if_ok : {A E : Type 0} (P Q : A → Type 0) (r : Result A E) → ((x : A) → P x → Q x) → IfOk r P → IfOk r Q
+if_ok P Q (Ok x) f h = f x h
+if_ok P Q (Err e) f h = tt
+
+-- no two journals share a text
+pub one_journal : (c d : Config) (g h : List Entry) → IsWritable c g → IsWritable d h → journal_text c g ≡ journal_text d h → (c ≡ d) × (g ≡ h)
+one_journal c d g h v w e =
+    let lines : journal_lines d h ≡ journal_lines c g =
+    sym (lines_again (journal_lines d h) (journal_are_lines d h w)) ∙ ap whole_lines (sym e) ∙ lines_again (journal_lines c g) (journal_are_lines c g v) in
+    let same : journal_of c g ≡ journal_of d h = one_text (from reading Start) reads_journals (journal_lines c g) (journal_of c g) (journal_of d h) (record { writable = v; text = refl }) (record { writable = w; text = sym lines }) in
+    (ap (λ j. j.config) same, ap (λ j. j.entries) same)

@@ -1,0 +1,112 @@
+-- Journals: the machine, a line for each entry of its history, and their count. Our profile.
+use Rattle.std.specs.Prelude.{◌≡◌, ℕ, ◌+◌, ◌<◌, ◌^◌, ◌&&◌, nat_le, Bool, true, false, List, [], ◌∷◌, ◌++◌, length, Some, codes}
+use Rattle.std.specs.List.{AllByRecursion}
+use Rattle.drmaa_types.specs.declared.identifiers.CallerId.{CallerId}
+use Rattle.drmaa_model.specs.declared.configs.Config.{Config}
+use Rattle.drmaa_model.specs.declared.entries.Entry.{Entry}
+use Rattle.drmaa_model.specs.declared.calls.Call.{Call}
+use Rattle.drmaa_model.specs.declared.replies.Reply.{Reply}
+use Rattle.drmaa_model.specs.KeptCalls.{kept}
+use Rattle.text_codec.specs.Formats.{Format, ◌>>=◌, number, moment, pair, mapped, behind, checked, one_of}
+use Rattle.text_codec.specs.Fields.{Fields, joined}
+use Rattle.text_codec.specs.Quotes.{text}
+use Rattle.text_words.specs.Numbers.{caller_id}
+use Rattle.text_lines.specs.Lines.{ended}
+use Rattle.journal_text.specs.Calls.{calls}
+use Rattle.journal_text.specs.Replies.{replies}
+use Rattle.journal_text.specs.declared.journals.Journal.{Journal}
+use Rattle.journal_text.specs.declared.titles.TheConstants.{SUSPENDS}
+
+-- the greatest journal size of a machine whose journal is read
+abbrev pub journal_size : ℕ
+journal_size = 4_000_000
+
+-- whether jobs can be suspended
+abbrev pub suspend_text : Bool → List ℕ
+suspend_text true = codes "suspend"
+suspend_text false = codes "nosuspend"
+
+unfoldable pub suspend : Format Bool
+suspend = one_of suspend_text SUSPENDS
+
+-- the machine of a journal: from 1 to 65,535 slots, and a name of 1 to 255 bytes
+abbrev pub is_machine : ℕ × (List ℕ × Bool) → Bool
+is_machine m = nat_le 1 m.0 && (nat_le m.0 65535 && (nat_le 1 (length m.1.0) && nat_le (length m.1.0) 255))
+
+unfoldable pub title : Format (ℕ × (List ℕ × Bool))
+title = checked is_machine (behind (codes "drmaa-journal 1 ") (pair (number (2 ^ 32)) (pair text suspend)))
+
+abbrev pub config_of : ℕ × (List ℕ × Bool) → Config
+config_of m = record { slots = m.0; name = m.1.0; suspend = m.1.1; journal = journal_size }
+
+abbrev pub machine_of : Config → ℕ × (List ℕ × Bool)
+machine_of c = (c.slots, (c.name, c.suspend))
+
+-- the first line
+unfoldable pub header : Format Config
+header = record {
+  spell = λ c. title.spell (machine_of c);
+  valid = λ c. title.valid (machine_of c) × (c.journal ≡ journal_size);
+  read = λ bs. title.read bs >>= λ p. Some (config_of p.0, p.1);
+}
+
+-- the line of an entry: its number, its caller, its moment, its call and its reply
+unfoldable pub stamp : Format (ℕ × (CallerId × ℕ))
+stamp = pair (number (2 ^ 64)) (pair caller_id moment)
+
+unfoldable pub answered : Fields Call → Format (Call × Reply)
+answered C = joined (codes " = ") C replies
+
+abbrev pub make_entry : (ℕ × (CallerId × ℕ)) × (Call × Reply) → ℕ × Entry
+make_entry p = (p.0.0, record { caller = p.0.1.0; at = p.0.1.1; call = p.1.0; reply = p.1.1 })
+
+abbrev pub entry_parts : ℕ × Entry → (ℕ × (CallerId × ℕ)) × (Call × Reply)
+entry_parts q = ((q.0, (q.1.caller, q.1.at)), (q.1.call, q.1.reply))
+
+unfoldable pub entry_with : Fields Call → Format (ℕ × Entry)
+entry_with C = mapped make_entry entry_parts (pair stamp (answered C))
+
+unfoldable pub entry : Format (ℕ × Entry)
+entry = entry_with calls
+
+-- the last line: the number of entries
+unfoldable pub closing : Format ℕ
+closing = behind (codes "end ") (number (2 ^ 64))
+
+-- the lines of entries, numbered from n on
+abbrev pub entry_lines : ℕ → List Entry → List (List ℕ)
+entry_lines n [] = []
+entry_lines n (e ∷ es) = entry.spell (n, e) ∷ entry_lines (n + 1) es
+
+abbrev pub journal_lines : Config → List Entry → List (List ℕ)
+journal_lines c es = header.spell c ∷ (entry_lines 1 es ++ closing.spell (length es) ∷ [])
+
+-- the text of a journal: each line ends with a line feed, the last one too
+abbrev pub journal_text : Config → List Entry → List ℕ
+journal_text c es = ended (journal_lines c es)
+
+-- what each field of an entry has to be: a caller, a moment, a call and a reply that are spelled
+pub record IsEntry (e : Entry) : Type 0 where
+  pub caller : caller_id.valid e.caller
+  pub at : moment.valid e.at
+  pub call : calls.body.valid e.call
+  pub reply : replies.valid e.reply
+
+-- the journals that are written and read
+pub record IsWritable (c : Config) (es : List Entry) : Type 0 where
+  pub config : header.valid c
+  pub each : AllByRecursion IsEntry es
+  pub few : length es < 2 ^ 64
+
+-- these lines are the journal's
+pub record Spells (lines : List (List ℕ)) (j : Journal) : Type 0 where
+  pub writable : IsWritable j.config j.entries
+  pub text : lines ≡ journal_lines j.config j.entries
+
+-- the greatest number of bytes of a journal
+unfoldable pub byte_limit : ℕ
+byte_limit = 268_435_456
+
+-- the entry that a machine makes of one: its call is the kept one
+abbrev pub kept_entry : Entry → Entry
+kept_entry e = record e { call = kept e.call }

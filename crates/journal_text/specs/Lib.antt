@@ -1,0 +1,10 @@
+pub mod Calls
+pub mod CallLaws
+pub mod Replies
+pub mod ReplyLaws
+pub mod Journals
+pub mod LineLaws
+pub mod Reading
+pub mod JournalLaws
+pub mod Printing
+pub mod PrintLaws

@@ -1,0 +1,221 @@
+-- The laws of printed journals.
+use Rattle.std.proofs.Common.{◌≡◌, ℕ, suc, ◌<◌, ◌^◌, Bool, true, false, List, [], ◌∷◌, ◌++◌, length, map, Some, refl, sym, ap, subst, ◌∙◌, append_assoc, append-nil}
+use Rattle.std.specs.List.{AllByRecursion}
+use Rattle.std.proofs.lemmas.Grind.{flat_map-append}
+use Rattle.drmaa_model.specs.declared.calls.Call.{Call}
+use Rattle.drmaa_model.specs.declared.calls.Call.TheVariants as call
+use Rattle.drmaa_model.specs.declared.calls.Target.TheVariants as target
+use Rattle.drmaa_model.specs.declared.configs.Config.{Config}
+use Rattle.drmaa_model.specs.declared.entries.Entry.{Entry}
+use Rattle.drmaa_model.specs.KeptCalls.{kept, kept_template, kept_limit}
+use Rattle.job_template.specs.declared.templates.JobTemplate.{JobTemplate}
+use Rattle.job_template.specs.declared.templates.ResourceLimit.{ResourceLimit}
+use Rattle.text_codec.specs.Formats.{pair, mapped, checked, number, first_spelled}
+use Rattle.text_codec.specs.Fields.{field, flag, repeated, in_braces, joined}
+use Rattle.text_codec.specs.Sums.{sum_of}
+use Rattle.text_codec.specs.Words.{capitals}
+use Rattle.text_words.specs.TemplateParts.{resource_limit}
+use Rattle.text_forms.specs.Templates.{any_template, template, any_frame, frame, early_fields, path_fields, placed_fields, late_fields, early_parts, path_parts, placed_parts, late_parts}
+use Rattle.text_lines.specs.Lines.{ended}
+use Rattle.journal_text.specs.Calls.{call_form, calls_with, calls, running, bulk, requested, has_others}
+use Rattle.journal_text.specs.Replies.{reply_form, reply_sum, replies, may_answer}
+use Rattle.journal_text.specs.declared.titles.TheConstants.{SUSPENDS}
+use Rattle.journal_text.specs.Journals.{suspend_text, header, title, machine_of, is_machine, journal_size, entry_with, answered, stamp, entry, closing, entry_lines, journal_text, IsEntry, IsWritable, kept_entry}
+use Rattle.journal_text.specs.Printing.{any_entry, IsRanged, MayStand, IsPrintable}
+
+-- a call is spelled alike whatever attributes its template has
+same_text : (c : Call) → (call_form any_template any_frame c).text ≡ (call_form template frame c).text
+unfolding template frame checked running bulk requested pair
+same_text (call.CreateJobSession name) = refl
+same_text (call.CreateReservationSession name) = refl
+same_text (call.OpenJobSession name) = refl
+same_text (call.OpenReservationSession name) = refl
+same_text (call.DestroyJobSession name) = refl
+same_text (call.DestroyReservationSession name) = refl
+same_text call.JobSessionNames = refl
+same_text call.ReservationSessionNames = refl
+same_text call.OpenMonitoring = refl
+same_text (call.CloseSession session) = refl
+same_text (call.RunJob session t) = refl
+same_text (call.RunBulk session t listed) = refl
+same_text (call.GetJobs session filter) = refl
+same_text (call.GetJobArray session array) = refl
+same_text (call.Control session (target.Job job) what) = refl
+same_text (call.Control session (target.Array array) what) = refl
+same_text (call.Reap session (target.Job job)) = refl
+same_text (call.Reap session (target.Array array)) = refl
+same_text (call.GetState session job) = refl
+same_text (call.GetInfo session job) = refl
+same_text (call.Wait session jobs kind begun lasts) = refl
+same_text (call.RequestReservation session t) = refl
+same_text (call.GetReservation session number) = refl
+same_text (call.GetReservations session) = refl
+same_text (call.EndReservation session number) = refl
+same_text (call.AllJobs session filter) = refl
+same_text (call.AllReservations session) = refl
+same_text (call.AllQueues session) = refl
+same_text (call.AllMachines session) = refl
+same_text call.Register = refl
+same_text call.TakeLaunch = refl
+same_text (call.Started job attempt) = refl
+same_text (call.StartFailed job attempt) = refl
+same_text (call.Exited job attempt how) = refl
+same_text (call.ExitUnknown job attempt) = refl
+same_text call.TakeSignal = refl
+same_text (call.SignalDone job attempt kind) = refl
+same_text (call.SignalFailed job attempt kind) = refl
+
+pub same_entry : (n : ℕ) (e : Entry) → any_entry.spell (n, e) ≡ entry.spell (n, e)
+unfolding any_entry entry entry_with mapped pair answered joined calls calls_with sum_of
+same_entry n e = ap (λ (t : List ℕ). stamp.spell (n, (e.caller, e.at)) ++ 32 ∷ (t ++ (32 ∷ 61 ∷ 32 ∷ replies.spell e.reply))) (same_text e.call)
+
+-- and it is one of a journal where those attributes are
+more_valid : (c : Call) → has_others c ≡ true → (call_form any_template any_frame c).valid → (call_form template frame c).valid
+unfolding template frame checked running bulk requested pair
+more_valid (call.CreateJobSession name) h v = v
+more_valid (call.CreateReservationSession name) h v = v
+more_valid (call.OpenJobSession name) h v = v
+more_valid (call.OpenReservationSession name) h v = v
+more_valid (call.DestroyJobSession name) h v = v
+more_valid (call.DestroyReservationSession name) h v = v
+more_valid call.JobSessionNames h v = v
+more_valid call.ReservationSessionNames h v = v
+more_valid call.OpenMonitoring h v = v
+more_valid (call.CloseSession session) h v = v
+more_valid (call.RunJob session t) h v = (v.0, (v.1, h))
+more_valid (call.RunBulk session t listed) h v = (v.0, ((v.1.0, h), v.1.1))
+more_valid (call.GetJobs session filter) h v = v
+more_valid (call.GetJobArray session array) h v = v
+more_valid (call.Control session (target.Job job) what) h v = v
+more_valid (call.Control session (target.Array array) what) h v = v
+more_valid (call.Reap session (target.Job job)) h v = v
+more_valid (call.Reap session (target.Array array)) h v = v
+more_valid (call.GetState session job) h v = v
+more_valid (call.GetInfo session job) h v = v
+more_valid (call.Wait session jobs kind begun lasts) h v = v
+more_valid (call.RequestReservation session t) h v = (v.0, (v.1, h))
+more_valid (call.GetReservation session number) h v = v
+more_valid (call.GetReservations session) h v = v
+more_valid (call.EndReservation session number) h v = v
+more_valid (call.AllJobs session filter) h v = v
+more_valid (call.AllReservations session) h v = v
+more_valid (call.AllQueues session) h v = v
+more_valid (call.AllMachines session) h v = v
+more_valid call.Register h v = v
+more_valid call.TakeLaunch h v = v
+more_valid (call.Started job attempt) h v = v
+more_valid (call.StartFailed job attempt) h v = v
+more_valid (call.Exited job attempt how) h v = v
+more_valid (call.ExitUnknown job attempt) h v = v
+more_valid call.TakeSignal h v = v
+more_valid (call.SignalDone job attempt kind) h v = v
+more_valid (call.SignalFailed job attempt kind) h v = v
+
+pub is_entry : (e : Entry) → IsRanged e → MayStand e → IsEntry e
+unfolding calls calls_with replies reply_sum sum_of
+is_entry e r m = record { caller = r.caller; at = r.at; call = more_valid e.call m.others r.call; reply = r.reply m.reply }
+
+-- the entries of such a journal are kept as they are
+pub kept_is : (es : List Entry) → AllByRecursion MayStand es → map kept_entry es ≡ es
+kept_is [] h = refl
+kept_is (e ∷ es) h = ap (λ c. record e { call = c } ∷ map kept_entry es) h.0.call ∙ ap (λ more. e ∷ more) (kept_is es h.1)
+
+pub same_entries : (es : List Entry) → AllByRecursion (λ e. kept e.call ≡ e.call) es → map kept_entry es ≡ es
+same_entries [] h = refl
+same_entries (e ∷ es) h = ap (λ c. record e { call = c } ∷ map kept_entry es) h.0 ∙ ap (λ more. e ∷ more) (same_entries es h.1)
+
+all_entries : (es : List Entry) → AllByRecursion MayStand es → AllByRecursion IsRanged es → AllByRecursion IsEntry es
+all_entries [] m r = tt
+all_entries (e ∷ es) m r = (is_entry e r.0 m.0, all_entries es m.1 r.1)
+
+header_is : (c : Config) → title.valid (machine_of c) → c.journal ≡ journal_size → header.valid c
+unfolding header
+header_is c v e = (v, e)
+
+pub is_writable : (c : Config) (es : List Entry) → IsPrintable c es → (is_machine (machine_of c) ≡ true → title.valid (machine_of c)) → AllByRecursion IsRanged (map kept_entry es) → length es < 2 ^ 64 → IsWritable c es
+is_writable c es p machine ranged few = record {
+  config = header_is c (machine p.machine) p.size;
+  each = all_entries es p.entries (subst (AllByRecursion IsRanged) (kept_is es p.entries) ranged);
+  few = few;
+}
+
+-- a template that is spelled is its own kept template
+limits_kept : (ls : List ResourceLimit) → AllByRecursion resource_limit.valid ls → map kept_limit ls ≡ ls
+unfolding resource_limit mapped pair capitals
+limits_kept [] v = refl
+limits_kept (l ∷ ls) v = rw (v.0.0, limits_kept ls v.1) refl
+
+template_kept : (t : JobTemplate) → template.valid t → kept_template t ≡ t
+unfolding template checked any_template mapped in_braces early_fields path_fields placed_fields late_fields early_parts path_parts placed_parts late_parts field flag repeated
+template_kept t v = ap (λ ls. record t { resource_limits = ls }) (limits_kept t.resource_limits v.0.1.1.1.1.1.1.1.1.1.1.1.1.1.1.1.0)
+
+call_kept : (c : Call) → (call_form template frame c).valid → kept c ≡ c
+unfolding running bulk pair
+call_kept (call.CreateJobSession name) v = refl
+call_kept (call.CreateReservationSession name) v = refl
+call_kept (call.OpenJobSession name) v = refl
+call_kept (call.OpenReservationSession name) v = refl
+call_kept (call.DestroyJobSession name) v = refl
+call_kept (call.DestroyReservationSession name) v = refl
+call_kept call.JobSessionNames v = refl
+call_kept call.ReservationSessionNames v = refl
+call_kept call.OpenMonitoring v = refl
+call_kept (call.CloseSession session) v = refl
+call_kept (call.RunJob session t) v = ap (λ k. call.RunJob session k) (template_kept t v.1)
+call_kept (call.RunBulk session t listed) v = ap (λ k. call.RunBulk session k listed) (template_kept t v.1.0)
+call_kept (call.GetJobs session filter) v = refl
+call_kept (call.GetJobArray session array) v = refl
+call_kept (call.Control session (target.Job job) what) v = refl
+call_kept (call.Control session (target.Array array) what) v = refl
+call_kept (call.Reap session (target.Job job)) v = refl
+call_kept (call.Reap session (target.Array array)) v = refl
+call_kept (call.GetState session job) v = refl
+call_kept (call.GetInfo session job) v = refl
+call_kept (call.Wait session jobs kind begun lasts) v = refl
+call_kept (call.RequestReservation session t) v = refl
+call_kept (call.GetReservation session number) v = refl
+call_kept (call.GetReservations session) v = refl
+call_kept (call.EndReservation session number) v = refl
+call_kept (call.AllJobs session filter) v = refl
+call_kept (call.AllReservations session) v = refl
+call_kept (call.AllQueues session) v = refl
+call_kept (call.AllMachines session) v = refl
+call_kept call.Register v = refl
+call_kept call.TakeLaunch v = refl
+call_kept (call.Started job attempt) v = refl
+call_kept (call.StartFailed job attempt) v = refl
+call_kept (call.Exited job attempt how) v = refl
+call_kept (call.ExitUnknown job attempt) v = refl
+call_kept call.TakeSignal v = refl
+call_kept (call.SignalDone job attempt kind) v = refl
+call_kept (call.SignalFailed job attempt kind) v = refl
+
+pub entries_kept : (es : List Entry) → AllByRecursion IsEntry es → AllByRecursion (λ e. kept e.call ≡ e.call) es
+unfolding calls calls_with sum_of
+entries_kept [] h = tt
+entries_kept (e ∷ es) h = (call_kept e.call h.0.call, entries_kept es h.1)
+
+-- the parts of a journal's text
+text_parts : (c : Config) (es : List Entry) → journal_text c es ≡ ((header.spell c ++ 10 ∷ []) ++ ended (entry_lines 1 es)) ++ (closing.spell (length es) ++ 10 ∷ [])
+text_parts c es =
+    ap (λ t. (header.spell c ++ 10 ∷ []) ++ t) (flat_map-append (λ l. l ++ 10 ∷ []) (entry_lines 1 es) (closing.spell (length es) ∷ []) ∙ ap (λ t. ended (entry_lines 1 es) ++ t) (append-nil (closing.spell (length es) ++ 10 ∷ [])))
+    ∙ sym (append_assoc (header.spell c ++ 10 ∷ []) (ended (entry_lines 1 es)) (closing.spell (length es) ++ 10 ∷ []))
+
+same_length : (es : List Entry) → length (map kept_entry es) ≡ length es
+same_length [] = refl
+same_length (e ∷ es) = ap suc (same_length es)
+
+-- what is printed in turn is the text
+pub printed_is : (c : Config) (es : List Entry) (a b d : List ℕ) → a ≡ header.spell c ++ 10 ∷ [] → b ≡ a ++ ended (entry_lines 1 (map kept_entry es)) → d ≡ b ++ (closing.spell (length es) ++ 10 ∷ []) → d ≡ journal_text c (map kept_entry es)
+printed_is c es a b d p q r =
+    r ∙ ap (λ t. t ++ (closing.spell (length es) ++ 10 ∷ [])) (q ∙ ap (λ t. t ++ ended (entry_lines 1 (map kept_entry es))) p)
+    ∙ ap (λ n. ((header.spell c ++ 10 ∷ []) ++ ended (entry_lines 1 (map kept_entry es))) ++ (closing.spell n ++ 10 ∷ [])) (sym (same_length es)) ∙ sym (text_parts c (map kept_entry es))
+
+-- what was printed of an entry tells its ranges
+pub is_ranged : (n : ℕ) (e : Entry) → stamp.valid (n, (e.caller, e.at)) → (call_form any_template any_frame (kept e.call)).valid → (may_answer e.reply ≡ true → (reply_form e.reply).valid) → IsRanged (kept_entry e)
+unfolding stamp pair
+is_ranged n e s c r = record { caller = s.1.0; at = s.1.1; call = c; reply = r }
+
+pub suspend_stands : (b : Bool) → first_spelled suspend_text SUSPENDS (suspend_text b) ≡ Some b
+suspend_stands true = refl
+suspend_stands false = refl

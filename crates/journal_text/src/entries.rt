@@ -1,0 +1,138 @@
+//! The lines of entries, and the last line.
+ghost use Rattle.std.specs.Prelude.{◌≡◌, ◌∷◌, [], ◌++◌, ◌^◌, ◌<◌, true, map, OnOk};
+ghost use Rattle.std.specs.List.{AllByRecursion};
+ghost use Rattle.drmaa_model.specs.KeptCalls.{kept};
+ghost use Rattle.text_codec.specs.Formats.{Answers, Says, number, read_line};
+ghost use Rattle.text_forms.specs.Templates.{any_template, any_frame};
+ghost use Rattle.text_lines.specs.Lines.{ended};
+ghost use Rattle.journal_text.specs.Calls.{calls, call_form};
+ghost use Rattle.journal_text.specs.Replies.{reply_form, may_answer};
+ghost use Rattle.journal_text.specs.Journals as journals;
+ghost use Rattle.journal_text.specs.Journals.{kept_entry};
+ghost use Rattle.journal_text.specs.Printing.{any_entry, IsRanged};
+
+use crate::fields::push_feed;
+use crate::{push_call, push_reply, read_call, read_reply};
+use drmaa_model::{Call, Entry, Reply};
+use drmaa_types::{CallerId, Moment};
+use std::alloc::{AllocError, Global};
+use text_codec::{Cursor, Unread, push_number};
+use text_words::{PrintForm, ReadForm, push_behind};
+
+/// Reads the number of an entry, its caller and its moment.
+#[tactic(auto, unfolding(crate::specs::Journals::stamp, text_codec::specs::Formats::pair))]
+fn stamp_at(cursor: &mut Cursor) -> Result<(u64, (CallerId, Moment)), Unread>
+    ensures { Answers journals.stamp.read cursor.old result cursor.new }
+{
+    let number = cursor.u64()?;
+    cursor.expect(b" ")?;
+    let caller = CallerId::read(cursor)?;
+    cursor.expect(b" ")?;
+    let at = cursor.moment()?;
+    Ok((number, (caller, at)))
+}
+
+/// Reads a call and its reply.
+#[tactic(auto, unfolding(crate::specs::Journals::answered, text_codec::specs::Fields::joined))]
+fn answered_at(cursor: &mut Cursor) -> Result<(Call, Reply), Unread>
+    ensures { Answers (journals.answered calls).read cursor.old result cursor.new }
+{
+    let call = read_call(cursor)?;
+    cursor.expect(b" = ")?;
+    let reply = read_reply(cursor)?;
+    Ok((call, reply))
+}
+
+/// Reads an entry with its number.
+#[tactic(auto, unfolding(crate::specs::Journals::entry, crate::specs::Journals::entry_with, text_codec::specs::Formats::mapped, text_codec::specs::Formats::pair))]
+fn entry_at(cursor: &mut Cursor) -> Result<(u64, Entry), Unread>
+    ensures { Answers journals.entry.read cursor.old result cursor.new }
+{
+    let (number, (caller, at)) = stamp_at(cursor)?;
+    cursor.expect(b" ")?;
+    let (call, reply) = answered_at(cursor)?;
+    let entry = Entry {
+        caller,
+        at,
+        call,
+        reply,
+    };
+    Ok((number, entry))
+}
+
+/// The entry that a line says, with its number.
+pub(crate) fn entry_of(alloc: Global, line: &[u8]) -> Result<(u64, Entry), Unread>
+    ensures { Says (read_line journals.entry line.now) result }
+{
+    let mut cursor = Cursor::new(alloc, line);
+    let entry = entry_at(&mut cursor)?;
+    cursor.end()?;
+    Ok(entry)
+}
+
+/// The number that stands alone in what is left of a line.
+pub(crate) fn count_of(cursor: &mut Cursor) -> Result<u64, Unread>
+    ensures { Says (read_line (number (2 ^ 64)) cursor.old) result }
+{
+    let count = cursor.u64()?;
+    cursor.end()?;
+    Ok(count)
+}
+
+/// Prints the number of an entry, its caller and its moment.
+#[tactic(auto, unfolding(crate::specs::Journals::stamp, text_codec::specs::Formats::pair))]
+fn push_stamp(out: &mut Vec<u8>, number: u64, entry: &Entry) -> Result<(), AllocError>
+    ensures text { OnOk result (out.new.items ≡ out.old.items ++ journals.stamp.spell (number, (entry.now.caller, entry.now.at))) }
+    ensures valid { OnOk result (journals.stamp.valid (number, (entry.now.caller, entry.now.at))) }
+{
+    number.push(out)?;
+    push_behind(out, b" ", &entry.caller)?;
+    push_behind(out, b" ", &entry.at)
+}
+
+/// Prints an entry with its number, its call as a journal keeps it.
+#[tactic(auto, unfolding(crate::specs::Printing::any_entry, crate::specs::Journals::entry_with, crate::specs::Journals::answered, crate::specs::Calls::calls_with, crate::specs::Replies::replies, crate::specs::Replies::reply_sum, text_codec::specs::Formats::mapped, text_codec::specs::Formats::pair, text_codec::specs::Fields::joined, text_codec::specs::Sums::sum_of))]
+fn push_entry(out: &mut Vec<u8>, number: u64, entry: &Entry) -> Result<(), AllocError>
+    ensures text { OnOk result (out.new.items ≡ out.old.items ++ any_entry.spell (number, kept_entry entry.now)) }
+    ensures stamp { OnOk result (journals.stamp.valid (number, (entry.now.caller, entry.now.at))) }
+    ensures call { OnOk result ((call_form any_template any_frame (kept entry.now.call)).valid) }
+    ensures reply { may_answer entry.now.reply ≡ true → OnOk result ((reply_form entry.now.reply).valid) }
+{
+    push_stamp(out, number, entry)?;
+    out.extend_from_slice(b" ")?;
+    push_call(out, &entry.call)?;
+    out.extend_from_slice(b" = ")?;
+    push_reply(out, &entry.reply)
+}
+
+/// Prints the line of an entry.
+#[tactic(auto, using(crate::specs::PrintLaws::same_entry, crate::specs::PrintLaws::is_ranged))]
+fn push_line(out: &mut Vec<u8>, number: u64, entry: &Entry) -> Result<(), AllocError>
+    ensures text { OnOk result (out.new.items ≡ out.old.items ++ (journals.entry.spell (number, kept_entry entry.now) ++ 10 ∷ [])) }
+    ensures ranged { OnOk result (IsRanged (kept_entry entry.now)) }
+{
+    push_entry(out, number, entry)?;
+    push_feed(out)
+}
+
+/// Prints the lines of entries, numbered from 1 on.
+pub(crate) fn push_lines(out: &mut Vec<u8>, entries: &[Entry]) -> Result<(), AllocError>
+    ensures text { OnOk result (out.new.items ≡ out.old.items ++ ended (journals.entry_lines 1 (map kept_entry entries.now))) }
+    ensures ranged { OnOk result (AllByRecursion IsRanged (map kept_entry entries.now)) }
+{
+    for (i, entry) in entries.iter().enumerate() {
+        push_line(out, i as u64 + 1, entry)?;
+    }
+    Ok(())
+}
+
+/// Prints the last line.
+#[tactic(auto, unfolding(crate::specs::Journals::closing, text_codec::specs::Formats::behind, text_codec::specs::Formats::number))]
+pub(crate) fn push_closing(out: &mut Vec<u8>, count: u64) -> Result<(), AllocError>
+    ensures text { OnOk result (out.new.items ≡ out.old.items ++ (journals.closing.spell count ++ 10 ∷ [])) }
+    ensures small { count < 2 ^ 64 }
+{
+    out.extend_from_slice(b"end ")?;
+    push_number(out, count)?;
+    out.extend_from_slice(b"\n")
+}

@@ -1,0 +1,23 @@
+//! What is true of every journal: each law is the contract of a function that does nothing.
+ghost use Rattle.std.specs.Prelude.{◌≡◌, ℕ, List};
+ghost use Rattle.std.specs.List.{AllByRecursion};
+ghost use Rattle.drmaa_model.specs.KeptCalls.{kept};
+ghost use Rattle.drmaa_model.specs.declared.configs.Config.{Config};
+ghost use Rattle.drmaa_model.specs.declared.entries.Entry.{Entry};
+ghost use Rattle.text_lines.specs.Lines.{IsFirstBad};
+ghost use Rattle.journal_text.specs.Journals.{IsWritable, Spells, byte_limit, journal_text};
+
+/// A journal has one text, and a text is one journal: two that can be written, with the same text, are one.
+pub fn one_journal()
+    ensures { (c d : Config) (g h : List Entry) → IsWritable c g → IsWritable d h → journal_text c g ≡ journal_text d h → (c ≡ d) × (g ≡ h) }
+{}
+
+/// Each call of a journal that can be written is its own kept call.
+pub fn a_writable_journal_keeps_its_calls()
+    ensures { (c : Config) (h : List Entry) → IsWritable c h → AllByRecursion (λ (e : Entry). kept e.call ≡ e.call) h }
+{}
+
+/// The number of the first bad line is one.
+pub fn one_bad_line()
+    ensures { (bytes : List ℕ) (n m : ℕ) → IsFirstBad Spells byte_limit bytes n → IsFirstBad Spells byte_limit bytes m → n ≡ m }
+{}

@@ -1,0 +1,126 @@
+//! Reads a journal, line by line.
+ghost use Rattle.std.specs.Prelude.{◌≡◌, ◌≤◌, ◌⊎◌, ℕ, length, IfOk, Ok, Err};
+ghost use Rattle.text_codec.specs.Formats.{Says};
+ghost use Rattle.text_lines.specs.Lines.{IsFirstBad};
+ghost use Rattle.text_lines.specs.declared.reading.TextFault.{TextFault};
+ghost use Rattle.journal_text.specs.Journals.{IsWritable, Spells, byte_limit, journal_text};
+ghost use Rattle.journal_text.specs.Reading as lines;
+ghost use Rattle.journal_text.specs.JournalLaws as laws;
+ghost use Rattle.journal_text.specs.declared.reading.JournalReader.{JournalReader};
+ghost use Rattle.journal_text.specs.declared.journals.Journal.{Journal};
+
+use crate::Journal;
+use crate::entries::{count_of, entry_of};
+use crate::titles::header_of;
+use drmaa_model::{Config, EntryList};
+use drmaa_types::ListOf;
+use std::alloc::Global;
+use text_codec::{Cursor, Unread};
+use text_lines::{LineReader, TextFault, read_text};
+use text_words::push_last;
+
+/// The greatest number of bytes of a journal.
+pub const BYTE_LIMIT: usize = 268_435_456;
+
+/// A journal that is read line by line: what was read so far.
+#[derive(Drop)]
+pub enum JournalReader {
+    /// Nothing.
+    Start,
+    /// The first line, and the lines of entries.
+    Going { config: Config, entries: EntryList },
+    /// The last line, too.
+    Ended(Journal),
+}
+
+/// What is read with the last line, which says so many entries.
+fn closed(config: Config, entries: EntryList, count: u64) -> Result<JournalReader, Unread>
+    ensures { Says (lines.closed config entries count) result }
+{
+    if count == entries.as_slice().len() as u64 {
+        Ok(JournalReader::Ended(Journal { config, entries }))
+    } else {
+        Err(Unread::Unspelled)
+    }
+}
+
+/// What is read with the line of one entry more, which has this number.
+fn longer(
+    alloc: Global,
+    config: Config,
+    entries: EntryList,
+    line: &[u8],
+) -> Result<JournalReader, Unread>
+    ensures { Says (lines.longer_by config entries line.now) result }
+{
+    let count = entries.as_slice().len() as u64;
+    let (number, entry) = entry_of(alloc, line)?;
+    if number == count + 1 {
+        let mut entries = entries.into_vec();
+        push_last(&mut entries, entry)?;
+        let entries = ListOf::from_vec(entries);
+        Ok(JournalReader::Going { config, entries })
+    } else {
+        Err(Unread::Unspelled)
+    }
+}
+
+/// What is read with a line more, behind the first line.
+fn after_going(
+    alloc: Global,
+    config: Config,
+    entries: EntryList,
+    line: &[u8],
+) -> Result<JournalReader, Unread>
+    ensures { Says (lines.next (JournalReader.Going config entries) line.now) result }
+{
+    let mut cursor = Cursor::new(alloc, line);
+    if cursor.skip(b"end ") {
+        let count = count_of(&mut cursor)?;
+        return closed(config, entries, count);
+    }
+    longer(alloc, config, entries, line)
+}
+
+impl LineReader for JournalReader {
+    type Read = Journal;
+
+    ghost stepping = { lines.reading };
+
+    ghost reads = { laws.reads_from };
+
+    fn next(self, alloc: Global, line: &[u8]) -> Result<JournalReader, Unread> {
+        match self {
+            JournalReader::Start => {
+                let config = header_of(alloc, line)?;
+                let entries = ListOf::new(alloc);
+                Ok(JournalReader::Going { config, entries })
+            }
+            JournalReader::Going { config, entries } => after_going(alloc, config, entries, line),
+            JournalReader::Ended(_) => Err(Unread::Unspelled),
+        }
+    }
+
+    fn ends(self) -> Option<Journal> {
+        match self {
+            JournalReader::Ended(journal) => Some(journal),
+            _ => None,
+        }
+    }
+}
+
+/// The journal that these bytes spell, all of them.
+///
+/// # Errors
+/// `Line` exactly where they spell none, or are more than 268,435,456 bytes, with the number of the first line after which
+/// no journal goes on.
+pub fn read_journal(alloc: Global, bytes: &[u8]) -> Result<Journal, TextFault>
+    ensures writable { IfOk result (λ j. IsWritable j.config j.entries) }
+    ensures found { IfOk result (λ j. bytes.now ≡ journal_text j.config j.entries) }
+    ensures within { IfOk result (λ j. length bytes.now ≤ byte_limit) }
+    ensures only { (j : Journal) → IsWritable j.config j.entries → bytes.now ≡ journal_text j.config j.entries → length bytes.now ≤ byte_limit
+        → (result ≡ Ok j) ⊎ (result ≡ Err TextFault.OutOfMemory) }
+    ensures line { (n : ℕ) → result ≡ Err (TextFault.Line n) → IsFirstBad Spells byte_limit bytes.now n }
+{
+    read_text(alloc, JournalReader::Start, bytes, BYTE_LIMIT)
+}
