@@ -6,13 +6,14 @@ use Rattle.std.proofs.lemmas.Bool.Decides.{nat_tests}
 use Rattle.std.proofs.lemmas.Option.{none-some, same_Some, cond_some}
 use Rattle.drmaa_model.specs.declared.configs.Config.{Config}
 use Rattle.drmaa_model.specs.declared.entries.Entry.{Entry}
+use Rattle.text_codec.specs.Lexical.{IsClean}
 use Rattle.text_codec.specs.Formats.{strip, number, pair, behind, checked, read_line}
 use Rattle.text_codec.specs.Quotes.{text}
 use Rattle.text_codec.specs.StepLaws.{bind, chosen, strip_found}
 use Rattle.text_codec.specs.FormatLaws.{line_found, line_again}
 use Rattle.text_codec.specs.BaseLaws.{number_laws_64}
 use Rattle.text_lines.specs.Lines.{kept, ended, whole_lines, AreLines, GoesOn, IsTextOf}
-use Rattle.text_lines.specs.LineLaws.{ended_text, both_lines, lines_again, one_text}
+use Rattle.text_lines.specs.LineLaws.{ended_text, ended_utf8, lines_again, one_text}
 use Rattle.text_lines.specs.Automata.{Runs, Reads, GoesBy, from}
 use Rattle.journal_text.specs.Journals.{header, title, journal_size, suspend, entry, closing, entry_lines, journal_lines, journal_text, IsEntry, IsWritable, Spells}
 use Rattle.journal_text.specs.LineLaws.{header_laws, entry_laws, closing_laws, entry_valid, entry_number, entry_is, number_is, closing_is, entry_no_end}
@@ -126,21 +127,35 @@ complete ls q s =
     let run : Runs Goes Start (journal_lines q.config q.entries) (Ended q) = (Going q.config [], first, entries_run q.config [] q.entries s.writable.few s.writable.each) in
     (Ended q, subst (λ ks. Runs Goes Start ks (Ended q)) (sym s.text) run, refl)
 
--- the lines of a journal have no line feed
-entries_are_lines : (n : ℕ) (es : List Entry) → n + length es ≤ 2 ^ 64 → AllByRecursion IsEntry es → AreLines (entry_lines n es)
-entries_are_lines n [] few each = tt
-entries_are_lines n (e ∷ es) few each =
+-- the lines of a journal are UTF-8 without a line feed
+entries_are_clean : (n : ℕ) (es : List Entry) → n + length es ≤ 2 ^ 64 → AllByRecursion IsEntry es → AllByRecursion IsClean (entry_lines n es)
+entries_are_clean n [] few each = tt
+entries_are_clean n (e ∷ es) few each =
     let small : n < 2 ^ 64 = omega (arith, few) in
     let rest : n + 1 + length es ≤ 2 ^ 64 = omega (arith, few) in
-    ((entry_laws.clean (n, e) (entry_valid n e small each.0)).one_line, entries_are_lines (n + 1) es rest each.1)
+    (entry_laws.clean (n, e) (entry_valid n e small each.0), entries_are_clean (n + 1) es rest each.1)
 
-closing_is_line : (n : ℕ) → n < 2 ^ 64 → AreLines (closing.spell n ∷ [])
-closing_is_line n h = ((closing_laws.clean n (closing_is n h)).one_line, tt)
+both_clean : (ls ms : List (List ℕ)) → AllByRecursion IsClean ls → AllByRecursion IsClean ms → AllByRecursion IsClean (ls ++ ms)
+both_clean [] ms a b = b
+both_clean (l ∷ ls) ms a b = (a.0, both_clean ls ms a.1 b)
 
-pub journal_are_lines : (c : Config) (es : List Entry) → IsWritable c es → AreLines (journal_lines c es)
-journal_are_lines c es w =
+are_lines : (ls : List (List ℕ)) → AllByRecursion IsClean ls → AreLines ls
+are_lines [] h = tt
+are_lines (l ∷ ls) h = (h.0.one_line, are_lines ls h.1)
+
+closing_is_clean : (n : ℕ) → n < 2 ^ 64 → AllByRecursion IsClean (closing.spell n ∷ [])
+closing_is_clean n h = (closing_laws.clean n (closing_is n h), tt)
+
+journal_is_clean : (c : Config) (es : List Entry) → IsWritable c es → AllByRecursion IsClean (journal_lines c es)
+journal_is_clean c es w =
     let some : 1 + length es ≤ 2 ^ 64 = omega (arith, w.few) in
-    ((header_laws.clean c w.config).one_line, both_lines (entry_lines 1 es) (closing.spell (length es) ∷ []) (entries_are_lines 1 es some w.each) (closing_is_line (length es) w.few))
+    (header_laws.clean c w.config, both_clean (entry_lines 1 es) (closing.spell (length es) ∷ []) (entries_are_clean 1 es some w.each) (closing_is_clean (length es) w.few))
+
+journal_are_lines : (c : Config) (es : List Entry) → IsWritable c es → AreLines (journal_lines c es)
+journal_are_lines c es w = are_lines (journal_lines c es) (journal_is_clean c es w)
+
+pub journal_utf8 : (c : Config) (es : List Entry) → IsWritable c es → IsUtf8 (journal_text c es)
+journal_utf8 c es w = ended_utf8 (journal_lines c es) (journal_is_clean c es w)
 
 -- a machine
 some_config : Config
@@ -175,7 +190,7 @@ going_on ls Start b = record {
 }
 going_on ls (Going c es) b = record {
   more = closing.spell (length es) ∷ [];
-  are_lines = closing_is_line (length es) b.few;
+  are_lines = are_lines (closing.spell (length es) ∷ []) (closing_is_clean (length es) b.few);
   text = journal_of c es;
   spelled = record { writable = record { config = b.config; each = b.each; few = b.few }; text = ap (λ ks. ks ++ closing.spell (length es) ∷ []) b.text };
   unskipped = last_kept (length es);

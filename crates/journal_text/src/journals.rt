@@ -24,6 +24,7 @@ pub struct Journal {
 pub fn print_journal(alloc: Global, config: &Config, entries: &[Entry]) -> Result<Bytes, AllocError>
     ensures text { IfOk result (λ b. b ≡ journal_text config.now (map kept_entry entries.now)) }
     ensures kept { AllByRecursion (λ (e : Entry). kept e.call ≡ e.call) entries.now → IfOk result (λ b. b ≡ journal_text config.now entries.now) }
+    ensures written { IsWritable config.now entries.now → IfOk result (λ b. b ≡ journal_text config.now entries.now) }
     ensures writable { IsPrintable config.now entries.now → OnOk result (IsWritable config.now entries.now) }
 {
     let mut out = Vec::new(alloc);

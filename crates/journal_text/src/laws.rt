@@ -1,5 +1,5 @@
 //! What is true of every journal: each law is the contract of a function that does nothing.
-ghost use Rattle.std.specs.Prelude.{◌≡◌, ℕ, List};
+ghost use Rattle.std.specs.Prelude.{◌≡◌, ℕ, List, IsUtf8};
 ghost use Rattle.std.specs.List.{AllByRecursion};
 ghost use Rattle.drmaa_model.specs.KeptCalls.{kept};
 ghost use Rattle.drmaa_model.specs.declared.configs.Config.{Config};
@@ -10,6 +10,11 @@ ghost use Rattle.journal_text.specs.Journals.{IsWritable, Spells, byte_limit, jo
 /// A journal has one text, and a text is one journal: two that can be written, with the same text, are one.
 pub fn one_journal()
     ensures { (c d : Config) (g h : List Entry) → IsWritable c g → IsWritable d h → journal_text c g ≡ journal_text d h → (c ≡ d) × (g ≡ h) }
+{}
+
+/// The text of a journal that can be written is UTF-8.
+pub fn a_journal_is_utf8()
+    ensures { (c : Config) (h : List Entry) → IsWritable c h → IsUtf8 (journal_text c h) }
 {}
 
 /// Each call of a journal that can be written is its own kept call.
