@@ -8,9 +8,12 @@ use Rattle.drmaa_types.specs.declared.identifiers.ArrayId.{ArrayId}
 use Rattle.drmaa_types.specs.declared.identifiers.JobId.{JobId}
 use Rattle.drmaa_types.specs.declared.identifiers.ReservationId.{ReservationId}
 use Rattle.drmaa_types.specs.declared.identifiers.SessionId.{SessionId}
+use Rattle.drmaa_types.specs.declared.states.Control.{Control}
+use Rattle.drmaa_types.specs.declared.states.Exit.{Exit}
 use Rattle.drmaa_types.specs.declared.states.JobState.{JobState}
 use Rattle.drmaa_model.specs.declared.calls.Call.{Call}
 use Rattle.drmaa_model.specs.declared.calls.Call.TheVariants as call
+use Rattle.drmaa_model.specs.declared.calls.Target.TheVariants as target
 use Rattle.drmaa_model.specs.declared.configs.Config.{Config}
 use Rattle.drmaa_model.specs.declared.entries.Entry.{Entry}
 use Rattle.drmaa_model.specs.declared.replies.Reply.{Reply}
@@ -113,3 +116,24 @@ in_state state = record any_job { state = Some state }
 -- a job session named `s`, the first of all sessions
 abbrev pub opened : Entry
 opened = entry 1 0 (call.CreateJobSession (Some (codes "s"))) (reply.Session (session 1))
+
+-- ---- entries at 0
+
+-- a job of the session, from this template
+abbrev pub run : JobTemplate → ℕ → Entry
+run t number = entry 1 0 (call.RunJob (session 1) t) (reply.Job (job number))
+
+abbrev pub controlled : ℕ → Control → Reply → Entry
+controlled number what told = entry 1 0 (call.Control (session 1) (target.Job (job number)) what) told
+
+abbrev pub has_state : ℕ → JobState → Entry
+has_state number s = entry 1 0 (call.GetState (session 1) (job number)) (reply.State s)
+
+abbrev pub launched : ℕ → ℕ → ℕ → Entry
+launched number attempt slots = entry 2 0 call.TakeLaunch (launch number attempt slots)
+
+abbrev pub started : ℕ → Entry
+started number = entry 2 0 (call.Started (job number) 1) reply.Unit
+
+abbrev pub exited : ℕ → ℕ → Exit → Entry
+exited number attempt exit = entry 3 0 (call.Exited (job number) attempt exit) reply.Unit

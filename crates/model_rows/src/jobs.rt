@@ -1,4 +1,4 @@
-//! One job, control, exits and slots.
+//! One job, sessions, slots, priorities and time.
 ghost use Rattle.std.specs.Prelude.{◌≡◌, ◌++◌};
 ghost use Rattle.drmaa_model.specs.declared.calls.Call.TheVariants as call;
 ghost use Rattle.drmaa_model.specs.Effects.{nothing};
@@ -21,4 +21,21 @@ pub fn sessions_come_and_go()
 pub fn a_job_gets_the_most_slots()
     ensures most { IsLegal node rows.most_slots }
     ensures refused { IsLegal rows.one_slot rows.too_wide }
+{}
+
+/// The first job in order that fits is launched; one that does not fit waits.
+pub fn a_lesser_job_is_launched_first()
+    ensures legal { IsLegal node (rows.first_that_fit ++ rows.then_the_other) }
+    ensures waits { answer (replay node rows.first_that_fit) 0 call.TakeLaunch ≡ nothing }
+{}
+
+/// The job of the greater priority is launched first.
+pub fn a_priority_comes_before_a_number()
+    ensures { IsLegal rows.one_slot rows.by_priority }
+{}
+
+/// A job that waits at its deadline fails; one that runs at the end of its limit is asked to end, and runs on.
+pub fn time_ends_jobs()
+    ensures deadline { IsLegal node rows.past_deadline }
+    ensures limit { IsLegal node rows.past_limit }
 {}

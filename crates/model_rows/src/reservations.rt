@@ -1,4 +1,4 @@
-//! Reservations, and monitoring.
+//! Reservations.
 ghost use Rattle.std.specs.Prelude.{◌≡◌, ◌++◌};
 ghost use Rattle.drmaa_model.specs.declared.calls.Call.TheVariants as call;
 ghost use Rattle.drmaa_model.specs.Effects.{nothing};
@@ -17,4 +17,15 @@ pub fn a_launch_keeps_out_of_reservations()
 pub fn a_frame_is_filled_from_its_start()
     ensures legal { IsLegal node rows.frames }
     ensures full { IsLegal node rows.no_start }
+{}
+
+/// A job that runs into a reservation holds its slots until its end is reported; then a job of the reservation is launched.
+pub fn a_job_waits_in_its_reservation()
+    ensures legal { IsLegal node (rows.in_the_way ++ rows.out_of_the_way) }
+    ensures waits { answer (replay node rows.in_the_way) 3 call.TakeLaunch ≡ nothing }
+{}
+
+/// A reservation is told until it is ended, and a destroyed session's numbers are gone.
+pub fn a_reservation_is_told_and_ended()
+    ensures { IsLegal node rows.told_and_ended }
 {}
