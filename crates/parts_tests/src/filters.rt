@@ -1,0 +1,238 @@
+//! Which infos a filter lets through.
+use crate::builders::{Sample, moment, sample_text};
+use drmaa_types::{Exit, JobFilter, JobId, JobInfo, JobState, Note};
+use std::alloc::Global;
+use std::test::Fail;
+
+/// A filter that lets every job through.
+fn any() -> JobFilter {
+    JobFilter {
+        job: None,
+        name: None,
+        state: None,
+        slots: None,
+        queue: None,
+        status: None,
+        wallclock: None,
+        submitted: None,
+        dispatched: None,
+        finished: None,
+    }
+}
+
+/// What is known of job 7, submitted at 5, before it is launched.
+fn waiting(alloc: Global) -> Result<JobInfo, Fail> {
+    let submitted = moment(5)?;
+    Ok(JobInfo {
+        job: JobId(7),
+        session: None,
+        name: None,
+        array: None,
+        index: None,
+        state: JobState::Queued,
+        slots: None,
+        queue: sample_text(alloc, Sample::Other)?,
+        wallclock: None,
+        submitted,
+        dispatched: None,
+        finished: None,
+        exit: None,
+        note: Note::None,
+    })
+}
+
+/// What is known of job 7, which has a name, was launched on two slots at 10, and has ended at 20 by this exit.
+fn ended(alloc: Global, exit: Exit) -> Result<JobInfo, Fail> {
+    let dispatched = moment(10)?;
+    let finished = moment(20)?;
+    let mut info = waiting(alloc)?;
+    info.name = Some(sample_text(alloc, Sample::Word)?);
+    info.state = JobState::Done;
+    info.slots = Some(2);
+    info.wallclock = Some(10);
+    info.dispatched = Some(dispatched);
+    info.finished = Some(finished);
+    info.exit = Some(exit);
+    Ok(info)
+}
+
+/// A field that is a number.
+#[derive(Clone, Copy)]
+enum Field {
+    Job,
+    Slots,
+    Status,
+    Wallclock,
+    Submitted,
+    Dispatched,
+    Finished,
+}
+
+/// A filter of one field.
+fn only(field: Field, number: u8) -> Result<JobFilter, Fail> {
+    let at = moment(u64::from(number))?;
+    let mut filter = any();
+    match field {
+        Field::Job => filter.job = Some(JobId(u64::from(number))),
+        Field::Slots => filter.slots = Some(u32::from(number)),
+        Field::Status => filter.status = Some(number),
+        Field::Wallclock => filter.wallclock = Some(u64::from(number)),
+        Field::Submitted => filter.submitted = Some(at),
+        Field::Dispatched => filter.dispatched = Some(at),
+        Field::Finished => filter.finished = Some(at),
+    }
+    Ok(filter)
+}
+
+/// A field and its number, and whether the job that waits and the one that has ended are let through.
+const FIELDS: [(Field, u8, bool, bool); 20] = [
+    (Field::Job, 7, true, true),
+    (Field::Job, 8, false, false),
+    (Field::Slots, 1, false, false),
+    (Field::Slots, 2, false, true),
+    (Field::Slots, 3, false, false),
+    (Field::Status, 0, false, false),
+    (Field::Status, 3, false, true),
+    (Field::Status, 4, false, false),
+    (Field::Wallclock, 0, false, true),
+    (Field::Wallclock, 10, false, true),
+    (Field::Wallclock, 11, false, false),
+    (Field::Submitted, 4, true, true),
+    (Field::Submitted, 5, true, true),
+    (Field::Submitted, 6, false, false),
+    (Field::Dispatched, 0, false, true),
+    (Field::Dispatched, 10, false, true),
+    (Field::Dispatched, 11, false, false),
+    (Field::Finished, 0, false, true),
+    (Field::Finished, 20, false, true),
+    (Field::Finished, 21, false, false),
+];
+
+#[test]
+fn numbers_are_equal_and_moments_not_before(rt: HostRuntime) -> Result<(), Fail> {
+    let waits = waiting(rt.alloc())?;
+    let done = ended(rt.alloc(), Exit::Code(3))?;
+    for (field, number, before, after) in &FIELDS {
+        let filter = only(*field, *number)?;
+        assert_eq!(rt; filter.matches(&waits), *before);
+        assert_eq!(rt; filter.matches(&done), *after);
+    }
+    Ok(())
+}
+
+/// A status, an exit, and whether they agree.
+const EXITS: [(u8, Exit, bool); 6] = [
+    (0, Exit::Code(0), true),
+    (1, Exit::Code(0), false),
+    (0, Exit::Code(1), false),
+    (255, Exit::Code(255), true),
+    (9, Exit::Signal(9), false),
+    (0, Exit::Signal(0), false),
+];
+
+#[test]
+fn a_status_is_of_an_exit_by_code(rt: HostRuntime) -> Result<(), Fail> {
+    for (status, exit, want) in &EXITS {
+        let info = ended(rt.alloc(), *exit)?;
+        assert_eq!(rt; only(Field::Status, *status)?.matches(&info), *want);
+    }
+    Ok(())
+}
+
+/// A state, and whether the job that waits and the one that has ended are let through.
+const STATES: [(JobState, bool, bool); 9] = [
+    (JobState::Undetermined, false, false),
+    (JobState::Queued, true, false),
+    (JobState::QueuedHeld, false, false),
+    (JobState::Running, false, false),
+    (JobState::Suspended, false, false),
+    (JobState::Requeued, false, false),
+    (JobState::RequeuedHeld, false, false),
+    (JobState::Done, false, true),
+    (JobState::Failed, false, false),
+];
+
+#[test]
+fn a_state_is_the_one_wanted(rt: HostRuntime) -> Result<(), Fail> {
+    let waits = waiting(rt.alloc())?;
+    let done = ended(rt.alloc(), Exit::Code(3))?;
+    for (state, before, after) in &STATES {
+        let mut filter = any();
+        filter.state = Some(*state);
+        assert_eq!(rt; filter.matches(&waits), *before);
+        assert_eq!(rt; filter.matches(&done), *after);
+    }
+    Ok(())
+}
+
+/// A name, and a queue, as they are set.
+fn named(alloc: Global, name: Option<Sample>, queue: Option<Sample>) -> Result<JobFilter, Fail> {
+    let mut filter = any();
+    if let Some(name) = name {
+        filter.name = Some(sample_text(alloc, name)?);
+    }
+    if let Some(queue) = queue {
+        filter.queue = Some(sample_text(alloc, queue)?);
+    }
+    Ok(filter)
+}
+
+/// A name and a queue, and whether the job that waits and the one that has ended are let through.
+const TEXTS: [(Option<Sample>, Option<Sample>, bool, bool); 9] = [
+    (None, None, true, true),
+    (Some(Sample::Word), None, false, true),
+    (Some(Sample::Other), None, false, false),
+    (Some(Sample::Cut), None, false, false),
+    (Some(Sample::Empty), None, false, false),
+    (None, Some(Sample::Other), true, true),
+    (None, Some(Sample::Hyphen), false, false),
+    (None, Some(Sample::Empty), false, false),
+    (Some(Sample::Word), Some(Sample::Word), false, false),
+];
+
+#[test]
+fn texts_are_equal(rt: HostRuntime) -> Result<(), Fail> {
+    let waits = waiting(rt.alloc())?;
+    let done = ended(rt.alloc(), Exit::Code(3))?;
+    for (name, queue, before, after) in &TEXTS {
+        let filter = named(rt.alloc(), *name, *queue)?;
+        assert_eq!(rt; filter.matches(&waits), *before);
+        assert_eq!(rt; filter.matches(&done), *after);
+    }
+    Ok(())
+}
+
+/// A filter with each field, that lets the job that has ended through where its job, slots and end do.
+fn every(alloc: Global, job: u64, slots: u32, finished: u64) -> Result<JobFilter, Fail> {
+    let submitted = Some(moment(5)?);
+    let dispatched = Some(moment(10)?);
+    let finished = Some(moment(finished)?);
+    let mut filter = named(alloc, Some(Sample::Word), Some(Sample::Other))?;
+    filter.job = Some(JobId(job));
+    filter.state = Some(JobState::Done);
+    filter.slots = Some(slots);
+    filter.status = Some(3);
+    filter.wallclock = Some(10);
+    filter.submitted = submitted;
+    filter.dispatched = dispatched;
+    filter.finished = finished;
+    Ok(filter)
+}
+
+/// A job, slots and an end, and whether the job is let through.
+const WHOLES: [(u64, u32, u64, bool); 4] = [
+    (7, 2, 20, true),
+    (6, 2, 20, false),
+    (7, 1, 20, false),
+    (7, 2, 21, false),
+];
+
+#[test]
+fn each_set_field_has_to_agree(rt: HostRuntime) -> Result<(), Fail> {
+    let done = ended(rt.alloc(), Exit::Code(3))?;
+    for (job, slots, finished, want) in &WHOLES {
+        let filter = every(rt.alloc(), *job, *slots, *finished)?;
+        assert_eq!(rt; filter.matches(&done), *want);
+    }
+    Ok(())
+}

@@ -1,0 +1,113 @@
+//! What is refused of the numbers of a job template.
+use crate::builders::{Sample, job, moment, sample_text, set_moment};
+use drmaa_types::{Attribute, AttributeList, Refusal, Which};
+use job_template::{JobTemplate, validate_job};
+use std::alloc::Global;
+use std::test::Fail;
+
+/// The refusal of an argument, where there is one.
+fn refusal(which: Option<Which>) -> Option<Refusal> {
+    match which {
+        Some(which) => Some(Refusal::InvalidArgument(which)),
+        None => None,
+    }
+}
+
+/// Slots of the machine, the least and the greatest number asked for, and which of them is refused.
+const SLOTS: [(u32, Option<u32>, Option<u32>, Option<Which>); 14] = [
+    (4, None, None, None),
+    (1, None, None, None),
+    (0, None, None, Some(Which::MinSlots)),
+    (4, Some(0), None, Some(Which::MinSlots)),
+    (4, Some(0), Some(1), Some(Which::MinSlots)),
+    (4, Some(4), None, None),
+    (4, Some(5), None, Some(Which::MinSlots)),
+    (4, Some(2), Some(9), None),
+    (1, Some(2), Some(9), Some(Which::MinSlots)),
+    (4, Some(2), Some(2), None),
+    (4, Some(2), Some(1), Some(Which::MaxSlots)),
+    (4, None, Some(0), Some(Which::MaxSlots)),
+    (65_535, Some(65_535), Some(u32::MAX), None),
+    (65_535, Some(65_536), None, Some(Which::MinSlots)),
+];
+
+/// A template with these numbers of slots.
+fn wide(alloc: Global, min: Option<u32>, max: Option<u32>) -> Result<JobTemplate, Fail> {
+    let mut template = job(alloc, sample_text(alloc, Sample::Word)?);
+    template.min_slots = min;
+    template.max_slots = max;
+    Ok(template)
+}
+
+#[test]
+fn slots_are_those_of_the_machine(rt: HostRuntime) -> Result<(), Fail> {
+    for (slots, min, max, which) in &SLOTS {
+        let template = wide(rt.alloc(), *min, *max)?;
+        let said = validate_job(&template, *slots, moment(0)?);
+        assert_eq!(rt; said.err(), refusal(*which));
+    }
+    Ok(())
+}
+
+/// The moment, the start, the deadline, and whether the deadline is good.
+const DEADLINES: [(u64, Option<u64>, Option<u64>, bool); 12] = [
+    (5, None, None, true),
+    (5, Some(0), None, true),
+    (5, None, Some(6), true),
+    (5, None, Some(5), false),
+    (5, None, Some(0), false),
+    (5, Some(7), Some(8), true),
+    (5, Some(8), Some(8), false),
+    (5, Some(9), Some(8), false),
+    (5, Some(1), Some(6), true),
+    (5, Some(1), Some(4), false),
+    (99_999_999_999, None, Some(100_000_000_000), true),
+    (100_000_000_000, None, Some(100_000_000_000), false),
+];
+
+/// A template with this start and this deadline.
+fn timed(alloc: Global, start: Option<u64>, deadline: Option<u64>) -> Result<JobTemplate, Fail> {
+    let start = set_moment(start)?;
+    let deadline = set_moment(deadline)?;
+    let mut template = job(alloc, sample_text(alloc, Sample::Word)?);
+    template.start_time = start;
+    template.deadline_time = deadline;
+    Ok(template)
+}
+
+#[test]
+fn a_deadline_is_after_now_and_after_the_start(rt: HostRuntime) -> Result<(), Fail> {
+    for (now, start, deadline, good) in &DEADLINES {
+        let template = timed(rt.alloc(), *start, *deadline)?;
+        let said = validate_job(&template, 4, moment(*now)?);
+        let which = if *good {
+            None
+        } else {
+            Some(Which::DeadlineTime)
+        };
+        assert_eq!(rt; said.err(), refusal(which));
+    }
+    Ok(())
+}
+
+const ATTRIBUTES: [(Attribute, Attribute); 4] = [
+    (Attribute::Email, Attribute::MachineOs),
+    (Attribute::JobCategory, Attribute::JobCategory),
+    (Attribute::UsersAcl, Attribute::Email),
+    (Attribute::StageInFiles, Attribute::CandidateMachines),
+];
+
+#[test]
+fn what_the_profile_lacks_is_refused_last(rt: HostRuntime) -> Result<(), Fail> {
+    let alloc = rt.alloc();
+    for (first, second) in &ATTRIBUTES {
+        let mut template = wide(alloc, Some(2), Some(1))?;
+        template.others = AttributeList::from_vec(vec![in alloc; *first, *second]?);
+        let said = validate_job(&template, 4, moment(0)?);
+        assert_eq!(rt; said.err(), refusal(Some(Which::MaxSlots)));
+        template.max_slots = None;
+        let said = validate_job(&template, 4, moment(0)?);
+        assert_eq!(rt; said.err(), Some(Refusal::UnsupportedAttribute(*first)));
+    }
+    Ok(())
+}
