@@ -1,0 +1,11 @@
+pub mod Refs
+pub mod Shapes
+pub mod LineWords
+pub mod Lines
+pub mod TemplateFields
+pub mod Templates
+pub mod RefLaws
+pub mod ShapeLaws
+pub mod WholeLaws
+pub mod LineLaws
+pub mod TemplateFieldLaws

@@ -1,0 +1,263 @@
+//! Templates that are made field by field.
+ghost use Rattle.std.specs.Prelude.{◌≡◌, ◌++◌, ◌∷◌, [], IfOk, OnOk};
+ghost use Rattle.script_lines.specs.Templates as templates;
+
+use crate::{Beginning, JobField, ReservationField};
+use drmaa_types::{ListOf, Text};
+use job_template::{JobTemplate, ReservationTemplate, Start};
+use std::alloc::{AllocError, Global};
+
+/// A job's template that is being made.
+#[derive(Drop)]
+pub struct Draft {
+    /// Whether its command was set, which may be the empty text.
+    pub has_command: bool,
+    pub template: JobTemplate,
+}
+
+impl Draft {
+    /// Nothing is set; it takes no memory.
+    pub fn new(alloc: Global) -> Draft
+        ensures { result ≡ templates.no_fields }
+    {
+        let template = JobTemplate {
+            remote_command: Text::from_string(String::new(alloc)),
+            args: ListOf::new(alloc),
+            submit_as_hold: false,
+            rerunnable: false,
+            job_environment: ListOf::new(alloc),
+            working_directory: None,
+            job_name: None,
+            input_path: None,
+            output_path: None,
+            error_path: None,
+            join_files: false,
+            reservation_id: None,
+            queue_name: None,
+            min_slots: None,
+            max_slots: None,
+            priority: None,
+            start_time: None,
+            deadline_time: None,
+            resource_limits: ListOf::new(alloc),
+            others: ListOf::new(alloc),
+        };
+        Draft {
+            has_command: false,
+            template,
+        }
+    }
+}
+
+/// A reservation's template in which nothing is set; it takes no memory.
+pub fn new_reservation(alloc: Global) -> ReservationTemplate
+    ensures { result ≡ templates.no_reservation_fields }
+{
+    ReservationTemplate {
+        reservation_name: None,
+        start_time: None,
+        end_time: None,
+        duration: None,
+        min_slots: None,
+        max_slots: None,
+        others: ListOf::new(alloc),
+    }
+}
+
+/// A list with one item more.
+pub fn with_last<T: Drop>(list: ListOf<T>, item: T) -> Result<ListOf<T>, AllocError>
+    ensures { IfOk result (λ longer. longer ≡ list ++ item ∷ []) }
+{
+    let mut items = list.into_vec();
+    items.push(item)?;
+    Ok(ListOf::from_vec(items))
+}
+
+/// Adds an item at the end of a list. After an `Err` the list may be empty.
+fn push_last<T: Drop>(alloc: Global, list: &mut ListOf<T>, item: T) -> Result<(), AllocError>
+    ensures { OnOk result (list.new ≡ list.old ++ item ∷ []) }
+{
+    let items = std::mem::replace(list, ListOf::new(alloc));
+    *list = with_last(items, item)?;
+    Ok(())
+}
+
+/// Whether what a line sets is set already. What may stand any number of times is never set.
+pub fn is_set(draft: &Draft, field: &JobField) -> bool
+    ensures { result ≡ templates.is_set draft.now field.now }
+{
+    let template = &draft.template;
+    match field {
+        JobField::Command(_) => draft.has_command,
+        JobField::Arg(_) => false,
+        JobField::Hold => template.submit_as_hold,
+        JobField::Rerunnable => template.rerunnable,
+        JobField::Env(_) => false,
+        JobField::Directory(_) => template.working_directory.is_some(),
+        JobField::Name(_) => template.job_name.is_some(),
+        JobField::Input(_) => template.input_path.is_some(),
+        JobField::Output(_) => template.output_path.is_some(),
+        JobField::Error(_) => template.error_path.is_some(),
+        JobField::Join => template.join_files,
+        JobField::Queue(_) => template.queue_name.is_some(),
+        JobField::MinSlots(_) => template.min_slots.is_some(),
+        JobField::MaxSlots(_) => template.max_slots.is_some(),
+        JobField::Priority(_) => template.priority.is_some(),
+        JobField::Start(_) => template.start_time.is_some(),
+        JobField::Deadline(_) => template.deadline_time.is_some(),
+        JobField::Limit(_) => false,
+        JobField::Other(_) => false,
+    }
+}
+
+/// What is made of a template by one line more.
+pub fn with_field(alloc: Global, draft: Draft, field: JobField) -> Result<Draft, AllocError>
+    ensures { IfOk result (λ d. d ≡ templates.with_field draft field) }
+{
+    let mut draft = draft;
+    match field {
+        JobField::Command(text) => {
+            draft.has_command = true;
+            draft.template.remote_command = text;
+            Ok(draft)
+        }
+        JobField::Arg(text) => {
+            push_last(alloc, &mut draft.template.args, text)?;
+            Ok(draft)
+        }
+        JobField::Hold => {
+            draft.template.submit_as_hold = true;
+            Ok(draft)
+        }
+        JobField::Rerunnable => {
+            draft.template.rerunnable = true;
+            Ok(draft)
+        }
+        JobField::Env(variable) => {
+            push_last(alloc, &mut draft.template.job_environment, variable)?;
+            Ok(draft)
+        }
+        JobField::Directory(text) => {
+            draft.template.working_directory = Some(text);
+            Ok(draft)
+        }
+        JobField::Name(text) => {
+            draft.template.job_name = Some(text);
+            Ok(draft)
+        }
+        JobField::Input(text) => {
+            draft.template.input_path = Some(text);
+            Ok(draft)
+        }
+        JobField::Output(text) => {
+            draft.template.output_path = Some(text);
+            Ok(draft)
+        }
+        JobField::Error(text) => {
+            draft.template.error_path = Some(text);
+            Ok(draft)
+        }
+        JobField::Join => {
+            draft.template.join_files = true;
+            Ok(draft)
+        }
+        JobField::Queue(text) => {
+            draft.template.queue_name = Some(text);
+            Ok(draft)
+        }
+        JobField::MinSlots(slots) => {
+            draft.template.min_slots = Some(slots);
+            Ok(draft)
+        }
+        JobField::MaxSlots(slots) => {
+            draft.template.max_slots = Some(slots);
+            Ok(draft)
+        }
+        JobField::Priority(priority) => {
+            draft.template.priority = Some(priority);
+            Ok(draft)
+        }
+        JobField::Start(said) => {
+            draft.template.start_time = Some(said.moment);
+            Ok(draft)
+        }
+        JobField::Deadline(said) => {
+            draft.template.deadline_time = Some(said.moment);
+            Ok(draft)
+        }
+        JobField::Limit(limit) => {
+            push_last(alloc, &mut draft.template.resource_limits, limit)?;
+            Ok(draft)
+        }
+        JobField::Other(attribute) => {
+            push_last(alloc, &mut draft.template.others, attribute)?;
+            Ok(draft)
+        }
+    }
+}
+
+/// Whether what a line sets is set already. What may stand any number of times is never set.
+pub fn is_reservation_set(template: &ReservationTemplate, field: &ReservationField) -> bool
+    ensures { result ≡ templates.is_reservation_set template.now field.now }
+{
+    match field {
+        ReservationField::Name(_) => template.reservation_name.is_some(),
+        ReservationField::Start(_) => template.start_time.is_some(),
+        ReservationField::End(_) => template.end_time.is_some(),
+        ReservationField::Duration(_) => template.duration.is_some(),
+        ReservationField::MinSlots(_) => template.min_slots.is_some(),
+        ReservationField::MaxSlots(_) => template.max_slots.is_some(),
+        ReservationField::Other(_) => false,
+    }
+}
+
+/// When a reservation is to start.
+fn start_of(beginning: Beginning) -> Start
+    ensures { result ≡ templates.start_of beginning }
+{
+    match beginning {
+        Beginning::Now => Start::Now,
+        Beginning::At(said) => Start::At(said.moment),
+    }
+}
+
+/// What is made of a reservation's template by one line more.
+pub fn with_reservation_field(
+    alloc: Global,
+    template: ReservationTemplate,
+    field: ReservationField,
+) -> Result<ReservationTemplate, AllocError>
+    ensures { IfOk result (λ t. t ≡ templates.with_reservation_field template field) }
+{
+    let mut template = template;
+    match field {
+        ReservationField::Name(text) => {
+            template.reservation_name = Some(text);
+            Ok(template)
+        }
+        ReservationField::Start(beginning) => {
+            template.start_time = Some(start_of(beginning));
+            Ok(template)
+        }
+        ReservationField::End(said) => {
+            template.end_time = Some(said.moment);
+            Ok(template)
+        }
+        ReservationField::Duration(seconds) => {
+            template.duration = Some(seconds);
+            Ok(template)
+        }
+        ReservationField::MinSlots(slots) => {
+            template.min_slots = Some(slots);
+            Ok(template)
+        }
+        ReservationField::MaxSlots(slots) => {
+            template.max_slots = Some(slots);
+            Ok(template)
+        }
+        ReservationField::Other(attribute) => {
+            push_last(alloc, &mut template.others, attribute)?;
+            Ok(template)
+        }
+    }
+}

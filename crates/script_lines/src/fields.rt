@@ -1,0 +1,451 @@
+//! The lines of template blocks: what each says, its word, and how it is read.
+ghost use Rattle.std.specs.Prelude.{◌≡◌};
+ghost use Rattle.text_codec.specs.Formats.{Answers, Says, first_spelled};
+ghost use Rattle.script_lines.specs.TemplateFields as fields;
+ghost use Rattle.script_lines.specs.declared.fields.TheConstants.{JOB_FIELD_WORDS, RESERVATION_FIELD_WORDS};
+
+use crate::shapes::{said_behind, text_behind};
+use drmaa_types::{Attribute, Text};
+use job_template::{Pair, ResourceLimit};
+use std::alloc::Global;
+use text_codec::{Cursor, Form, Unread};
+use text_dates::Said;
+use text_forms::{ReadForm, read_other};
+
+/// When a reservation is to start.
+#[derive(Clone, Copy, Debug, PartialEq, Eq)]
+pub enum Beginning {
+    Now,
+    At(Said),
+}
+
+/// A line of a job's template block.
+#[derive(Drop)]
+pub enum JobField {
+    /// `command TEXT`: the program that is run.
+    Command(Text),
+    /// `arg TEXT`, any number of times.
+    Arg(Text),
+    /// `hold`.
+    Hold,
+    /// `rerunnable`.
+    Rerunnable,
+    /// `env TEXT TEXT`, any number of times.
+    Env(Pair),
+    /// `directory TEXT`.
+    Directory(Text),
+    /// `name TEXT`.
+    Name(Text),
+    /// `input TEXT`.
+    Input(Text),
+    /// `output TEXT`.
+    Output(Text),
+    /// `error TEXT`.
+    Error(Text),
+    /// `join`.
+    Join,
+    /// `queue TEXT`.
+    Queue(Text),
+    /// `minslots NUMBER`.
+    MinSlots(u32),
+    /// `maxslots NUMBER`.
+    MaxSlots(u32),
+    /// `priority INTEGER`.
+    Priority(i32),
+    /// `start MOMENT`.
+    Start(Said),
+    /// `deadline MOMENT`.
+    Deadline(Said),
+    /// `limit WORD NUMBER`, any number of times.
+    Limit(ResourceLimit),
+    /// `other ATTRIBUTE`, any number of times.
+    Other(Attribute),
+}
+
+/// A line of a reservation's template block.
+#[derive(Drop)]
+pub enum ReservationField {
+    /// `name TEXT`.
+    Name(Text),
+    /// `start MOMENT` or `start now`.
+    Start(Beginning),
+    /// `end MOMENT`.
+    End(Said),
+    /// `duration NUMBER`, in seconds.
+    Duration(u64),
+    /// `minslots NUMBER`.
+    MinSlots(u32),
+    /// `maxslots NUMBER`.
+    MaxSlots(u32),
+    /// `other ATTRIBUTE`, any number of times.
+    Other(Attribute),
+}
+
+/// The words of the lines of a job's template.
+#[derive(Clone, Copy, Debug, PartialEq, Eq)]
+pub enum JobFieldWord {
+    Command,
+    Arg,
+    Hold,
+    Rerunnable,
+    Env,
+    Directory,
+    Name,
+    Input,
+    Output,
+    Error,
+    Join,
+    Queue,
+    MinSlots,
+    MaxSlots,
+    Priority,
+    Start,
+    Deadline,
+    Limit,
+    Other,
+}
+
+/// All of them.
+pub const JOB_FIELD_WORDS: [JobFieldWord; 19] = [
+    JobFieldWord::Command,
+    JobFieldWord::Arg,
+    JobFieldWord::Hold,
+    JobFieldWord::Rerunnable,
+    JobFieldWord::Env,
+    JobFieldWord::Directory,
+    JobFieldWord::Name,
+    JobFieldWord::Input,
+    JobFieldWord::Output,
+    JobFieldWord::Error,
+    JobFieldWord::Join,
+    JobFieldWord::Queue,
+    JobFieldWord::MinSlots,
+    JobFieldWord::MaxSlots,
+    JobFieldWord::Priority,
+    JobFieldWord::Start,
+    JobFieldWord::Deadline,
+    JobFieldWord::Limit,
+    JobFieldWord::Other,
+];
+
+/// How the word is spelled.
+fn spell_job_word(word: JobFieldWord) -> &'static str
+    ensures { result.now ≡ fields.job_word word }
+{
+    match word {
+        JobFieldWord::Command => "command",
+        JobFieldWord::Arg => "arg",
+        JobFieldWord::Hold => "hold",
+        JobFieldWord::Rerunnable => "rerunnable",
+        JobFieldWord::Env => "env",
+        JobFieldWord::Directory => "directory",
+        JobFieldWord::Name => "name",
+        JobFieldWord::Input => "input",
+        JobFieldWord::Output => "output",
+        JobFieldWord::Error => "error",
+        JobFieldWord::Join => "join",
+        JobFieldWord::Queue => "queue",
+        JobFieldWord::MinSlots => "minslots",
+        JobFieldWord::MaxSlots => "maxslots",
+        JobFieldWord::Priority => "priority",
+        JobFieldWord::Start => "start",
+        JobFieldWord::Deadline => "deadline",
+        JobFieldWord::Limit => "limit",
+        JobFieldWord::Other => "other",
+    }
+}
+
+/// The word that is spelled so.
+fn job_word_of(word: &[u8]) -> Option<JobFieldWord>
+    ensures { result ≡ first_spelled fields.job_word JOB_FIELD_WORDS word.now }
+{
+    JOB_FIELD_WORDS
+        .iter()
+        .copied()
+        .find(|field| spell_job_word(*field).as_bytes() == word)
+}
+
+/// The words of the lines of a reservation's template.
+#[derive(Clone, Copy, Debug, PartialEq, Eq)]
+pub enum ReservationFieldWord {
+    Name,
+    Start,
+    End,
+    Duration,
+    MinSlots,
+    MaxSlots,
+    Other,
+}
+
+/// All of them.
+pub const RESERVATION_FIELD_WORDS: [ReservationFieldWord; 7] = [
+    ReservationFieldWord::Name,
+    ReservationFieldWord::Start,
+    ReservationFieldWord::End,
+    ReservationFieldWord::Duration,
+    ReservationFieldWord::MinSlots,
+    ReservationFieldWord::MaxSlots,
+    ReservationFieldWord::Other,
+];
+
+/// How the word is spelled.
+fn spell_reservation_word(word: ReservationFieldWord) -> &'static str
+    ensures { result.now ≡ fields.reservation_word word }
+{
+    match word {
+        ReservationFieldWord::Name => "name",
+        ReservationFieldWord::Start => "start",
+        ReservationFieldWord::End => "end",
+        ReservationFieldWord::Duration => "duration",
+        ReservationFieldWord::MinSlots => "minslots",
+        ReservationFieldWord::MaxSlots => "maxslots",
+        ReservationFieldWord::Other => "other",
+    }
+}
+
+/// The word that is spelled so.
+fn reservation_word_of(word: &[u8]) -> Option<ReservationFieldWord>
+    ensures { result ≡ first_spelled fields.reservation_word RESERVATION_FIELD_WORDS word.now }
+{
+    RESERVATION_FIELD_WORDS
+        .iter()
+        .copied()
+        .find(|field| spell_reservation_word(*field).as_bytes() == word)
+}
+
+#[tactic(auto, unfolding(crate::specs::TemplateFields::variable_fields, text_codec::specs::Fields::always, text_codec::specs::Fields::no_more))]
+fn variable_behind(cursor: &mut Cursor) -> Result<(Pair, ()), Unread>
+    ensures { Answers fields.variable_fields.body.read cursor.old result cursor.new }
+{
+    cursor.expect(b" ")?;
+    let value = Pair::read(cursor)?;
+    Ok((value, ()))
+}
+
+#[tactic(auto, unfolding(crate::specs::TemplateFields::count_fields, text_codec::specs::Fields::always, text_codec::specs::Fields::no_more))]
+fn count_behind(cursor: &mut Cursor) -> Result<(u32, ()), Unread>
+    ensures { Answers fields.count_fields.body.read cursor.old result cursor.new }
+{
+    cursor.expect(b" ")?;
+    let value = cursor.u32()?;
+    Ok((value, ()))
+}
+
+#[tactic(auto, unfolding(crate::specs::TemplateFields::integer_fields, text_codec::specs::Fields::always, text_codec::specs::Fields::no_more))]
+fn integer_behind(cursor: &mut Cursor) -> Result<(i32, ()), Unread>
+    ensures { Answers fields.integer_fields.body.read cursor.old result cursor.new }
+{
+    cursor.expect(b" ")?;
+    let value = <i32 as Form>::read(cursor)?;
+    Ok((value, ()))
+}
+
+#[tactic(auto, unfolding(crate::specs::TemplateFields::limit_fields, text_codec::specs::Fields::always, text_codec::specs::Fields::no_more))]
+fn limit_behind(cursor: &mut Cursor) -> Result<(ResourceLimit, ()), Unread>
+    ensures { Answers fields.limit_fields.body.read cursor.old result cursor.new }
+{
+    cursor.expect(b" ")?;
+    let value = ResourceLimit::read(cursor)?;
+    Ok((value, ()))
+}
+
+#[tactic(auto, unfolding(crate::specs::TemplateFields::other_fields, text_codec::specs::Fields::always, text_codec::specs::Fields::no_more))]
+fn other_behind(cursor: &mut Cursor) -> Result<(Attribute, ()), Unread>
+    ensures { Answers fields.other_fields.body.read cursor.old result cursor.new }
+{
+    cursor.expect(b" ")?;
+    let value = read_other(cursor)?;
+    Ok((value, ()))
+}
+
+#[tactic(auto, unfolding(crate::specs::TemplateFields::duration_fields, text_codec::specs::Fields::always, text_codec::specs::Fields::no_more))]
+fn duration_behind(cursor: &mut Cursor) -> Result<(u64, ()), Unread>
+    ensures { Answers fields.duration_fields.body.read cursor.old result cursor.new }
+{
+    cursor.expect(b" ")?;
+    let value = cursor.u64()?;
+    Ok((value, ()))
+}
+
+/// Reads when a reservation is to start.
+#[tactic(auto, unfolding(crate::specs::TemplateFields::beginning, text_codec::specs::Formats::mapped, text_codec::specs::Formats::or_else))]
+fn beginning_at(cursor: &mut Cursor) -> Result<Beginning, Unread>
+    ensures { Answers fields.beginning.read cursor.old result cursor.new }
+{
+    if cursor.skip(b"now") {
+        return Ok(Beginning::Now);
+    }
+    let moment = Said::read(cursor)?;
+    Ok(Beginning::At(moment))
+}
+
+#[tactic(auto, unfolding(crate::specs::TemplateFields::beginning_fields, text_codec::specs::Fields::always, text_codec::specs::Fields::no_more))]
+fn beginning_behind(cursor: &mut Cursor) -> Result<(Beginning, ()), Unread>
+    ensures { Answers fields.beginning_fields.body.read cursor.old result cursor.new }
+{
+    cursor.expect(b" ")?;
+    let value = beginning_at(cursor)?;
+    Ok((value, ()))
+}
+
+/// What stands behind the word of a line.
+fn behind_job_word(word: JobFieldWord, cursor: &mut Cursor) -> Result<JobField, Unread>
+    ensures { Answers (fields.job_arms word) cursor.old result cursor.new }
+{
+    match word {
+        JobFieldWord::Command => {
+            let (text, ()) = text_behind(cursor)?;
+            Ok(JobField::Command(text))
+        }
+        JobFieldWord::Arg => {
+            let (text, ()) = text_behind(cursor)?;
+            Ok(JobField::Arg(text))
+        }
+        JobFieldWord::Hold => Ok(JobField::Hold),
+        JobFieldWord::Rerunnable => Ok(JobField::Rerunnable),
+        JobFieldWord::Env => {
+            let (variable, ()) = variable_behind(cursor)?;
+            Ok(JobField::Env(variable))
+        }
+        JobFieldWord::Directory => {
+            let (text, ()) = text_behind(cursor)?;
+            Ok(JobField::Directory(text))
+        }
+        JobFieldWord::Name => {
+            let (text, ()) = text_behind(cursor)?;
+            Ok(JobField::Name(text))
+        }
+        JobFieldWord::Input => {
+            let (text, ()) = text_behind(cursor)?;
+            Ok(JobField::Input(text))
+        }
+        JobFieldWord::Output => {
+            let (text, ()) = text_behind(cursor)?;
+            Ok(JobField::Output(text))
+        }
+        JobFieldWord::Error => {
+            let (text, ()) = text_behind(cursor)?;
+            Ok(JobField::Error(text))
+        }
+        JobFieldWord::Join => Ok(JobField::Join),
+        JobFieldWord::Queue => {
+            let (text, ()) = text_behind(cursor)?;
+            Ok(JobField::Queue(text))
+        }
+        JobFieldWord::MinSlots => {
+            let (slots, ()) = count_behind(cursor)?;
+            Ok(JobField::MinSlots(slots))
+        }
+        JobFieldWord::MaxSlots => {
+            let (slots, ()) = count_behind(cursor)?;
+            Ok(JobField::MaxSlots(slots))
+        }
+        JobFieldWord::Priority => {
+            let (priority, ()) = integer_behind(cursor)?;
+            Ok(JobField::Priority(priority))
+        }
+        JobFieldWord::Start => {
+            let (moment, ()) = said_behind(cursor)?;
+            Ok(JobField::Start(moment))
+        }
+        JobFieldWord::Deadline => {
+            let (moment, ()) = said_behind(cursor)?;
+            Ok(JobField::Deadline(moment))
+        }
+        JobFieldWord::Limit => {
+            let (limit, ()) = limit_behind(cursor)?;
+            Ok(JobField::Limit(limit))
+        }
+        JobFieldWord::Other => {
+            let (attribute, ()) = other_behind(cursor)?;
+            Ok(JobField::Other(attribute))
+        }
+    }
+}
+
+#[tactic(auto, unfolding(crate::specs::TemplateFields::job_field_sum, text_codec::specs::Sums::sum_of))]
+fn job_field_at(cursor: &mut Cursor) -> Result<JobField, Unread>
+    ensures { Answers fields.job_field_sum.body.read cursor.old result cursor.new }
+{
+    match job_word_of(cursor.word()) {
+        Some(word) => behind_job_word(word, cursor),
+        None => Err(Unread::Unspelled),
+    }
+}
+
+/// What a line of a job's template block says.
+///
+/// # Errors
+/// `Unspelled` exactly where it is none.
+#[tactic(auto, unfolding(crate::specs::TemplateFields::read_job_field))]
+pub fn read_job_field(alloc: Global, line: &[u8]) -> Result<JobField, Unread>
+    ensures { Says (fields.read_job_field line.now) result }
+{
+    let mut cursor = Cursor::new(alloc, line);
+    let said = job_field_at(&mut cursor)?;
+    cursor.end()?;
+    Ok(said)
+}
+
+/// What stands behind the word of a line.
+fn behind_reservation_word(
+    word: ReservationFieldWord,
+    cursor: &mut Cursor,
+) -> Result<ReservationField, Unread>
+    ensures { Answers (fields.reservation_arms word) cursor.old result cursor.new }
+{
+    match word {
+        ReservationFieldWord::Name => {
+            let (text, ()) = text_behind(cursor)?;
+            Ok(ReservationField::Name(text))
+        }
+        ReservationFieldWord::Start => {
+            let (beginning, ()) = beginning_behind(cursor)?;
+            Ok(ReservationField::Start(beginning))
+        }
+        ReservationFieldWord::End => {
+            let (moment, ()) = said_behind(cursor)?;
+            Ok(ReservationField::End(moment))
+        }
+        ReservationFieldWord::Duration => {
+            let (seconds, ()) = duration_behind(cursor)?;
+            Ok(ReservationField::Duration(seconds))
+        }
+        ReservationFieldWord::MinSlots => {
+            let (slots, ()) = count_behind(cursor)?;
+            Ok(ReservationField::MinSlots(slots))
+        }
+        ReservationFieldWord::MaxSlots => {
+            let (slots, ()) = count_behind(cursor)?;
+            Ok(ReservationField::MaxSlots(slots))
+        }
+        ReservationFieldWord::Other => {
+            let (attribute, ()) = other_behind(cursor)?;
+            Ok(ReservationField::Other(attribute))
+        }
+    }
+}
+
+#[tactic(auto, unfolding(crate::specs::TemplateFields::reservation_field_sum, text_codec::specs::Sums::sum_of))]
+fn reservation_field_at(cursor: &mut Cursor) -> Result<ReservationField, Unread>
+    ensures { Answers fields.reservation_field_sum.body.read cursor.old result cursor.new }
+{
+    match reservation_word_of(cursor.word()) {
+        Some(word) => behind_reservation_word(word, cursor),
+        None => Err(Unread::Unspelled),
+    }
+}
+
+/// What a line of a reservation's template block says.
+///
+/// # Errors
+/// `Unspelled` exactly where it is none.
+#[tactic(auto, unfolding(crate::specs::TemplateFields::read_reservation_field))]
+pub fn read_reservation_field(alloc: Global, line: &[u8]) -> Result<ReservationField, Unread>
+    ensures { Says (fields.read_reservation_field line.now) result }
+{
+    let mut cursor = Cursor::new(alloc, line);
+    let said = reservation_field_at(&mut cursor)?;
+    cursor.end()?;
+    Ok(said)
+}

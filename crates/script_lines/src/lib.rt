@@ -1,0 +1,24 @@
+//! The lines of scripts: what each says, how it is spelled, and how it is read.
+#![tactic(auto)]
+
+mod draft;
+mod fields;
+mod filters;
+mod lines;
+mod reading;
+mod refs;
+mod shapes;
+mod words;
+
+pub use draft::{
+    Draft, is_reservation_set, is_set, new_reservation, with_field, with_last,
+    with_reservation_field,
+};
+pub use fields::{
+    Beginning, JOB_FIELD_WORDS, JobField, JobFieldWord, RESERVATION_FIELD_WORDS, ReservationField,
+    ReservationFieldWord, read_job_field, read_reservation_field,
+};
+pub use lines::{Filter, Line};
+pub use reading::read_line;
+pub use refs::Ref;
+pub use words::{LINE_WORDS, LineWord, line_word_of, spell_line_word};

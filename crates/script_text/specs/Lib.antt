@@ -1,0 +1,9 @@
+pub mod Names
+pub mod Follows
+pub mod Header
+pub mod Scripts
+pub mod Automaton
+pub mod NameLaws
+pub mod HeaderLaws
+pub mod BlockLaws
+pub mod ScriptLaws

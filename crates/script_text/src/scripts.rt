@@ -1,0 +1,31 @@
+//! What a script says.
+use crate::{Block, Keyed};
+use drmaa_model::Config;
+use drmaa_types::ListOf;
+use job_template::{JobTemplate, ReservationTemplate};
+
+/// For which command a script is read.
+#[derive(Clone, Copy, Debug, PartialEq, Eq)]
+pub enum Mode {
+    /// For the play of all blocks on one thread, in their order.
+    Serial,
+}
+
+/// Job templates under their names, in the order of the script.
+pub type NamedTemplates = Keyed<JobTemplate>;
+
+/// Reservation templates under their names, in the order of the script.
+pub type NamedReservationTemplates = Keyed<ReservationTemplate>;
+
+/// Blocks, in the order of the script.
+pub type BlockList = ListOf<Block>;
+
+/// A script: the machine, the templates, the block that is played first, and the clients' blocks.
+#[derive(Drop)]
+pub struct Script {
+    pub config: Config,
+    pub jobs: NamedTemplates,
+    pub reservations: NamedReservationTemplates,
+    pub setup: Option<Block>,
+    pub clients: BlockList,
+}

@@ -1,0 +1,503 @@
+//! The reader of scripts, as an automaton on the lines that are not skipped.
+ghost use Rattle.std.specs.Prelude.{◌≡◌, Some};
+ghost use Rattle.std.specs.Str.{bytes_eq};
+ghost use Rattle.text_codec.specs.Formats.{Says};
+ghost use Rattle.script_text.specs.Automaton as automaton;
+ghost use Rattle.script_text.specs.Scripts as scripts;
+ghost use Rattle.script_text.specs.ScriptLaws.{reads_scripts};
+ghost use Rattle.script_text.specs.declared.states.Reader.{Reader};
+
+use crate::bindings::is_there;
+use crate::follow::may_stand;
+use crate::header::{config_of, read_header};
+use crate::{Block, Keyed, Mode, Script};
+use drmaa_types::{ListOf, Text};
+use job_template::ReservationTemplate;
+use script_lines::{
+    Draft, JobField, Line, ReservationField, is_reservation_set, is_set, new_reservation,
+    read_job_field, read_line, read_reservation_field, with_field, with_last,
+    with_reservation_field,
+};
+use std::alloc::Global;
+use std::marker::Model;
+use text_codec::{Cursor, Unread};
+use text_lines::LineReader;
+
+/// A script, and a name that none of its templates has.
+#[derive(Drop)]
+pub struct Naming {
+    script: Script,
+    name: Text,
+}
+
+impl Model for Naming {
+    ghost use Rattle.std.specs.Prelude.{List, ℕ, ◌≡◌, false};
+    ghost use Rattle.script_text.specs.declared.scripts.Script.{Script};
+    ghost use Rattle.script_text.specs.Scripts.{is_named};
+
+    ghost Value = { Script × List ℕ };
+
+    ghost view = { λ n. (n.script, n.name) };
+
+    ghost invariant = { λ n. is_named n.script n.name ≡ false };
+}
+
+/// What was read so far, of a script for some command.
+#[derive(Drop)]
+pub enum Reader {
+    /// Nothing.
+    Start {
+        mode: Mode,
+    },
+    /// Whole blocks, behind the machine line.
+    Top {
+        mode: Mode,
+        script: Script,
+    },
+    /// A job's template block without its last line, too.
+    Filling {
+        mode: Mode,
+        naming: Naming,
+        draft: Draft,
+    },
+    /// A reservation's template block without its last line, too.
+    Reserving {
+        mode: Mode,
+        naming: Naming,
+        template: ReservationTemplate,
+    },
+    /// The setup block or a client's block without its last line, too.
+    Asking {
+        mode: Mode,
+        script: Script,
+        block: Block,
+        in_setup: bool,
+    },
+}
+
+/// Whether a line is these words.
+fn is_words(line: &[u8], words: &[u8]) -> bool
+    ensures { result ≡ bytes_eq line.now words.now }
+{
+    line == words
+}
+
+#[tactic(auto, unfolding(crate::specs::Automaton::read_header))]
+fn after_start(alloc: Global, mode: Mode, line: &[u8]) -> Result<Reader, Unread>
+    ensures { Says (automaton.next (Reader.Start mode) line.now) result }
+{
+    let machine = read_header(alloc, line)?;
+    let script = Script {
+        config: config_of(machine),
+        jobs: Keyed::new(alloc),
+        reservations: Keyed::new(alloc),
+        setup: None,
+        clients: ListOf::new(alloc),
+    };
+    Ok(Reader::Top { mode, script })
+}
+
+fn is_nil(blocks: &[Block]) -> bool
+    ensures { result ≡ scripts.is_nil blocks.now }
+{
+    match blocks {
+        [] => true,
+        [_, ..] => false,
+    }
+}
+
+/// Whether no block but templates was read.
+fn is_early(script: &Script) -> bool
+    ensures { result ≡ scripts.is_early script.now }
+{
+    script.setup.is_none() && is_nil(script.clients.as_slice())
+}
+
+/// Whether a block of lines may begin.
+fn may_open(in_setup: bool, script: &Script) -> bool
+    ensures { result ≡ scripts.may_open in_setup script.now }
+{
+    if in_setup {
+        is_early(script)
+    } else {
+        script.clients.as_slice().len() < 32
+    }
+}
+
+fn begin_block(alloc: Global, mode: Mode, script: Script, in_setup: bool) -> Result<Reader, Unread>
+    ensures { Says (automaton.begin_block mode script in_setup) result }
+{
+    if may_open(in_setup, &script) {
+        let block = Block::new(alloc);
+        Ok(Reader::Asking {
+            mode,
+            script,
+            block,
+            in_setup,
+        })
+    } else {
+        drop(script);
+        Err(Unread::Unspelled)
+    }
+}
+
+fn opened(alloc: Global, mode: Mode, script: Script, line: &[u8]) -> Result<Reader, Unread>
+    ensures { Says (automaton.opened mode script line.now) result }
+{
+    if is_words(line, b"setup") {
+        begin_block(alloc, mode, script, true)
+    } else if is_words(line, b"client") {
+        begin_block(alloc, mode, script, false)
+    } else {
+        drop(script);
+        Err(Unread::Unspelled)
+    }
+}
+
+/// Whether a template of either kind has this name.
+fn is_named(script: &Script, name: &Text) -> bool
+    ensures { result ≡ scripts.is_named script.now name.now }
+{
+    is_there(&script.jobs, name) || is_there(&script.reservations, name)
+}
+
+fn named(alloc: Global, mode: Mode, script: Script, name: Text) -> Result<Reader, Unread>
+    ensures { Says (automaton.named mode script name) result }
+{
+    if is_early(&script) && !is_named(&script, &name) {
+        let draft = Draft::new(alloc);
+        let naming = Naming { script, name };
+        Ok(Reader::Filling {
+            mode,
+            naming,
+            draft,
+        })
+    } else {
+        drop(script);
+        Err(Unread::Unspelled)
+    }
+}
+
+fn to_reserve(alloc: Global, mode: Mode, script: Script, name: Text) -> Result<Reader, Unread>
+    ensures { Says (automaton.to_reserve mode script name) result }
+{
+    if is_early(&script) && !is_named(&script, &name) {
+        let template = new_reservation(alloc);
+        let naming = Naming { script, name };
+        Ok(Reader::Reserving {
+            mode,
+            naming,
+            template,
+        })
+    } else {
+        drop(script);
+        Err(Unread::Unspelled)
+    }
+}
+
+/// The name that ends a line.
+#[tactic(auto, unfolding(crate::specs::Automaton::read_name))]
+fn read_name(cursor: &mut Cursor) -> Result<Text, Unread>
+    ensures { Says (automaton.read_name cursor.old) result }
+{
+    let name = text_codec::read_name(cursor)?;
+    cursor.end()?;
+    Ok(name)
+}
+
+fn after_top(alloc: Global, mode: Mode, script: Script, line: &[u8]) -> Result<Reader, Unread>
+    ensures { Says (automaton.next (Reader.Top mode script) line.now) result }
+{
+    let mut cursor = Cursor::new(alloc, line);
+    if cursor.skip(b"template ") {
+        match read_name(&mut cursor) {
+            Ok(name) => named(alloc, mode, script, name),
+            Err(fault) => {
+                drop(script);
+                Err(fault)
+            }
+        }
+    } else if cursor.skip(b"rtemplate ") {
+        match read_name(&mut cursor) {
+            Ok(name) => to_reserve(alloc, mode, script, name),
+            Err(fault) => {
+                drop(script);
+                Err(fault)
+            }
+        }
+    } else {
+        opened(alloc, mode, script, line)
+    }
+}
+
+fn filled(
+    alloc: Global,
+    mode: Mode,
+    naming: Naming,
+    draft: Draft,
+    field: JobField,
+) -> Result<Reader, Unread>
+    ensures { Says (automaton.filled mode naming.0 naming.1 draft field) result }
+{
+    if is_set(&draft, &field) {
+        drop(field);
+        drop(draft);
+        drop(naming);
+        return Err(Unread::Unspelled);
+    }
+    match with_field(alloc, draft, field) {
+        Ok(draft) => Ok(Reader::Filling {
+            mode,
+            naming,
+            draft,
+        }),
+        Err(fault) => {
+            drop(naming);
+            Err(fault.into())
+        }
+    }
+}
+
+/// The script with one template more.
+#[tactic(auto, using(crate::specs::NameLaws::not_there, crate::specs::NameLaws::neither))]
+fn with_template(naming: Naming, draft: Draft) -> Result<Script, Unread>
+    ensures { Says (Some (scripts.with_template naming.0 naming.1 draft.template)) result }
+{
+    let Naming { script, name } = naming;
+    let Draft { template, .. } = draft;
+    let mut script = script;
+    match script.jobs.add(name, template) {
+        Ok(()) => Ok(script),
+        Err(fault) => {
+            drop(script);
+            Err(fault.into())
+        }
+    }
+}
+
+fn after_filling(
+    alloc: Global,
+    mode: Mode,
+    naming: Naming,
+    draft: Draft,
+    line: &[u8],
+) -> Result<Reader, Unread>
+    ensures { Says (automaton.next (Reader.Filling mode naming draft) line.now) result }
+{
+    if is_words(line, b"end") {
+        let script = with_template(naming, draft)?;
+        Ok(Reader::Top { mode, script })
+    } else {
+        match read_job_field(alloc, line) {
+            Ok(field) => filled(alloc, mode, naming, draft, field),
+            Err(fault) => {
+                drop(draft);
+                drop(naming);
+                Err(fault)
+            }
+        }
+    }
+}
+
+fn reserved(
+    alloc: Global,
+    mode: Mode,
+    naming: Naming,
+    template: ReservationTemplate,
+    field: ReservationField,
+) -> Result<Reader, Unread>
+    ensures { Says (automaton.reserved mode naming.0 naming.1 template field) result }
+{
+    if is_reservation_set(&template, &field) {
+        drop(field);
+        drop(template);
+        drop(naming);
+        return Err(Unread::Unspelled);
+    }
+    match with_reservation_field(alloc, template, field) {
+        Ok(template) => Ok(Reader::Reserving {
+            mode,
+            naming,
+            template,
+        }),
+        Err(fault) => {
+            drop(naming);
+            Err(fault.into())
+        }
+    }
+}
+
+/// The script with one reservation template more.
+#[tactic(auto, using(crate::specs::NameLaws::not_there, crate::specs::NameLaws::neither))]
+fn with_reservation(naming: Naming, template: ReservationTemplate) -> Result<Script, Unread>
+    ensures { Says (Some (scripts.with_reservation naming.0 naming.1 template)) result }
+{
+    let Naming { script, name } = naming;
+    let mut script = script;
+    match script.reservations.add(name, template) {
+        Ok(()) => Ok(script),
+        Err(fault) => {
+            drop(script);
+            Err(fault.into())
+        }
+    }
+}
+
+fn after_reserving(
+    alloc: Global,
+    mode: Mode,
+    naming: Naming,
+    template: ReservationTemplate,
+    line: &[u8],
+) -> Result<Reader, Unread>
+    ensures { Says (automaton.next (Reader.Reserving mode naming template) line.now) result }
+{
+    if is_words(line, b"end") {
+        let script = with_reservation(naming, template)?;
+        Ok(Reader::Top { mode, script })
+    } else {
+        match read_reservation_field(alloc, line) {
+            Ok(field) => reserved(alloc, mode, naming, template, field),
+            Err(fault) => {
+                drop(template);
+                drop(naming);
+                Err(fault)
+            }
+        }
+    }
+}
+
+/// The script with one block more.
+fn with_block(script: Script, block: Block, in_setup: bool) -> Result<Script, Unread>
+    ensures { Says (Some (scripts.with_block script block in_setup)) result }
+{
+    let Script {
+        config,
+        jobs,
+        reservations,
+        setup,
+        clients,
+    } = script;
+    if in_setup {
+        drop(setup);
+        return Ok(Script {
+            config,
+            jobs,
+            reservations,
+            setup: Some(block),
+            clients,
+        });
+    }
+    match with_last(clients, block) {
+        Ok(clients) => Ok(Script {
+            config,
+            jobs,
+            reservations,
+            setup,
+            clients,
+        }),
+        Err(fault) => {
+            drop(config);
+            drop(jobs);
+            drop(reservations);
+            drop(setup);
+            Err(fault.into())
+        }
+    }
+}
+
+fn asked(
+    mode: Mode,
+    script: Script,
+    block: Block,
+    in_setup: bool,
+    line: Line,
+) -> Result<Reader, Unread>
+    ensures { Says (automaton.asked mode script block in_setup line) result }
+{
+    if may_stand(mode, in_setup, &script, &block, &line) {
+        match block.with(line) {
+            Ok(block) => Ok(Reader::Asking {
+                mode,
+                script,
+                block,
+                in_setup,
+            }),
+            Err(fault) => {
+                drop(script);
+                Err(fault.into())
+            }
+        }
+    } else {
+        drop(line);
+        drop(block);
+        drop(script);
+        Err(Unread::Unspelled)
+    }
+}
+
+fn after_asking(
+    alloc: Global,
+    mode: Mode,
+    script: Script,
+    block: Block,
+    in_setup: bool,
+    line: &[u8],
+) -> Result<Reader, Unread>
+    ensures { Says (automaton.next (Reader.Asking mode script block in_setup) line.now) result }
+{
+    if is_words(line, b"end") {
+        let script = with_block(script, block, in_setup)?;
+        Ok(Reader::Top { mode, script })
+    } else {
+        match read_line(alloc, line) {
+            Ok(said) => asked(mode, script, block, in_setup, said),
+            Err(fault) => {
+                drop(block);
+                drop(script);
+                Err(fault)
+            }
+        }
+    }
+}
+
+impl LineReader for Reader {
+    type Read = Script;
+
+    ghost stepping = { automaton.scripts_stepping };
+
+    ghost reads = { reads_scripts };
+
+    fn next(self, alloc: Global, line: &[u8]) -> Result<Reader, Unread> {
+        match self {
+            Reader::Start { mode } => after_start(alloc, mode, line),
+            Reader::Top { mode, script } => after_top(alloc, mode, script, line),
+            Reader::Filling {
+                mode,
+                naming,
+                draft,
+            } => after_filling(alloc, mode, naming, draft, line),
+            Reader::Reserving {
+                mode,
+                naming,
+                template,
+            } => after_reserving(alloc, mode, naming, template, line),
+            Reader::Asking {
+                mode,
+                script,
+                block,
+                in_setup,
+            } => after_asking(alloc, mode, script, block, in_setup, line),
+        }
+    }
+
+    fn ends(self) -> Option<Script> {
+        match self {
+            Reader::Top { script, .. } => Some(script),
+            other => {
+                drop(other);
+                None
+            }
+        }
+    }
+}
