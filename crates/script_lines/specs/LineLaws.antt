@@ -1,5 +1,5 @@
 -- The laws of client lines: two for each.
-use Rattle.std.proofs.Common.{◌≡◌, ℕ, true, List, [], ◌∷◌, Some, codes, refl}
+use Rattle.std.proofs.Common.{◌≡◌, ℕ, List, Some, refl}
 use Rattle.text_codec.specs.Fields.{IsFormatUpTo}
 use Rattle.text_codec.specs.Sums.{read_sum, sum_of, IsArm, Stands}
 use Rattle.text_codec.specs.SumLaws.{alone_found, fielded_found, alone_stands, fielded_stands, sum_laws}

@@ -1,12 +1,11 @@
 -- The laws of references.
-use Rattle.std.proofs.Common.{◌≡◌, ℕ, suc, ◌<◌, ◌≤◌, ◌^◌, ◌==◌, ◌&&◌, not, nat_le, Bool, true, false, List, [], ◌∷◌, ◌++◌, length, Option, Some, None, decimal, codes, lit≤, refl, sym, ap, subst, ◌∙◌, arith, append-nil, add-one, add_comm, take, drop}
-use Rattle.std.specs.List.{list_all, prefix_len}
+use Rattle.std.proofs.Common.{◌≡◌, ℕ, ◌^◌, ◌==◌, ◌&&◌, nat_le, Bool, true, false, List, [], ◌∷◌, ◌++◌, length, Option, Some, None, decimal, codes, lit≤, refl, sym, ap, subst, ◌∙◌, arith, append-nil}
+use Rattle.std.specs.List.{list_all}
 use Rattle.std.proofs.lemmas.Bool.Decides.{nat_tests}
 use Rattle.std.proofs.lemmas.List.Folds.{list_all-append}
-use Rattle.std.proofs.lemmas.List.Sums.{prefix_len-le-length}
 use Rattle.std.proofs.lemmas.Option.{none-some, same_Some, cond_some}
-use Rattle.text_codec.specs.Lexical.{is_letter, parts}
-use Rattle.text_codec.specs.Formats.{IsFormat, ◌>>=◌, choose, strip, number_of}
+use Rattle.text_codec.specs.Lexical.{is_letter}
+use Rattle.text_codec.specs.Formats.{IsFormat, strip, number_of}
 use Rattle.text_codec.specs.Words.{is_lower, is_in_name, is_name, passing}
 use Rattle.text_codec.specs.WordLaws.{all_in_name, name_letters}
 use Rattle.text_codec.specs.StepLaws.{both, by_test, true_false, bind, chosen, strip_found}
@@ -14,7 +13,7 @@ use Rattle.text_codec.specs.FormatLaws.{worded_laws}
 use Rattle.text_codec.specs.BaseLaws.{number_found, number_again, decimal_letters}
 use Rattle.script_lines.specs.declared.refs.Ref.{Ref}
 use Rattle.script_lines.specs.declared.refs.Ref.TheVariants.{Bound, Member, Number}
-use Rattle.script_lines.specs.Refs.{ref_text, IsRef, onto_part, at_dot, no_dot, numbered, member, bound_to, ref_of, reference}
+use Rattle.script_lines.specs.Refs.{ref_text, IsRef, onto_part, at_dot, ref_of, reference}
 
 pub and_true : (a b : Bool) → a ≡ true → b ≡ true → (a && b) ≡ true
 and_true a b p q = rw (p, q) refl

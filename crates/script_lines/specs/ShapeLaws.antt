@@ -1,5 +1,5 @@
 -- The laws of what stands behind the words of lines: a line for each part, and that no line has more that is barred.
-use Rattle.std.proofs.Common.{◌≡◌, ℕ, ◌≤◌, ◌^◌, true, [], codes, lit≤, refl, arith}
+use Rattle.std.proofs.Common.{◌≡◌, ◌^◌, true, [], codes, lit≤, refl, arith}
 use Rattle.text_codec.specs.Formats.{IsFormat, number}
 use Rattle.text_codec.specs.Fields.{AreFields, always, field, repeated, no_more}
 use Rattle.text_codec.specs.Sums.{covers}

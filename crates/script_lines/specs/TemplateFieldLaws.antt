@@ -1,6 +1,6 @@
 -- The laws of the lines of template blocks: two for each.
-use Rattle.std.proofs.Common.{◌≡◌, ℕ, ◌^◌, ◌+◌, ◌/◌, ◌<◌, ◌==◌, true, false, List, [], ◌∷◌, ◌++◌, Option, Some, None, codes, refl, arith}
-use Rattle.text_codec.specs.Formats.{IsFormat, Avoids, number, strip, mapped, or_else}
+use Rattle.std.proofs.Common.{◌≡◌, ℕ, ◌^◌, ◌+◌, ◌/◌, ◌<◌, ◌==◌, true, false, List, [], ◌++◌, Option, Some, None, codes, refl, arith}
+use Rattle.text_codec.specs.Formats.{IsFormat, Avoids, number, strip, mapped}
 use Rattle.text_codec.specs.Exact.{beside, before, two}
 use Rattle.text_codec.specs.Fields.{AreFields, IsFormatUpTo, always, no_more}
 use Rattle.text_codec.specs.FormatLaws.{mapped_laws, or_else_laws}

@@ -1,5 +1,5 @@
 -- How the lines of template blocks are spelled: our profile.
-use Rattle.std.specs.Prelude.{ℕ, ◌^◌, ℤ, List, [], ◌∷◌, Option, Some, None, codes}
+use Rattle.std.specs.Prelude.{ℕ, ◌^◌, ℤ, List, [], Option, Some, None, codes}
 use Rattle.drmaa_types.specs.declared.refusals.Attribute.{Attribute}
 use Rattle.job_template.specs.declared.templates.Pair.{Pair}
 use Rattle.job_template.specs.declared.templates.ResourceLimit.{ResourceLimit}

@@ -1,5 +1,5 @@
 -- What the lines of template blocks make of a template: our profile.
-use Rattle.std.specs.Prelude.{◌≡◌, ℕ, Bool, true, false, List, [], ◌∷◌, ◌++◌, Option, Some, None, is_some, if◌then◌else◌}
+use Rattle.std.specs.Prelude.{ℕ, Bool, true, false, List, [], ◌∷◌, ◌++◌, Option, Some, None, is_some, if◌then◌else◌}
 use Rattle.job_template.specs.declared.templates.JobTemplate.{JobTemplate}
 use Rattle.job_template.specs.declared.templates.ReservationTemplate.{ReservationTemplate}
 use Rattle.job_template.specs.declared.templates.Start.{Start}

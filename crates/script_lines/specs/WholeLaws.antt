@@ -1,5 +1,5 @@
 -- Lines that are read whole by a sum.
-use Rattle.std.proofs.Common.{◌≡◌, ℕ, true, List, [], ◌∷◌, ◌++◌, Option, Some, refl, sym, ap, subst, ◌∙◌, append-nil}
+use Rattle.std.proofs.Common.{◌≡◌, ℕ, true, List, [], ◌++◌, Some, refl, sym, ap, subst, ◌∙◌, append-nil}
 use Rattle.text_codec.specs.Formats.{read_line}
 use Rattle.text_codec.specs.Fields.{Fields, IsFormatUpTo, clear}
 use Rattle.text_codec.specs.FormatLaws.{whole_found}

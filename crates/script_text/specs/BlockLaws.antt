@@ -1,5 +1,5 @@
 -- What a reader of scripts has read: a script, and the beginning of a block behind it.
-use Rattle.std.proofs.Common.{◌≡◌, ℕ, suc, ◌&&◌, not, nat_lt, Bool, true, false, List, [], ◌∷◌, ◌++◌, length, map, Option, Some, None, is_some, codes, refl, sym, ap, subst, ◌∙◌, append_assoc, append-nil, if◌then◌else◌}
+use Rattle.std.proofs.Common.{◌≡◌, ℕ, ◌&&◌, not, Bool, true, false, List, [], ◌∷◌, ◌++◌, map, Some, None, codes, refl, sym, ap, subst, ◌∙◌, append_assoc, append-nil, if◌then◌else◌}
 use Rattle.std.specs.List.{AllByRecursion, flat_map}
 use Rattle.std.specs.Str.{bytes_eq}
 use Rattle.std.proofs.lemmas.Slice.Eq.{bytes_eq-Decides}
@@ -7,7 +7,7 @@ use Rattle.std.proofs.lemmas.List.{map-append}
 use Rattle.std.proofs.lemmas.List.Concat.{flat_map-append}
 use Rattle.std.proofs.lemmas.Option.{none-some, same_Some, cond_some}
 use Rattle.job_template.specs.declared.templates.ReservationTemplate.{ReservationTemplate}
-use Rattle.text_codec.specs.Formats.{◌>>=◌, IsFormat, strip}
+use Rattle.text_codec.specs.Formats.{◌>>=◌, strip}
 use Rattle.text_codec.specs.Words.{name}
 use Rattle.text_codec.specs.WordLaws.{name_laws}
 use Rattle.text_codec.specs.StepLaws.{both, by_test, bind, chosen, strip_found}
@@ -29,7 +29,7 @@ use Rattle.script_text.specs.Header.{header}
 use Rattle.script_text.specs.HeaderLaws.{header_laws}
 use Rattle.script_text.specs.Follows.{lines_of, may_stand}
 use Rattle.script_text.specs.Scripts.{is_early, is_named, may_open, begun, with_template, with_reservation, with_block, Follow, line_text, template_head, reservation_head, block_head, Part, Job, Reservation, Lines, part_lines, After, Makes, Spells}
-use Rattle.script_text.specs.Automaton.{named, to_reserve, begin_block, opened, filled, reserved, asked, read_name, read_header, next, mode_of}
+use Rattle.script_text.specs.Automaton.{begin_block, filled, reserved, asked, read_name, read_header, next}
 
 pub header_found : (line : List ℕ) (m : ℕ × (List ℕ × Bool)) → read_header line ≡ Some m → header.valid m × (line ≡ header.spell m)
 unfolding read_header

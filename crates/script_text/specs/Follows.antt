@@ -1,5 +1,5 @@
 -- Which line may stand behind earlier ones: our profile.
-use Rattle.std.specs.Prelude.{ℕ, ◌&&◌, not, Bool, true, false, List, [], Option, Some, None}
+use Rattle.std.specs.Prelude.{◌&&◌, not, Bool, true, false, List, [], Option, Some, None}
 use Rattle.std.specs.List.{list_all}
 use Rattle.script_lines.specs.declared.lines.Line.{Line}
 use Rattle.script_lines.specs.declared.lines.Line.TheVariants as line

@@ -1,5 +1,5 @@
 -- The first line of a script: `machine SLOTS TEXT suspend` or `machine SLOTS TEXT nosuspend`. Our profile.
-use Rattle.std.specs.Prelude.{ℕ, ◌^◌, ◌&&◌, nat_le, Bool, true, false, List, [], ◌∷◌, length, codes}
+use Rattle.std.specs.Prelude.{ℕ, ◌^◌, ◌&&◌, nat_le, Bool, true, false, List, length, codes}
 use Rattle.drmaa_model.specs.declared.configs.Config.{Config}
 use Rattle.text_codec.specs.Formats.{Format, behind, number, pair, one_of, checked}
 use Rattle.text_codec.specs.Quotes.{text}

@@ -1,6 +1,6 @@
 -- The law of the first line.
-use Rattle.std.proofs.Common.{◌≡◌, ◌^◌, codes, refl}
-use Rattle.text_codec.specs.Formats.{IsFormat, behind, number, pair}
+use Rattle.std.proofs.Common.{◌^◌, codes, refl}
+use Rattle.text_codec.specs.Formats.{IsFormat, number}
 use Rattle.text_codec.specs.FormatLaws.{behind_laws, pair_laws, checked_laws}
 use Rattle.text_codec.specs.BaseLaws.{text_laws, number_laws_32, one_of_laws}
 use Rattle.text_codec.specs.Quotes.{text}

@@ -1,11 +1,11 @@
 -- The automaton reads the scripts, and from every state some script goes on.
-use Rattle.std.proofs.Common.{◌≡◌, ℕ, ◌<◌, ◌&&◌, not, Bool, true, false, List, [], ◌∷◌, ◌++◌, map, Option, Some, None, codes, lit<, refl, sym, ap, subst, ◌∙◌, append_assoc, append-nil}
+use Rattle.std.proofs.Common.{◌≡◌, ℕ, ◌&&◌, not, Bool, true, false, List, [], ◌∷◌, ◌++◌, map, Some, None, codes, lit<, refl, sym, ap, subst, ◌∙◌, append_assoc, append-nil}
 use Rattle.std.specs.Prelude.{IsUtf8}
 use Rattle.std.specs.List.{AllByRecursion, flat_map}
 use Rattle.std.specs.Str.{bytes_eq}
 use Rattle.std.proofs.lemmas.Option.{none-some, same_Some}
 use Rattle.job_template.specs.declared.templates.ReservationTemplate.{ReservationTemplate}
-use Rattle.text_codec.specs.Formats.{IsFormat, first_word, behind_word, number, pair, behind, checked, one_of}
+use Rattle.text_codec.specs.Formats.{first_word, behind_word, number, pair, behind, checked}
 use Rattle.text_codec.specs.Quotes.{text}
 use Rattle.text_codec.specs.Fields.{always, no_more}
 use Rattle.text_codec.specs.Sums.{sum_of}

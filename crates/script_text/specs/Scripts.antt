@@ -1,5 +1,5 @@
 -- How a script is made up, and how it is spelled: our profile.
-use Rattle.std.specs.Prelude.{◌≡◌, ℕ, ◌&&◌, ◌||◌, not, nat_lt, Bool, true, false, List, [], ◌∷◌, ◌++◌, length, map, Option, Some, None, is_some, codes}
+use Rattle.std.specs.Prelude.{◌≡◌, ℕ, ◌&&◌, ◌||◌, not, nat_lt, Bool, true, false, List, [], ◌∷◌, ◌++◌, length, map, Some, None, is_some, codes}
 use Rattle.std.specs.List.{AllByRecursion, flat_map}
 use Rattle.job_template.specs.declared.templates.JobTemplate.{JobTemplate}
 use Rattle.job_template.specs.declared.templates.ReservationTemplate.{ReservationTemplate}

@@ -1,4 +1,4 @@
-use Rattle.std.proofs.Common.{◌≡◌, ◌∙◌, ◌++◌, ◌&&◌, true, sym}
+use Rattle.std.proofs.Common.{◌≡◌, ◌∙◌, ◌++◌, true, sym}
 use Rattle.text_codec.specs.StepLaws.{both}
 use Rattle.script_text.specs.Names.{is_free}
 use Rattle.script_text.specs.NameLaws.{free_later}

@@ -1,4 +1,4 @@
-use Rattle.std.proofs.Common.{◌≡◌, [], ◌∷◌, ◌++◌, ap, sym, ◌∙◌}
+use Rattle.std.proofs.Common.{[], ◌∷◌, ◌++◌, ap, sym, ◌∙◌}
 use Rattle.script_text.specs.Names.{binds, onto, names_of}
 use Rattle.script_text.specs.NameLaws.{names-append}
 use Rattle.script_text.proofs.blocks.Block.with.Goals as goal

@@ -1,0 +1,12 @@
+//! What the lines of scripts ask, and what a play of them means.
+#![tactic(auto)]
+
+mod asking;
+mod attempts;
+mod given;
+mod numbers;
+mod templates;
+
+pub use asking::ask;
+pub use attempts::Attempts;
+pub use given::{Given, with_reply};

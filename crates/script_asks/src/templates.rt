@@ -1,0 +1,53 @@
+//! The templates that lines name.
+ghost use Rattle.std.specs.Prelude.{◌≡◌, IfOk};
+ghost use Rattle.std.specs.Map.{lookup};
+ghost use Rattle.std.specs.Str.{bytes_eq};
+ghost use Rattle.script_asks.specs.Asks as asks;
+
+use crate::Given;
+use crate::numbers::{number_if, reservation_id};
+use drmaa_types::Text;
+use job_template::{JobTemplate, ReservationTemplate};
+use script_lines::Ref;
+use script_text::{Keyed, Script};
+use std::alloc::AllocError;
+
+/// The template, for a job in a reservation where there is one.
+fn template_in(template: &JobTemplate, reserved: Option<u64>) -> Result<JobTemplate, AllocError>
+    ensures { IfOk result (λ t. t ≡ asks.template_in template.now reserved) }
+{
+    let mut template = template.clone()?;
+    template.reservation_id = reservation_id(reserved);
+    Ok(template)
+}
+
+/// The template of a name, for a job in a reservation where one is named. None where there is none.
+pub(crate) fn template_of(
+    script: &Script,
+    names: &Keyed<Given>,
+    template: &Text,
+    reserved: &Option<Ref>,
+) -> Result<Option<JobTemplate>, AllocError>
+    ensures { IfOk result (λ t. t ≡ asks.template_of script.now names.now template.now reserved.now) }
+{
+    let Some(template) = script.jobs.find(template) else {
+        return Ok(None);
+    };
+    match number_if(names, reserved) {
+        Some(reserved) => Ok(Some(template_in(template, reserved)?)),
+        None => Ok(None),
+    }
+}
+
+/// The reservation template of a name. None where there is none.
+pub(crate) fn reservation_template_of(
+    script: &Script,
+    template: &Text,
+) -> Result<Option<ReservationTemplate>, AllocError>
+    ensures { IfOk result (λ t. t ≡ lookup (bytes_eq template.now) script.now.reservations) }
+{
+    match script.reservations.find(template) {
+        Some(template) => Ok(Some(template.clone()?)),
+        None => Ok(None),
+    }
+}
