@@ -1,5 +1,4 @@
 pub mod ControlLaws
 pub mod Searches
 pub mod SignalLaws
-pub mod Steps
 pub mod TargetLaws

@@ -1,7 +1,7 @@
 //! Hold, release, suspend, resume and terminate.
-ghost use Rattle.std.specs.Prelude.{◌≡◌, ◌≢◌, ◌+◌, ◌≤◌, Err, OnErr, true, false};
+ghost use Rattle.std.specs.Prelude.{◌≡◌, ◌≢◌, ◌+◌, ◌≤◌, ◌<◌, Err, OnErr, IsSome, true, false};
 ghost use Rattle.drmaa_model.specs.Controlling.{control};
-ghost use Rattle.drmaa_model.specs.Operation.{Meets, outcome};
+ghost use Rattle.drmaa_model.specs.Operation.{size_at, Meets, outcome};
 ghost use Rattle.drmaa_model.specs.Time.{advance_plan, rows_at};
 ghost use Rattle.plan_book.specs.Book.{plan_of, spare, IsKept};
 ghost use Rattle.plan_book.specs.Sweeps.{acted, growth, is_asking};
@@ -18,8 +18,8 @@ use plan_book::Book;
 /// # Errors
 ///
 /// `InvalidArgument` where no kept job is meant, `InvalidState` with the state of the job, or of the array's kept member of
-/// least number, where the state of none permits it, a journal that would be too large, and want of memory. Nothing has
-/// changed after the last two.
+/// least number, where the state of none permits it. A journal that would be too large comes before both, and want of memory is
+/// told only where none of these holds. After want of memory, and where the journal would be too large, nothing has changed.
 pub fn control(
     book: &mut Book,
     at: Moment,
@@ -39,6 +39,8 @@ pub fn control(
         → result ≢ Err Refusal.OutOfMemory }
     ensures one { is_one_quiet target.now what ≡ true → spare book.old ≤ spare book.new + 1 }
     ensures memory { is_one_quiet target.now what ≡ true → 1 ≤ spare book.old → result ≢ Err Refusal.OutOfMemory }
+    ensures refused { IsSome ((control target.now what).refusal (advance_plan entry at (plan_of book.old))) → result ≢ Err Refusal.OutOfMemory }
+    ensures sized { limit < size_at entry (outcome (control target.now what) entry (advance_plan entry at (plan_of book.old))).plan → result ≢ Err Refusal.OutOfMemory }
 {
     if let Some(why) = refusal_at(book, at, target, Act::Control(what)) {
         return Err(book.refuse(at, entry, limit, &why));

@@ -36,7 +36,7 @@ use Rattle.plan_book.specs.Book.{joined}
 use Rattle.plan_book.specs.Waiting.{AreWaiting}
 use Rattle.job_submission.specs.Batches.{batch_of, batch_row, batch_rows, batch_members, told_of}
 use Rattle.job_submission.specs.Early.{asked, named_tests, jobs_tests, early_tests}
-use Rattle.job_submission.proofs.Meetings.{ok-meets, err-meets}
+use Rattle.plan_book.specs.MeetLaws.{ok-meets, err-meets}
 use Rattle.job_submission.proofs.Tables.{refuses-first, refuses-next}
 
 -- ---- the table

@@ -175,8 +175,9 @@ fn single_rows(
     Ok(rows)
 }
 
-/// The rows of the jobs that are asked for. It is told where the text of all kept templates would be too long with theirs; the
-/// members up to there are made before that is known.
+/// The rows of the jobs that are asked for, or `TooMuchText` where the text of all kept templates would be too long with theirs.
+// The members that the room holds are made before that is known, and one member more. The template of one job is moved and not
+// copied.
 pub fn rows_of(
     book: &Book,
     alloc: Global,

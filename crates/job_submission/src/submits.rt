@@ -17,14 +17,15 @@ use job_template::JobTemplate;
 use plan_book::Book;
 use std::alloc::Global;
 
-/// Submits a job, or with `indices` an array of jobs, for the named session of the number `home`, at a moment. The template of
-/// one job is moved and not copied.
+/// Submits a job, or with `indices` an array of jobs, for the named session of the number `home`, at a moment.
 ///
 /// # Errors
 ///
-/// The first of these that holds: a journal that would be too large; what is wrong with the indices, then with the template, then
-/// with the reservation that it names; `OutOfResource(Jobs)`; `OutOfResource(KeptText)`. And want of memory, where none of these but
-/// the last holds. After want of memory, and where the journal would be too large, nothing has changed.
+/// The first of these that holds: what is wrong with the indices, then with the template, then with the reservation that it names;
+/// `OutOfResource(Jobs)` where more than 100,000 jobs would be kept; `OutOfResource(KeptText)` where the templates of all kept jobs
+/// would have more than 67,108,864 bytes, a byte more counted for each text. Want of memory is told only where none of these but the
+/// last holds. A journal that would be too large comes before all of them. After want of memory, and where the journal would be too
+/// large, nothing has changed.
 pub fn submit(
     book: &mut Book,
     alloc: Global,

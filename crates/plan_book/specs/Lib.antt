@@ -1,5 +1,7 @@
 pub mod Book
+pub mod FactLaws
 pub mod Facts
+pub mod MeetLaws
 pub mod Places
 pub mod Sweeps
 pub mod TieLaws

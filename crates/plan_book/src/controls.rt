@@ -2,7 +2,7 @@
 ghost use Rattle.std.specs.Prelude.{◌≡◌, ◌≢◌, ◌+◌, ◌^◌, ◌<◌, ◌≤◌, false, filter, length, Ok, Err, OnOk, OnErr, IsOk};
 ghost use Rattle.drmaa_model.specs.Controlling.{control, is_controlled};
 ghost use Rattle.drmaa_model.specs.Fit.{IsFit};
-ghost use Rattle.drmaa_model.specs.Operation.{Meets};
+ghost use Rattle.drmaa_model.specs.Operation.{size_at, Meets};
 ghost use Rattle.drmaa_model.specs.Time.{advance_plan, lasts, rows_at};
 ghost use Rattle.drmaa_model.specs.TimeLaws.{timed};
 ghost use Rattle.plan_book.specs.Book.{plan_of, HasRoom, IsKept, spare, spare_orders};
@@ -23,7 +23,7 @@ impl Book {
     ///
     /// # Errors
     ///
-    /// A journal that would be too large, and want of memory. Nothing has changed then.
+    /// A journal that would be too large, and else want of memory. Nothing has changed then.
     pub fn control(
         &mut self,
         at: Moment,
@@ -41,6 +41,8 @@ impl Book {
         ensures spare { spare self.old ≤ spare self.new + growth what (acted target.now what (rows_at at (plan_of self.old))) }
         ensures err { OnErr result (spare self.old ≤ spare self.new) }
         ensures memory { growth what (acted target.now what (rows_at at (plan_of self.old))) ≤ spare self.old → is_asking what ≡ false
+            → result ≢ Err Refusal.OutOfMemory }
+        ensures sized { limit < size_at entry ((control target.now what).effect entry (advance_plan entry at (plan_of self.old)))
             → result ≢ Err Refusal.OutOfMemory }
     {
         let acted = self.acted(at, target, what);

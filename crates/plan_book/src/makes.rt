@@ -2,6 +2,7 @@
 ghost use Rattle.std.specs.Prelude.{false, ◌≡◌, ◌≢◌, ◌+◌, ◌≤◌, IsOk, true, IfErr, OnOk, OnErr, Ok, Err, if◌then◌else◌, []};
 ghost use Rattle.drmaa_model.specs.Fit.{IsFit};
 ghost use Rattle.drmaa_model.specs.Operation.{size_at, Meets, is_answer};
+ghost use Rattle.drmaa_model.specs.Size.{weight};
 ghost use Rattle.drmaa_model.specs.Time.{advance_plan};
 ghost use Rattle.plan_book.specs.Book.{plan_of, calendar_of, HasRoom, spare, spare_orders, IsMove, IsKept, Refuses, grows, asks, moved};
 ghost use Rattle.plan_book.specs.Ties.{MayMake, IsBeside, KeepsTie, booked_first, cancelled_last, is_booking};
@@ -60,26 +61,16 @@ impl Book {
         *why
     }
 
-    /// Time goes on to a moment and nothing else happens, where the journal has room for that. It takes no memory.
-    ///
-    /// # Errors
-    ///
-    /// A journal that would be too large. Nothing has changed then.
-    pub fn pass(&mut self, at: Moment, entry: u64, limit: u64) -> Result<(), Refusal>
+    /// Time goes on to a moment and nothing else happens. It has no limit, since the journal's size stays the same, and takes
+    /// no memory.
+    pub fn pass(&mut self, at: Moment, entry: u64)
         requires kept { IsKept self.old }
-        requires entry { entry ≤ 4_000_001 }
-        ensures meets { Meets (record { answer = Ok tt; plan = advance_plan entry at (plan_of self.old) })
-            (plan_of self.old) entry limit result (plan_of self.new) }
+        ensures plan { plan_of self.new ≡ advance_plan entry at (plan_of self.old) }
+        ensures size { weight (plan_of self.new) ≡ weight (plan_of self.old) }
         ensures kept { IsKept self.new }
         ensures spare { spare self.new ≡ spare self.old }
-        ensures memory { result ≢ Err Refusal.OutOfMemory }
     {
-        let size = entry + self.weight();
-        if size > limit {
-            return Err(Refusal::OutOfResource(Limit::Journal { size }));
-        }
-        self.advance(at, entry);
-        Ok(())
+        self.advance(at, entry); // by the rules of time alone
     }
 
     /// Makes a move at a moment, where the journal and the memory have room for it.

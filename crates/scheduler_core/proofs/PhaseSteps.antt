@@ -26,9 +26,11 @@ due-room wants course sound =
       | false ↦ λ e. due-phase course.phase
     ]) refl
 
-pub reports-room : (p : Plan) → IsFit p → reports_to_come p.rows ≤ weight p
-reports-room p fit =
-    let within : reports_to_come p.rows ≤ promised p.rows =
+-- in the room that is promised to the jobs
+pub reports-promised : (p : Plan) → IsFit p → reports_to_come p.rows ≤ promised p.rows
+reports-promised p fit =
     sum-le (λ (row : Row). reports_due row.course.phase) (λ (row : Row). room_of row.course) p.rows
-    (all-implied (λ (r : Row). IsSound r.wants r.course) (λ (r : Row). reports_due r.course.phase ≤ room_of r.course) (λ r sound. due-room r.wants r.course sound) p.rows fit.sound) in
-    omega (arith, within)
+    (all-implied (λ (r : Row). IsSound r.wants r.course) (λ (r : Row). reports_due r.course.phase ≤ room_of r.course) (λ r sound. due-room r.wants r.course sound) p.rows fit.sound)
+
+pub reports-room : (p : Plan) → IsFit p → reports_to_come p.rows ≤ weight p
+reports-room p fit = (let within = reports-promised p fit in omega (arith, within))

@@ -1,9 +1,9 @@
 //! The core of the scheduler, as the machine sees it.
-ghost use Rattle.std.specs.Prelude.{◌≡◌, ◌≢◌, ◌+◌, ◌*◌, ◌≤◌, IfOk, IfErr, OnOk, OnErr, Ok, Err, IsSome, None, Some, true, false};
+ghost use Rattle.std.specs.Prelude.{◌≡◌, ◌≢◌, ◌+◌, ◌*◌, ◌≤◌, ◌<◌, IfOk, IfErr, OnOk, OnErr, Ok, Err, IsSome, None, Some, true, false};
 ghost use Rattle.std.specs.Option.{option_map, option_and_then, option_copied};
 ghost use Rattle.drmaa_types.specs.Refusals.{first_refusal};
 ghost use Rattle.drmaa_model.specs.declared.rows.Row.{Row};
-ghost use Rattle.drmaa_model.specs.Operation.{Meets, outcome};
+ghost use Rattle.drmaa_model.specs.Operation.{size_at, Meets, outcome};
 ghost use Rattle.drmaa_model.specs.Order.{held, next_launch, settled};
 ghost use Rattle.drmaa_model.specs.Fit.{IsFit};
 ghost use Rattle.drmaa_model.specs.Plan.{opening_plan};
@@ -14,7 +14,7 @@ ghost use Rattle.drmaa_model.specs.Launching.{launch, next_signal, signal};
 ghost use Rattle.drmaa_model.specs.Load.{reservation_of};
 ghost use Rattle.drmaa_model.specs.Requests.{end_reservation, request};
 ghost use Rattle.drmaa_model.specs.Rows.{row_of};
-ghost use Rattle.drmaa_model.specs.Size.{weight};
+ghost use Rattle.drmaa_model.specs.Size.{promised, weight};
 ghost use Rattle.drmaa_model.specs.Submitting.{submit};
 ghost use Rattle.drmaa_model.specs.Time.{advance_plan, rows_at};
 ghost use Rattle.plan_book.specs.Sweeps.{acted, growth, is_asking};
@@ -68,12 +68,11 @@ impl Core {
 
     /// Time goes on. It takes no memory, and leaves the size.
     pub fn advance(&mut self, at: Moment, entry: u64)
-        requires entry { entry ≤ 4_000_001 }
         ensures plan { self.new.plan ≡ advance_plan entry at self.old.plan }
         ensures spare { self.new.spare ≡ self.old.spare }
         ensures size { weight self.new.plan ≡ weight self.old.plan }
     {
-        let _passed = self.book.pass(at, entry, 9_000_000);
+        self.book.pass(at, entry);
     }
 
     /// A named session is destroyed: its ended jobs are forgotten, and its other jobs and its reservations are left without
@@ -154,9 +153,9 @@ impl Core {
     /// # Errors
     ///
     /// The first of these that holds: what is wrong with the indices, then with the template, then with the reservation that it
-    /// names; `OutOfResource(Jobs)` where more than 100,000 jobs would be kept; `OutOfResource(KeptText)` where their templates
-    /// would have more than 67,108,864 bytes. Want of memory is told only where none of these but the last holds. A journal that
-    /// would be too large comes before all of them.
+    /// names; `OutOfResource(Jobs)` where more than 100,000 jobs would be kept; `OutOfResource(KeptText)` where the templates of all
+    /// kept jobs would have more than 67,108,864 bytes, a byte more counted for each text. Want of memory is told only where none of
+    /// these but the last holds. A journal that would be too large comes before all of them.
     pub fn submit(
         &mut self,
         at: Moment,
@@ -188,12 +187,13 @@ impl Core {
     }
 
     /// Holds, releases, suspends, resumes or terminates each job that is meant and whose state permits it, in one step. A hold
-    /// or a release of one job uses one change of what is reserved, and takes no memory where that is there.
+    /// or a release of one job uses at most one change of what is reserved, and takes no memory where that is there.
     ///
     /// # Errors
     ///
     /// `InvalidArgument` where no kept job is meant; `InvalidState` with the state of the job, or of the array's kept member of
-    /// least number, where the state of none permits it; a journal that would be too large, and want of memory.
+    /// least number, where the state of none permits it. Want of memory is told only where none of these holds. A journal that
+    /// would be too large comes before all of them.
     pub fn control(
         &mut self,
         at: Moment,
@@ -211,6 +211,8 @@ impl Core {
             → result ≢ Err Refusal.OutOfMemory }
         ensures one { is_one_quiet target what ≡ true → self.old.spare ≤ self.new.spare + 1 }
         ensures memory { is_one_quiet target what ≡ true → 1 ≤ self.old.spare → result ≢ Err Refusal.OutOfMemory }
+        ensures refused { IsSome ((control target what).refusal (advance_plan entry at self.old.plan)) → result ≢ Err Refusal.OutOfMemory }
+        ensures sized { limit < size_at entry (outcome (control target what) entry (advance_plan entry at self.old.plan)).plan → result ≢ Err Refusal.OutOfMemory }
     {
         job_control::control(&mut self.book, at, entry, limit, &target, what)
     }
@@ -355,10 +357,11 @@ impl Core {
     }
 
     /// The reports of starts and ends that the processes of all jobs may still bring: two for a job that is handed out to be
-    /// started, one for a job whose start is reported. The journal has room for them.
+    /// started, one for a job whose start is reported. The room that is promised to the jobs in the journal holds them.
     pub fn reports_to_come(&self) -> u64
         ensures value { result ≡ reports_to_come self.now.plan.rows }
         ensures room { result ≤ weight self.now.plan }
+        ensures promised { result ≤ promised self.now.plan.rows }
     {
         let _weight = self.book.weight();
         reports_to_come(self.book.rows())
@@ -385,7 +388,7 @@ impl Core {
         facts::row_facts(&self.book, at, job)
     }
 
-    /// The least number of a kept job that is this one or above it.
+    /// The number of the first job in the list of kept jobs, which stand in order of number, that is this one or above it.
     pub fn next_row(&self, from: JobId) -> Option<JobId>
         ensures { result ≡ job_from from.0 self.now.plan }
     {
@@ -420,7 +423,8 @@ impl Core {
         )
     }
 
-    /// The least number of an accepted reservation that is this one or above it, once time has come to this moment.
+    /// The number of the first reservation in the list of accepted ones, which stand in order of number, that is this one or above
+    /// it, once time has come to this moment.
     pub fn next_reservation(&self, at: Moment, from: ReservationId) -> Option<ReservationId>
         ensures { result ≡ reservation_from from.0 (advance_plan 0 at self.now.plan).reservations }
     {

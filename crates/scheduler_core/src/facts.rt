@@ -25,7 +25,7 @@ pub struct RowFacts {
     pub rerunnable: bool,
     /// It is not launched before this moment.
     pub start: Option<Moment>,
-    /// It has failed where it isn't launched before this moment.
+    /// At this moment it fails where it waits, also one that was launched before and queued again.
     pub deadline: Option<Moment>,
     /// The reservation that it runs in.
     pub reservation: Option<ReservationId>,

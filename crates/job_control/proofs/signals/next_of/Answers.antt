@@ -2,7 +2,7 @@ use Rattle.std.proofs.Common.{sym}
 use Rattle.drmaa_model.specs.Time.{advance_plan}
 use Rattle.plan_book.specs.Book.{plan_of}
 use Rattle.job_control.proofs.SignalLaws.{next-kept}
-use Rattle.job_control.proofs.Steps.{read-none}
+use Rattle.plan_book.specs.FactLaws.{read-none}
 use Rattle.job_control.proofs.signals.next_of.Goals as goal
 
 pub returns-in-None : goal.returns-in-None

@@ -9,7 +9,7 @@ use Rattle.plan_book.specs.Book.{plan_of, moved, IsMove}
 use Rattle.plan_book.specs.Ties.{KeepsTie}
 use Rattle.job_control.specs.Signals.{signal_for, take_move}
 use Rattle.job_control.proofs.SignalLaws.{takes-then}
-use Rattle.job_control.proofs.Steps.{ok-meets, err-meets}
+use Rattle.plan_book.specs.MeetLaws.{ok-meets, err-meets}
 use Rattle.job_control.proofs.signals.take_signal.Goals as goal
 
 pub make-requires-clause-move_is : goal.make-requires-clause-move_is

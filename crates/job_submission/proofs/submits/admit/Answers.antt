@@ -8,7 +8,7 @@ use Rattle.drmaa_model.specs.Time.{advance_plan}
 use Rattle.plan_book.specs.Book.{plan_of, joined}
 use Rattle.job_submission.specs.declared.batches.Batch.{Batch}
 use Rattle.job_submission.specs.Batches.{batch_rows, batch_members, told_of}
-use Rattle.job_submission.proofs.Meetings.{refused-meets}
+use Rattle.plan_book.specs.MeetLaws.{refused-meets}
 use Rattle.job_submission.proofs.SubmitSteps.{MayJoin, may-join, asked-rows, asked-text, text-then, text-refuses, joined-ok, joined-err}
 use Rattle.job_submission.proofs.submits.admit.Goals as goal
 use Rattle.job_submission.proofs.submits.admit.Goals.{After-rows_of, In-Ok}

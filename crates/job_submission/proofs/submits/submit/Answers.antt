@@ -4,7 +4,7 @@ use Rattle.drmaa_types.specs.declared.refusals.Refusal.{Refusal}
 use Rattle.drmaa_model.specs.Submitting.{submit}
 use Rattle.drmaa_model.specs.Time.{advance_plan}
 use Rattle.plan_book.specs.Book.{plan_of}
-use Rattle.job_submission.proofs.Meetings.{refused-meets, refused-never}
+use Rattle.plan_book.specs.MeetLaws.{refused-meets, refused-never}
 use Rattle.job_submission.proofs.SubmitSteps.{early-answers, early-refuses}
 use Rattle.job_submission.proofs.submits.submit.Goals as goal
 

@@ -12,7 +12,7 @@ use Rattle.plan_book.specs.Book.{plan_of}
 use Rattle.plan_book.specs.Ties.{IsFree, booked_for}
 use Rattle.reservation_requests.specs.Requesting.{accepted_of}
 use Rattle.reservation_requests.proofs.OfferLaws.{request-refused, request-passes, request-comes, request-fit, request-free}
-use Rattle.reservation_requests.proofs.RefusalSteps.{refused-meets, refused-memory}
+use Rattle.plan_book.specs.MeetLaws.{refused-meets, refused-never}
 use Rattle.reservation_requests.proofs.requests.request_reservation.Goals as goal
 
 pub accept-requires-clause-free : goal.accept-requires-clause-free
@@ -49,7 +49,7 @@ returns-in-Ok-clause-meets c =
 pub returns-in-Err-clause-memory : goal.returns-in-Err-clause-memory
 returns-in-Err-clause-memory c = λ there.
     (let p = plan_of c.args.book.now in
-    refused-memory c.in-Err.why (advance_plan c.args.entry c.args.at p) p c.args.entry c.args.limit c.refuse.result (plan_of c.refuse.new.self) c.refuse.ensures.refuses)
+    refused-never c.args.entry c.args.limit p (advance_plan c.args.entry c.args.at p) (plan_of c.refuse.new.self) c.in-Err.why c.refuse.result c.refuse.ensures.refuses)
 
 pub returns-in-Ok-clause-memory : goal.returns-in-Ok-clause-memory
 returns-in-Ok-clause-memory c = λ there.

@@ -6,7 +6,7 @@ use Rattle.drmaa_model.specs.Operation.{Outcome, Meets}
 use Rattle.drmaa_model.specs.Time.{advance_plan}
 use Rattle.plan_book.specs.Book.{plan_of, moved}
 use Rattle.scheduler_core.proofs.LaunchSteps.{looked, looked-fit, looked-may, looked-beside, looked-grows}
-use Rattle.scheduler_core.proofs.Steps.{ok-meets, err-meets}
+use Rattle.plan_book.specs.MeetLaws.{ok-meets, err-meets}
 use Rattle.scheduler_core.proofs.launches.take_launch.Goals as goal
 
 pub make-requires-clause-tie : goal.make-requires-clause-tie

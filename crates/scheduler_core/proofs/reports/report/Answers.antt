@@ -13,7 +13,9 @@ use Rattle.plan_book.specs.declared.moves.Move.{Move}
 use Rattle.plan_book.specs.Ties.{MayMake, IsBeside}
 use Rattle.scheduler_core.specs.Reports.{job_of, may_report, report_move}
 use Rattle.scheduler_core.proofs.ReportSteps.{may-report-then, report-makes, report-frees, report-unkept, report-barred, report-may, report-beside}
-use Rattle.scheduler_core.proofs.Steps.{Makes, IsFree, made-meets, refused-meets, read-none}
+use Rattle.plan_book.specs.FactLaws.{read-none}
+use Rattle.plan_book.specs.MeetLaws.{refused-meets}
+use Rattle.scheduler_core.proofs.Steps.{Makes, IsFree, made-meets}
 use Rattle.scheduler_core.proofs.reports.report.Goals as goal
 use Rattle.scheduler_core.proofs.reports.report.Goals.{In-Some, In_default, After-may_report, After-report_move-m}
 

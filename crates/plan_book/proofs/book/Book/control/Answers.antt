@@ -99,3 +99,10 @@ returns-then-size-limit-clause-meets c =
       above = omega (arith, eq, c.if-size-limit.true);
       plan = refl;
     })
+
+pub returns-then-is_err-clause-sized : goal.returns-then-is_err-clause-sized
+returns-then-is_err-clause-sized c = λ above.
+    (let p = plan_of c.args.self.now in
+    let q = advance_plan c.args.entry c.args.at p in
+    let grows : growth c.args.what (acted c.args.target.now c.args.what q.rows) ≡ c.growth.result = ap (growth c.args.what) (sym c.acted-acted.ensures.value) ∙ sym c.growth.ensures.value in
+    absurd (omega (arith, above, grows, c.weight.ensures, weight-advance c.args.entry c.args.at p, control-size c.args.target.now c.args.what c.args.entry q, c.if-size-limit.false)))

@@ -1,7 +1,7 @@
-use Rattle.std.proofs.Common.{◌≡◌, ◌+◌, ◌≤◌, false, true, subst}
-use Rattle.std.specs.Prelude.{◌≢◌, Err}
+use Rattle.std.proofs.Common.{◌≡◌, ◌+◌, ◌≤◌, ◌<◌, false, true, subst}
+use Rattle.std.specs.Prelude.{◌≢◌, IsSome, Err}
 use Rattle.drmaa_types.specs.declared.refusals.Refusal.TheVariants.{OutOfMemory}
-use Rattle.drmaa_model.specs.Operation.{Meets, outcome}
+use Rattle.drmaa_model.specs.Operation.{size_at, Meets, outcome}
 use Rattle.drmaa_model.specs.Controlling.{control}
 use Rattle.drmaa_model.specs.Time.{advance_plan, rows_at}
 use Rattle.plan_book.specs.Book.{plan_of, spare}
@@ -27,3 +27,11 @@ returns-clause-one c = subst (λ (v : View). is_one_quiet c.args.target c.args.w
 
 pub returns-clause-memory : goal.returns-clause-memory
 returns-clause-memory c = subst (λ (v : View). is_one_quiet c.args.target c.args.what ≡ true → 1 ≤ v.spare → c.control.result ≢ Err OutOfMemory) c.self.view_is c.control.ensures.memory
+
+pub returns-clause-refused : goal.returns-clause-refused
+returns-clause-refused c =
+    subst (λ (v : View). IsSome ((control c.args.target c.args.what).refusal (advance_plan c.args.entry c.args.at v.plan)) → c.control.result ≢ Err OutOfMemory) c.self.view_is c.control.ensures.refused
+
+pub returns-clause-sized : goal.returns-clause-sized
+returns-clause-sized c =
+    subst (λ (v : View). c.args.limit < size_at c.args.entry (outcome (control c.args.target c.args.what) c.args.entry (advance_plan c.args.entry c.args.at v.plan)).plan → c.control.result ≢ Err OutOfMemory) c.self.view_is c.control.ensures.sized
