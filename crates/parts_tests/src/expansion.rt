@@ -46,20 +46,11 @@ fn an_index_stands_for_each_placeholder(rt: HostRuntime) -> Result<(), Fail> {
     Ok(())
 }
 
-/// The environment of a placeholder whose value is one.
-fn marked_pair(alloc: Global) -> Result<PairList, Fail> {
-    let pair = Pair {
-        name: text(alloc, PLACEHOLDER)?,
-        value: text(alloc, PLACEHOLDER)?,
-    };
-    Ok(PairList::from_vec(vec![in alloc; pair]?))
-}
-
 /// A template each text of which is a placeholder.
 fn marked(alloc: Global) -> Result<JobTemplate, Fail> {
     let mut template = job(alloc, text(alloc, PLACEHOLDER)?);
     template.args = one(alloc, PLACEHOLDER)?;
-    template.job_environment = marked_pair(alloc)?;
+    template.job_environment = environment(alloc, PLACEHOLDER, PLACEHOLDER)?;
     template.working_directory = Some(text(alloc, PLACEHOLDER)?);
     template.job_name = Some(text(alloc, PLACEHOLDER)?);
     template.input_path = Some(text(alloc, PLACEHOLDER)?);
@@ -123,35 +114,54 @@ fn a_command_is_launched_by_seven_words(rt: HostRuntime) -> Result<(), Fail> {
     Ok(())
 }
 
-/// A template of `sh` with a directory, files and an environment.
-fn set(alloc: Global, join_files: bool) -> Result<JobTemplate, Fail> {
+/// The list of two texts.
+fn two(alloc: Global, first: &str, second: &str) -> Result<TextList, Fail> {
+    let first = text(alloc, first)?;
+    let second = text(alloc, second)?;
+    Ok(TextList::from_vec(vec![in alloc; first, second]?))
+}
+
+/// The environment of a variable.
+fn environment(alloc: Global, name: &str, value: &str) -> Result<PairList, Fail> {
+    let name = text(alloc, name)?;
+    let value = text(alloc, value)?;
+    Ok(PairList::from_vec(vec![in alloc; Pair { name, value }]?))
+}
+
+/// A template of `sh` with a directory, an output, an environment, and these files.
+fn set(alloc: Global, input: Option<Text>, error: Option<Text>) -> Result<JobTemplate, Fail> {
+    let args = two(alloc, "-c", "exit 0")?;
+    let environment = environment(alloc, "A", "b=c")?;
+    let directory = text(alloc, "/tmp")?;
+    let output = text(alloc, "out.txt")?;
     let mut template = job(alloc, text(alloc, "sh")?);
-    template.args = TextList::from_vec(vec![in alloc; text(alloc, "-c")?, text(alloc, "exit 0")?]?);
-    template.working_directory = Some(text(alloc, "/tmp")?);
-    template.output_path = Some(text(alloc, "out.txt")?);
-    if join_files {
-        template.error_path = Some(text(alloc, "err")?);
-    } else {
-        template.input_path = Some(text(alloc, "in")?);
-    }
-    template.join_files = join_files;
-    let pair = Pair {
-        name: text(alloc, "A")?,
-        value: text(alloc, "b=c")?,
-    };
-    template.job_environment = PairList::from_vec(vec![in alloc; pair]?);
+    template.args = args;
+    template.job_environment = environment;
+    template.working_directory = Some(directory);
+    template.output_path = Some(output);
+    template.input_path = input;
+    template.error_path = error;
     Ok(template)
 }
 
 #[test]
 fn the_words_stand_in_order(rt: HostRuntime) -> Result<(), Fail> {
     let alloc = rt.alloc();
-    let words = launch_words(alloc, &set(alloc, false)?)?;
+    let template = set(alloc, Some(text(alloc, "in")?), None)?;
+    let words = launch_words(alloc, &template)?;
     let want = [
         "/tmp", "in", "out.txt", "", "apart", "1", "A=b=c", "sh", "-c", "exit 0",
     ];
     assert!(rt; are_words(&words, &want));
-    let words = launch_words(alloc, &set(alloc, true)?.clone()?)?;
+    Ok(())
+}
+
+#[test]
+fn the_files_of_a_copy_are_joined(rt: HostRuntime) -> Result<(), Fail> {
+    let alloc = rt.alloc();
+    let mut template = set(alloc, None, Some(text(alloc, "err")?))?.clone()?;
+    template.join_files = true;
+    let words = launch_words(alloc, &template)?;
     let want = [
         "/tmp", "", "out.txt", "err", "join", "1", "A=b=c", "sh", "-c", "exit 0",
     ];

@@ -1,0 +1,9 @@
+pub mod ClosedOnes
+pub mod Destroying
+pub mod Dues
+pub mod Firsts
+pub mod Openings
+pub mod Outcomes
+pub mod Placed
+pub mod Sizes
+pub mod Through

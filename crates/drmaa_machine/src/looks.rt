@@ -1,0 +1,56 @@
+//! Questions that make no entry, and memory that is taken ahead.
+ghost use Rattle.std.specs.Prelude.{◌≡◌, ◌≤◌, OnOk, IfErr, take, drop};
+ghost use Rattle.machine_readings.specs.Stores.{world_of, world_at, IsKept};
+ghost use Rattle.drmaa_machine.specs.Looks.{IsAnswer};
+ghost use Rattle.drmaa_machine.specs.Serving.{Keeps, spare_of};
+
+use drmaa_model::{Answer, Question};
+use drmaa_types::{Change, ChangeBatch, Moment, Refusal};
+use machine_readings::Store;
+
+/// The most changes of one answer.
+const MOST_CHANGES: usize = 64;
+
+/// Takes the memory for so many further entries and changes.
+pub fn reserve_in(store: &mut Store, n: u32) -> Result<(), Refusal>
+    requires kept { IsKept store.old }
+    ensures world { world_of store.new ≡ world_of store.old }
+    ensures kept { IsKept store.new }
+    ensures keeps { Keeps store.old store.new }
+    ensures spare { OnOk result (n ≤ spare_of store.new) }
+    ensures err { IfErr result (λ why. why ≡ Refusal.OutOfMemory) }
+{
+    let wanted = store.core.reports_to_come() as usize + n as usize;
+    if store.history.reserve(wanted).is_err() {
+        return Err(Refusal::OutOfMemory);
+    }
+    store.core.reserve(n)
+}
+
+/// Answers a question.
+pub fn look_in(store: &Store, at: Moment, question: Question) -> Answer
+    requires { IsKept store.now }
+    ensures { IsAnswer (world_at at store.now) (world_of store.now) question result }
+{
+    match question {
+        Question::Settled => Answer::Settled(store.core.settled(at)),
+        Question::Held => Answer::Held(store.core.held()),
+        Question::Changes { from } => Answer::Changes(batch(store.core.changes(), from)),
+    }
+}
+
+/// The first 64 changes from a place on.
+fn batch(changes: &[Change], from: u64) -> ChangeBatch
+    ensures { result ≡ take 64 (drop from changes.now) }
+{
+    let mut batch = ChangeBatch::new();
+    if from >= changes.len() as u64 {
+        return batch;
+    }
+    let rest = &changes[from as usize..];
+    let count = rest.len().min(MOST_CHANGES);
+    for change in &rest[..count] {
+        batch.push(*change);
+    }
+    batch
+}

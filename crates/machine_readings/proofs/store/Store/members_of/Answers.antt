@@ -1,0 +1,16 @@
+use Rattle.std.proofs.Common.{◌≡◌, ◌∙◌, ◌&&◌, ◌++◌, [], List, ℕ, filter, ap}
+use Rattle.drmaa_model.specs.declared.rows.Row.{Row}
+use Rattle.drmaa_model.specs.Fit.{number_of}
+use Rattle.drmaa_model.specs.Homes.{is_same_home}
+use Rattle.drmaa_model.specs.Infos.{numbers}
+use Rattle.drmaa_model.specs.Load.{is_member}
+use Rattle.drmaa_model.specs.Time.{rows_at}
+use Rattle.machine_readings.specs.Walks.{on-all, from_on}
+use Rattle.machine_readings.proofs.store.Store.members_of.Goals as goal
+
+pub loop-facts-init : goal.loop-facts-init
+loop-facts-init c =
+    (let s = c.args.self.now in
+    let F : List Row → List ℕ = λ rows. numbers (filter (λ (row : Row). is_same_home c.args.home row.home && is_member c.args.array row) rows) in
+    let none : c.before.new-jobs.result.items ≡ [] = cc in
+    ap (λ items. items ++ F (from_on number_of 0 (rows_at c.args.at s.core.plan))) none ∙ ap F (on-all number_of (rows_at c.args.at s.core.plan)))

@@ -1,0 +1,6 @@
+pub mod Clocks
+pub mod Lookups
+pub mod Nexts
+pub mod Stores
+pub mod Telling
+pub mod Walks
