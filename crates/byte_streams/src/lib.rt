@@ -4,8 +4,6 @@
 mod memory;
 mod standard;
 mod streams;
-#[cfg(test)]
-mod tests;
 mod whole;
 
 pub use memory::{MemorySink, MemorySource};

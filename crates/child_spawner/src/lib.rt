@@ -13,8 +13,6 @@ mod shell;
 mod signals;
 mod spawners;
 mod system;
-#[cfg(test)]
-mod tests;
 
 pub use children::Child;
 pub use fates::{Asked, Fate, FateList};

@@ -2,7 +2,7 @@
 ghost use Rattle.std.specs.Prelude.{◌≡◌, ◌≤◌, OnOk, IfErr, take, drop};
 ghost use Rattle.machine_readings.specs.Stores.{world_of, world_at, IsKept};
 ghost use Rattle.drmaa_machine.specs.Looks.{IsAnswer};
-ghost use Rattle.drmaa_machine.specs.Serving.{Keeps, spare_of};
+ghost use Rattle.machine_calls.specs.Serving.{Keeps, spare_of};
 
 use drmaa_model::{Answer, Question};
 use drmaa_types::{Change, ChangeBatch, Moment, Refusal};

@@ -24,7 +24,7 @@ pub struct Machine {
 
 impl Model for Machine {
     ghost use Rattle.drmaa_machine.specs.View.{View};
-    ghost use Rattle.drmaa_machine.specs.Serving.{spare_of};
+    ghost use Rattle.machine_calls.specs.Serving.{spare_of};
 
     ghost Value = { View };
 

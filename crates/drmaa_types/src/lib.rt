@@ -14,8 +14,6 @@ mod readings;
 mod refusals;
 mod sessions;
 mod states;
-#[cfg(test)]
-mod tests;
 mod texts;
 
 pub use capabilities::{Capability, supports};

@@ -4,8 +4,6 @@
 
 mod laws;
 mod rules;
-#[cfg(test)]
-mod tests;
 
 pub use laws::{
     controls_go_along_edges, edges_keep_what_has_come, exits_go_along_edges,

@@ -12,6 +12,8 @@ mod filters;
 #[cfg(test)]
 mod limits;
 #[cfg(test)]
+mod moments;
+#[cfg(test)]
 mod numbers;
 #[cfg(test)]
 mod reservations;

@@ -7,8 +7,6 @@ mod calendar;
 mod heights;
 mod keyed;
 mod laws;
-#[cfg(test)]
-mod tests;
 mod timeline;
 
 pub use bookings::{Booking, Key};

@@ -5,8 +5,6 @@ mod counts;
 mod items;
 mod places;
 mod queue;
-#[cfg(test)]
-mod tests;
 
 pub use items::QueueItem;
 pub use queue::RunQueue;

@@ -6,7 +6,5 @@ mod kinds;
 mod names;
 mod numbers;
 mod table;
-#[cfg(test)]
-mod tests;
 
 pub use table::SessionTable;

@@ -3,3 +3,5 @@
 
 #[cfg(test)]
 mod ears;
+#[cfg(test)]
+mod turns;

@@ -9,8 +9,6 @@ mod openers;
 mod order;
 mod passes;
 mod plays;
-#[cfg(test)]
-mod tests;
 mod turns;
 mod views;
 

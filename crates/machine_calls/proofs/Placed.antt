@@ -1,0 +1,49 @@
+-- An operation of the core, after the limit was found.
+use Rattle.std.proofs.Common.{◌≡◌, ℕ, ◌+◌, ◌<◌, ◌≤◌, true, ap, subst, arith}
+use Rattle.std.specs.Prelude.{Result, Ok, Err, OnOk, vec_len, vec_capacity}
+use Rattle.drmaa_types.specs.declared.refusals.Refusal.{Refusal}
+use Rattle.drmaa_types.specs.declared.refusals.Refusal.TheVariants.{OutOfMemory}
+use Rattle.drmaa_model.specs.declared.calls.Call.{Call}
+use Rattle.drmaa_model.specs.declared.faults.NoEntry.{NoEntry}
+use Rattle.drmaa_model.specs.declared.replies.Reply.{Reply}
+use Rattle.drmaa_model.specs.Fit.{IsFit}
+use Rattle.drmaa_model.specs.FitLaws.{advance-fit}
+use Rattle.drmaa_model.specs.Operation.{Operation, outcome, Meets}
+use Rattle.drmaa_model.specs.Plan.{Plan}
+use Rattle.drmaa_model.specs.Time.{advance_plan}
+use Rattle.drmaa_model.specs.World.{World}
+use Rattle.scheduler_core.specs.Facts.{reports_to_come}
+use Rattle.machine_readings.specs.declared.store.Store.{Store}
+use Rattle.machine_readings.specs.Stores.{world_of, world_at}
+use Rattle.machine_calls.specs.declared.replies.Replies.{Replies}
+use Rattle.machine_calls.specs.Serving.{Comes, Concludes, HasPlace, is_sized_first}
+use Rattle.machine_calls.proofs.Dues.{advance-due}
+use Rattle.machine_calls.proofs.Through.{IsThrough, op-comes, op-place}
+
+module _ {A : Type 0} (tell : A → Reply) (op : Operation A) (s mid : Store) (at : ℕ) (asked : Call) (is : IsThrough tell op at (world_at at s) asked) (limit : ℕ) (new : Plan)
+    (done : Result A Refusal) (result : Result Replies NoEntry) (next : World) (same : world_of mid ≡ world_of s) (placed : 0 < limit → limit ≡ s.config.journal)
+    (met : Meets (outcome op (mid.entries + 1) (advance_plan (mid.entries + 1) at mid.core.plan)) mid.core.plan (mid.entries + 1) limit done new)
+    (ends : Concludes tell done (record (world_of mid) { plan = new }) result next) where
+  met-then : Meets (outcome op (s.entries + 1) (advance_plan (s.entries + 1) at s.core.plan)) s.core.plan (s.entries + 1) limit done new
+  met-then = subst (λ (w : World). Meets (outcome op (w.entries + 1) (advance_plan (w.entries + 1) at w.plan)) w.plan (w.entries + 1) limit done new) same met
+
+  ends-then : Concludes tell done (record (world_of s) { plan = new }) result next
+  ends-then = subst (λ (w : World). Concludes tell done (record w { plan = new }) result next) same ends
+
+  pub comes-after : (is_sized_first asked ≡ true → done ≡ Err OutOfMemory → ⊥) → Comes (world_of s) at asked result next
+  comes-after sure = op-comes tell op (world_of s) at asked is limit placed new result next done sure met-then ends-then
+
+  pub place-after : (t : Store) → (0 < limit → HasPlace 1 mid) → ((q : Plan) → IsFit q → reports_to_come (outcome op (s.entries + 1) q).plan.rows ≤ reports_to_come q.rows) → IsFit s.core.plan
+      → vec_len t.history ≡ vec_len mid.history → vec_capacity mid.history ≤ vec_capacity t.history → t.core.plan ≡ new → OnOk result (HasPlace 1 t)
+  place-after t place less fit len more core =
+      (let q = advance_plan (s.entries + 1) at s.core.plan in
+      let rows = ap (λ (w : World). reports_to_come w.plan.rows) same in
+      let due = less q (advance-fit (s.entries + 1) at s.core.plan fit) in
+      let earlier = advance-due (s.entries + 1) at s.core.plan in
+      let there = op-place tell op (world_of s) at asked is limit placed new result next done (vec_len mid.history) (vec_capacity mid.history)
+      (λ h. (let room = place h in omega (arith, room, rows))) (omega (arith, due, earlier)) met-then ends-then in
+      let after = ap (λ (p : Plan). reports_to_come p.rows) core in
+      (elim result as (λ (r : Result Replies NoEntry). OnOk r (vec_len mid.history + 1 + reports_to_come new.rows ≤ vec_capacity mid.history) → OnOk r (HasPlace 1 t)) [
+        | Ok x ↦ λ h. omega (arith, h, len, more, after)
+        | Err e ↦ λ h. tt
+      ]) there)

@@ -1,0 +1,200 @@
+-- The size of what a call comes to that adds nothing to the journal but its entry.
+use Rattle.std.proofs.Common.{◌≡◌, ℕ, ◌+◌, ◌<◌, ◌≤◌, Bool, true, false, List, Some, None, refl, sym, ◌∙◌, ap, subst}
+use Rattle.std.specs.Prelude.{Result, Err}
+use Rattle.std.specs.Option.{option_map_or}
+use Rattle.session_table.specs.Sessions.{home_of, destroyed}
+use Rattle.drmaa_types.specs.declared.sessions.SessionKind.{SessionKind}
+use Rattle.drmaa_types.specs.declared.sessions.SessionKind.TheVariants.{Jobs, Reservations}
+use Rattle.drmaa_model.specs.declared.calls.Call.{Call}
+use Rattle.drmaa_model.specs.declared.calls.Call.TheVariants as call
+use Rattle.drmaa_model.specs.declared.faults.NoEntry.{NoEntry}
+use Rattle.drmaa_model.specs.declared.faults.NoEntry.TheVariants as fault
+use Rattle.drmaa_model.specs.declared.replies.Reply.{Reply}
+use Rattle.drmaa_model.specs.declared.replies.Reply.TheVariants as reply
+use Rattle.drmaa_model.specs.AnswerLaws.{refused-gives, served-gives}
+use Rattle.drmaa_model.specs.Consistent.{IsConsistent}
+use Rattle.drmaa_model.specs.Effects.{StepAnswer, gives, makes, effect, destroy, forget_home}
+use Rattle.drmaa_model.specs.Fit.{IsFit}
+use Rattle.drmaa_model.specs.FitLaws.{advance-fit}
+use Rattle.drmaa_model.specs.Refusals.{refusal}
+use Rattle.drmaa_model.specs.Size.{size, weight}
+use Rattle.drmaa_model.specs.Steps.{answer}
+use Rattle.drmaa_model.specs.Time.{advance}
+use Rattle.drmaa_model.specs.TimeLaws.{weight-advance}
+use Rattle.drmaa_model.specs.WeightLaws.{forget-weight}
+use Rattle.drmaa_model.specs.World.{World, counted}
+use Rattle.machine_readings.specs.Telling.{is_reading}
+use Rattle.machine_calls.specs.declared.replies.Replies.{Replies}
+use Rattle.machine_calls.specs.Serving.{Comes}
+use Rattle.machine_calls.specs.Serving.Comes.{is_full, is_short}
+
+-- the call makes an entry, and nothing else adds to the journal
+pub record Planned (w : World) (at : ℕ) (asked : Call) : Type 0 where
+  pub told : Reply
+  pub after : World
+  pub answered : answer w at asked ≡ gives told after
+  pub size_is : size after ≡ w.entries + 1 + weight w.plan
+
+pub planned-makes : (w : World) (at : ℕ) (asked : Call) (r : Reply) → answer w at asked ≡ makes r (advance w at) → Planned w at asked
+planned-makes w at asked r is = record {
+  told = r;
+  after = counted (advance w at);
+  answered = is;
+  size_is = ap (λ n. w.entries + 1 + n) (weight-advance (w.entries + 1) at w.plan);
+}
+
+pub full-of : (w next : World) (at : ℕ) (asked : Call) (e : NoEntry) → Planned w at asked → e ≡ fault.Journal (w.entries + 1 + weight w.plan)
+    → w.config.journal < w.entries + 1 + weight w.plan → next ≡ w → Comes w at asked (Err e) next
+full-of w next at asked e planned is above same =
+    is_full planned.told planned.after (ap (λ (x : NoEntry). let r : Result Replies NoEntry = Err x in r) (is ∙ ap fault.Journal (sym planned.size_is))) planned.answered
+    (subst (λ n. w.config.journal < n) (sym planned.size_is) above) same
+
+pub short-of : (w next : World) (at : ℕ) (asked : Call) → Planned w at asked → w.entries + 1 + weight w.plan ≤ w.config.journal → next ≡ w → Comes w at asked (Err fault.OutOfMemory) next
+short-of w next at asked planned within same =
+    is_short planned.told planned.after refl planned.answered (λ sized. subst (λ n. n ≤ w.config.journal) (sym planned.size_is) within) same
+
+-- ---- the calls of sessions and readings
+
+abbrev pub is_plain : Call → Bool
+is_plain (call.CreateJobSession name) = true
+is_plain (call.CreateReservationSession name) = true
+is_plain (call.OpenJobSession name) = true
+is_plain (call.OpenReservationSession name) = true
+is_plain (call.DestroyJobSession name) = true
+is_plain (call.DestroyReservationSession name) = true
+is_plain call.JobSessionNames = true
+is_plain call.ReservationSessionNames = true
+is_plain call.OpenMonitoring = true
+is_plain (call.CloseSession session) = true
+is_plain (call.RunJob session t) = false
+is_plain (call.RunBulk session t indices) = false
+is_plain (call.GetJobs session filter) = true
+is_plain (call.GetJobArray session array) = true
+is_plain (call.Control session meant what) = false
+is_plain (call.Reap session meant) = false
+is_plain (call.GetState session job) = true
+is_plain (call.GetInfo session job) = true
+is_plain (call.Wait session listed kind begun timeout) = false
+is_plain (call.RequestReservation session t) = true
+is_plain (call.GetReservation session number) = true
+is_plain (call.GetReservations session) = true
+is_plain (call.EndReservation session number) = false
+is_plain (call.AllJobs session filter) = true
+is_plain (call.AllReservations session) = true
+is_plain (call.AllQueues session) = true
+is_plain (call.AllMachines session) = true
+is_plain call.Register = true
+is_plain call.TakeLaunch = false
+is_plain (call.Started job attempt) = false
+is_plain (call.StartFailed job attempt) = false
+is_plain (call.Exited job attempt exit) = false
+is_plain (call.ExitUnknown job attempt) = false
+is_plain call.TakeSignal = false
+is_plain (call.SignalDone job attempt kind) = false
+is_plain (call.SignalFailed job attempt kind) = false
+
+record PlannedNow (v : World) (a : StepAnswer) : Type 0 where
+  told : Reply
+  after : World
+  does : a ≡ gives told after
+  size_is : size after ≡ v.entries + 1 + weight v.plan
+
+by-makes : (v after : World) (r : Reply) → size (counted after) ≡ v.entries + 1 + weight v.plan → PlannedNow v (makes r after)
+by-makes v after r is = record { told = r; after = counted after; does = refl; size_is = is }
+
+destroys : (v : World) (kind : SessionKind) (name : List ℕ) → IsFit v.plan → PlannedNow v (makes reply.Unit (destroy kind name v))
+destroys v kind name fit =
+    by-makes v (destroy kind name v) reply.Unit
+    (elim (home_of kind name v.sessions.named) as (λ o. size (counted (option_map_or (λ (home : ℕ). record v { sessions = destroyed home v.sessions; plan = forget_home home v.plan }) o v)) ≡ v.entries + 1 + weight v.plan) [
+      | None ↦ refl
+      | Some home ↦ ap (λ n. v.entries + 1 + n) (forget-weight home v.plan fit)
+    ])
+
+module _ (at : ℕ) (v : World) (fit : IsFit v.plan) where
+  now-planned : (c : Call) → is_plain c ≡ true → PlannedNow v (effect at v c)
+  now-planned (call.CreateJobSession name) p = by-makes v _ _ refl
+  now-planned (call.CreateReservationSession name) p = by-makes v _ _ refl
+  now-planned (call.OpenJobSession name) p = by-makes v _ _ refl
+  now-planned (call.OpenReservationSession name) p = by-makes v _ _ refl
+  now-planned (call.DestroyJobSession name) p = destroys v Jobs name fit
+  now-planned (call.DestroyReservationSession name) p = destroys v Reservations name fit
+  now-planned call.JobSessionNames p = by-makes v _ _ refl
+  now-planned call.ReservationSessionNames p = by-makes v _ _ refl
+  now-planned call.OpenMonitoring p = by-makes v _ _ refl
+  now-planned (call.CloseSession session) p = by-makes v _ _ refl
+  now-planned (call.RunJob session t) p = absurd (cc)
+  now-planned (call.RunBulk session t indices) p = absurd (cc)
+  now-planned (call.GetJobs session filter) p = by-makes v _ _ refl
+  now-planned (call.GetJobArray session array) p = by-makes v _ _ refl
+  now-planned (call.Control session meant what) p = absurd (cc)
+  now-planned (call.Reap session meant) p = absurd (cc)
+  now-planned (call.GetState session job) p = by-makes v _ _ refl
+  now-planned (call.GetInfo session job) p = by-makes v _ _ refl
+  now-planned (call.Wait session listed kind begun timeout) p = absurd (cc)
+  now-planned (call.RequestReservation session t) p = by-makes v _ _ refl
+  now-planned (call.GetReservation session number) p = by-makes v _ _ refl
+  now-planned (call.GetReservations session) p = by-makes v _ _ refl
+  now-planned (call.EndReservation session number) p = absurd (cc)
+  now-planned (call.AllJobs session filter) p = by-makes v _ _ refl
+  now-planned (call.AllReservations session) p = by-makes v _ _ refl
+  now-planned (call.AllQueues session) p = by-makes v _ _ refl
+  now-planned (call.AllMachines session) p = by-makes v _ _ refl
+  now-planned call.Register p = by-makes v _ _ refl
+  now-planned call.TakeLaunch p = absurd (cc)
+  now-planned (call.Started job attempt) p = absurd (cc)
+  now-planned (call.StartFailed job attempt) p = absurd (cc)
+  now-planned (call.Exited job attempt exit) p = absurd (cc)
+  now-planned (call.ExitUnknown job attempt) p = absurd (cc)
+  now-planned call.TakeSignal p = absurd (cc)
+  now-planned (call.SignalDone job attempt kind) p = absurd (cc)
+  now-planned (call.SignalFailed job attempt kind) p = absurd (cc)
+
+pub planned : (w : World) (at : ℕ) (asked : Call) → IsConsistent w → is_plain asked ≡ true → Planned w at asked
+planned w at asked ok plain =
+    let v = advance w at in
+    let same : w.entries + 1 + weight v.plan ≡ w.entries + 1 + weight w.plan = ap (λ n. w.entries + 1 + n) (weight-advance (w.entries + 1) at w.plan) in
+    (elim (refusal v asked) as (λ o. refusal v asked ≡ o → Planned w at asked) [
+      | Some why ↦ λ is. planned-makes w at asked (reply.Refused why) (refused-gives at v asked why is)
+      | None ↦ λ is.
+          (let now = now-planned at v (advance-fit (w.entries + 1) at w.plan ok.fit) asked plain in
+          record { told = now.told; after = now.after; answered = served-gives at v asked is ∙ now.does; size_is = now.size_is ∙ same })
+    ]) refl
+
+-- what only reads is plain
+pub reading-plain : (c : Call) → is_reading c ≡ true → is_plain c ≡ true
+reading-plain (call.CreateJobSession name) p = refl
+reading-plain (call.CreateReservationSession name) p = refl
+reading-plain (call.OpenJobSession name) p = refl
+reading-plain (call.OpenReservationSession name) p = refl
+reading-plain (call.DestroyJobSession name) p = refl
+reading-plain (call.DestroyReservationSession name) p = refl
+reading-plain call.JobSessionNames p = refl
+reading-plain call.ReservationSessionNames p = refl
+reading-plain call.OpenMonitoring p = refl
+reading-plain (call.CloseSession session) p = refl
+reading-plain (call.RunJob session t) p = absurd (cc)
+reading-plain (call.RunBulk session t indices) p = absurd (cc)
+reading-plain (call.GetJobs session filter) p = refl
+reading-plain (call.GetJobArray session array) p = refl
+reading-plain (call.Control session meant what) p = absurd (cc)
+reading-plain (call.Reap session meant) p = absurd (cc)
+reading-plain (call.GetState session job) p = refl
+reading-plain (call.GetInfo session job) p = refl
+reading-plain (call.Wait session listed kind begun timeout) p = absurd (cc)
+reading-plain (call.RequestReservation session t) p = refl
+reading-plain (call.GetReservation session number) p = refl
+reading-plain (call.GetReservations session) p = refl
+reading-plain (call.EndReservation session number) p = absurd (cc)
+reading-plain (call.AllJobs session filter) p = refl
+reading-plain (call.AllReservations session) p = refl
+reading-plain (call.AllQueues session) p = refl
+reading-plain (call.AllMachines session) p = refl
+reading-plain call.Register p = refl
+reading-plain call.TakeLaunch p = absurd (cc)
+reading-plain (call.Started job attempt) p = absurd (cc)
+reading-plain (call.StartFailed job attempt) p = absurd (cc)
+reading-plain (call.Exited job attempt exit) p = absurd (cc)
+reading-plain (call.ExitUnknown job attempt) p = absurd (cc)
+reading-plain call.TakeSignal p = absurd (cc)
+reading-plain (call.SignalDone job attempt kind) p = absurd (cc)
+reading-plain (call.SignalFailed job attempt kind) p = absurd (cc)

@@ -1,0 +1,145 @@
+//! Calls that an operation of the core serves.
+ghost use Rattle.std.specs.Prelude.{◌≡◌, ◌&&◌, not, [], ◌∷◌, OnOk, None};
+ghost use Rattle.drmaa_types.specs.Refusals.{first_refusal};
+ghost use Rattle.drmaa_types.specs.declared.sessions.SessionKind.{SessionKind};
+ghost use Rattle.drmaa_model.specs.declared.calls.Call.{Call};
+ghost use Rattle.drmaa_model.specs.Homes.{session_test, own_test, reap_test, reapers, reservation_test};
+ghost use Rattle.drmaa_model.specs.Refusals.{is_pausing};
+ghost use Rattle.machine_readings.specs.Stores.{world_of, world_at, IsKept};
+ghost use Rattle.machine_calls.specs.Reports.{call_of};
+ghost use Rattle.machine_calls.specs.Serving.{Comes, Keeps, HasPlace};
+
+use crate::concludes::conclude;
+use crate::places::limit_for;
+use crate::replies::Replies;
+use crate::settles::refuse;
+use drmaa_model::{NoEntry, Report, Target};
+use drmaa_types::{Control, Moment, Refusal, ReservationId, SessionId};
+use machine_readings::Store;
+
+/// Forgets ended jobs.
+pub fn reap(
+    store: &mut Store,
+    at: Moment,
+    session: SessionId,
+    target: Target,
+) -> Result<Replies, NoEntry>
+    requires kept { IsKept store.old }
+    ensures comes { Comes (world_of store.old) at (Call.Reap session target) result (world_of store.new) }
+    ensures keeps { Keeps store.old store.new }
+    ensures place { OnOk result (HasPlace 1 store.new) }
+{
+    match store.reap_refusal(at, session, &target) {
+        Some(why) => refuse(store, at, &why),
+        None => reap_own(store, at, session, target),
+    }
+}
+
+fn reap_own(
+    store: &mut Store,
+    at: Moment,
+    session: SessionId,
+    target: Target,
+) -> Result<Replies, NoEntry>
+    requires kept { IsKept store.old }
+    requires own { first_refusal (session_test (reapers target) session (world_at at store.old) ∷ reap_test session target (world_at at store.old) ∷ []) ≡ None }
+    ensures comes { Comes (world_of store.old) at (Call.Reap session target) result (world_of store.new) }
+    ensures keeps { Keeps store.old store.new }
+    ensures place { OnOk result (HasPlace 1 store.new) }
+{
+    let _ = session;
+    let limit = limit_for(store);
+    let entry = store.entries + 1;
+    let done = store.core.reap(at, entry, limit, target);
+    conclude(store, done)
+}
+
+/// Holds, releases, suspends, resumes or terminates jobs.
+pub fn control(
+    store: &mut Store,
+    at: Moment,
+    session: SessionId,
+    target: Target,
+    what: Control,
+) -> Result<Replies, NoEntry>
+    requires kept { IsKept store.old }
+    ensures comes { Comes (world_of store.old) at (Call.Control session target what) result (world_of store.new) }
+    ensures keeps { Keeps store.old store.new }
+    ensures place { OnOk result (HasPlace 1 store.new) }
+{
+    match store.control_refusal(at, session, &target, what) {
+        Some(why) => refuse(store, at, &why),
+        None => control_own(store, at, session, target, what),
+    }
+}
+
+fn control_own(
+    store: &mut Store,
+    at: Moment,
+    session: SessionId,
+    target: Target,
+    what: Control,
+) -> Result<Replies, NoEntry>
+    requires kept { IsKept store.old }
+    requires own { first_refusal (session_test (SessionKind.Jobs ∷ []) session (world_at at store.old) ∷ own_test session target (world_at at store.old) ∷
+        (is_pausing what && not store.old.config.suspend, Refusal.UnsupportedOperation) ∷ []) ≡ None }
+    ensures comes { Comes (world_of store.old) at (Call.Control session target what) result (world_of store.new) }
+    ensures keeps { Keeps store.old store.new }
+    ensures place { OnOk result (HasPlace 1 store.new) }
+{
+    let _ = session;
+    let limit = limit_for(store);
+    let entry = store.entries + 1;
+    let done = store.core.control(at, entry, limit, target, what);
+    conclude(store, done)
+}
+
+/// Ends a reservation.
+pub fn end_reservation(
+    store: &mut Store,
+    at: Moment,
+    session: SessionId,
+    number: ReservationId,
+) -> Result<Replies, NoEntry>
+    requires kept { IsKept store.old }
+    ensures comes { Comes (world_of store.old) at (Call.EndReservation session number) result (world_of store.new) }
+    ensures keeps { Keeps store.old store.new }
+    ensures place { OnOk result (HasPlace 1 store.new) }
+{
+    match store.reservation_refusal(at, session, number) {
+        Some(why) => refuse(store, at, &why),
+        None => end_own(store, at, session, number),
+    }
+}
+
+fn end_own(
+    store: &mut Store,
+    at: Moment,
+    session: SessionId,
+    number: ReservationId,
+) -> Result<Replies, NoEntry>
+    requires kept { IsKept store.old }
+    requires own { first_refusal (session_test (SessionKind.Reservations ∷ []) session (world_at at store.old) ∷ reservation_test session number (world_at at store.old) ∷ []) ≡ None }
+    ensures comes { Comes (world_of store.old) at (Call.EndReservation session number) result (world_of store.new) }
+    ensures keeps { Keeps store.old store.new }
+    ensures place { OnOk result (HasPlace 1 store.new) }
+{
+    let _ = session;
+    let limit = limit_for(store);
+    let entry = store.entries + 1;
+    let done = store.core.end_reservation(at, entry, limit, number);
+    conclude(store, done)
+}
+
+/// Takes a report of launcher or reaper.
+pub fn report(store: &mut Store, at: Moment, report: Report) -> Result<Replies, NoEntry>
+    requires kept { IsKept store.old }
+    ensures comes { Comes (world_of store.old) at (call_of report) result (world_of store.new) }
+    ensures keeps { Keeps store.old store.new }
+    ensures place { OnOk result (HasPlace 1 store.new) }
+{
+    let limit = limit_for(store);
+    let entry = store.entries + 1;
+    let done = store.core.report(at, entry, limit, report);
+    conclude(store, done)
+}

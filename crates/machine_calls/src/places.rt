@@ -1,0 +1,85 @@
+//! The memory for entries, and the limit that an operation of the core is given.
+ghost use Rattle.std.specs.Prelude.{◌≡◌, ◌+◌, ◌<◌, ◌≤◌, OnOk, OnErr, IsOk, IfErr};
+ghost use Rattle.drmaa_model.specs.Size.{weight};
+ghost use Rattle.machine_readings.specs.Stores.{world_of, IsKept};
+ghost use Rattle.machine_calls.specs.Serving.{Keeps, HasPlace, places, Sorts};
+
+use crate::replies::Replies;
+use drmaa_model::NoEntry;
+use drmaa_types::{Limit, Refusal};
+use machine_readings::Store;
+use std::alloc::AllocError;
+
+/// Takes the memory for an entry, and for so many more that reports will make.
+pub fn make_place(store: &mut Store, more: u32) -> Result<(), AllocError>
+    requires kept { IsKept store.old }
+    ensures world { world_of store.new ≡ world_of store.old }
+    ensures core { store.new.core ≡ store.old.core }
+    ensures keeps { Keeps store.old store.new }
+    ensures place { OnOk result (HasPlace (1 + more) store.new) }
+    ensures succeeds { 1 + more ≤ places store.old → IsOk result }
+{
+    let wanted = store.core.reports_to_come() as usize + 1 + more as usize;
+    store.history.reserve(wanted)
+}
+
+/// The limit of the journal, once there is memory for an entry; 0 where there is none, so that an operation with this limit
+/// tells its size and changes nothing.
+pub fn limit_for(store: &mut Store) -> u64
+    requires kept { IsKept store.old }
+    ensures world { world_of store.new ≡ world_of store.old }
+    ensures core { store.new.core ≡ store.old.core }
+    ensures keeps { Keeps store.old store.new }
+    ensures placed { 0 < result → result ≡ store.old.config.journal }
+    ensures place { 0 < result → HasPlace 1 store.new }
+    ensures small { result ≤ 4_000_000 }
+    ensures succeeds { 1 ≤ places store.old → result ≡ store.old.config.journal }
+{
+    if make_place(store, 0).is_err() {
+        return 0;
+    }
+    store.config.journal
+}
+
+/// Whether the journal has room for an entry that adds nothing to it.
+pub fn within(store: &Store) -> Result<(), NoEntry>
+    requires { IsKept store.now }
+    ensures ok { OnOk result (store.now.entries + 1 + weight store.now.core.plan ≤ store.now.config.journal) }
+    ensures err { IfErr result (λ e. e ≡ NoEntry.Journal (store.now.entries + 1 + weight store.now.core.plan)) }
+    ensures above { OnErr result (store.now.config.journal < store.now.entries + 1 + weight store.now.core.plan) }
+{
+    let size = store.entries + 1 + store.core.size();
+    if size > store.config.journal {
+        return Err(NoEntry::Journal { size });
+    }
+    Ok(())
+}
+
+/// Takes an operation's error: a refusal is a reply.
+pub fn sort(store: &mut Store, why: Refusal) -> Result<Replies, NoEntry>
+    requires few { store.old.entries < 4_000_001 }
+    ensures keeps { Keeps store.old store.new }
+    ensures core { store.new.core ≡ store.old.core }
+    ensures sorts { Sorts why (world_of store.old) result (world_of store.new) }
+{
+    match why {
+        Refusal::OutOfMemory => Err(NoEntry::OutOfMemory),
+        Refusal::OutOfResource(Limit::Journal { size }) => Err(too_large(store, size)),
+        _ => {
+            store.entries += 1;
+            Ok(Replies::refused(&why))
+        }
+    }
+}
+
+/// A size that is above the limit which an operation was given.
+fn too_large(store: &Store, size: u64) -> NoEntry
+    ensures full { store.now.config.journal < size → result ≡ NoEntry.Journal size }
+    ensures short { size ≤ store.now.config.journal → result ≡ NoEntry.OutOfMemory }
+{
+    if size > store.config.journal {
+        NoEntry::Journal { size }
+    } else {
+        NoEntry::OutOfMemory
+    }
+}

@@ -1,0 +1,180 @@
+//! The calls of the session manager.
+ghost use Rattle.std.specs.Prelude.{◌≡◌, ◌+◌, ◌<◌, ◌≤◌, IsTrue, OnOk};
+ghost use Rattle.session_table.specs.Sessions.{has_names};
+ghost use Rattle.drmaa_model.specs.declared.calls.Call.{Call};
+ghost use Rattle.drmaa_model.specs.Size.{weight};
+ghost use Rattle.drmaa_model.specs.Time.{advance};
+ghost use Rattle.drmaa_model.specs.World.{counted};
+ghost use Rattle.machine_readings.specs.Stores.{world_of, IsKept};
+ghost use Rattle.machine_calls.specs.Opening.{Opens, create_call, open_call};
+ghost use Rattle.machine_calls.specs.Serving.{Comes, Keeps, HasPlace};
+
+use crate::places::{make_place, within};
+use crate::replies::Replies;
+use drmaa_model::NoEntry;
+use drmaa_types::{Moment, Refusal, SessionId, SessionKind, Text};
+use machine_readings::{Store, copied};
+
+/// Makes a named session, and a number that stands for it.
+pub fn create(
+    store: &mut Store,
+    at: Moment,
+    kind: SessionKind,
+    name: &Option<Text>,
+) -> Result<Replies, NoEntry>
+    requires kept { IsKept store.old }
+    requires kind { IsTrue (has_names kind) }
+    ensures comes { Comes (world_of store.old) at (create_call kind name.now) result (world_of store.new) }
+    ensures keeps { Keeps store.old store.new }
+    ensures place { OnOk result (HasPlace 1 store.new) }
+{
+    match within(store) {
+        Ok(()) => create_within(store, at, kind, name),
+        Err(full) => Err(full),
+    }
+}
+
+fn create_within(
+    store: &mut Store,
+    at: Moment,
+    kind: SessionKind,
+    name: &Option<Text>,
+) -> Result<Replies, NoEntry>
+    requires kept { IsKept store.old }
+    requires kind { IsTrue (has_names kind) }
+    requires within { store.old.entries + 1 + weight store.old.core.plan ≤ store.old.config.journal }
+    ensures comes { Comes (world_of store.old) at (create_call kind name.now) result (world_of store.new) }
+    ensures keeps { Keeps store.old store.new }
+    ensures place { OnOk result (HasPlace 1 store.new) }
+{
+    match copied(name) {
+        Ok(name) => create_named(store, at, kind, name),
+        Err(_) => Err(NoEntry::OutOfMemory),
+    }
+}
+
+fn create_named(
+    store: &mut Store,
+    at: Moment,
+    kind: SessionKind,
+    name: Option<Text>,
+) -> Result<Replies, NoEntry>
+    requires kept { IsKept store.old }
+    requires kind { IsTrue (has_names kind) }
+    requires within { store.old.entries + 1 + weight store.old.core.plan ≤ store.old.config.journal }
+    ensures comes { Comes (world_of store.old) at (create_call kind name) result (world_of store.new) }
+    ensures keeps { Keeps store.old store.new }
+    ensures place { OnOk result (HasPlace 1 store.new) }
+{
+    match make_place(store, 0) {
+        Ok(()) => {
+            let made = store.sessions.create(kind, name);
+            open_up(store, at, made)
+        }
+        Err(_) => Err(NoEntry::OutOfMemory),
+    }
+}
+
+/// Opens a named session.
+pub fn attach(
+    store: &mut Store,
+    at: Moment,
+    kind: SessionKind,
+    name: &Text,
+) -> Result<Replies, NoEntry>
+    requires kept { IsKept store.old }
+    requires kind { IsTrue (has_names kind) }
+    ensures comes { Comes (world_of store.old) at (open_call kind name.now) result (world_of store.new) }
+    ensures keeps { Keeps store.old store.new }
+    ensures place { OnOk result (HasPlace 1 store.new) }
+{
+    match within(store) {
+        Ok(()) => attach_within(store, at, kind, name),
+        Err(full) => Err(full),
+    }
+}
+
+fn attach_within(
+    store: &mut Store,
+    at: Moment,
+    kind: SessionKind,
+    name: &Text,
+) -> Result<Replies, NoEntry>
+    requires kept { IsKept store.old }
+    requires kind { IsTrue (has_names kind) }
+    requires within { store.old.entries + 1 + weight store.old.core.plan ≤ store.old.config.journal }
+    ensures comes { Comes (world_of store.old) at (open_call kind name.now) result (world_of store.new) }
+    ensures keeps { Keeps store.old store.new }
+    ensures place { OnOk result (HasPlace 1 store.new) }
+{
+    match make_place(store, 0) {
+        Ok(()) => {
+            let made = store.sessions.attach(kind, name);
+            open_up(store, at, made)
+        }
+        Err(_) => Err(NoEntry::OutOfMemory),
+    }
+}
+
+/// Opens a monitoring session.
+pub fn monitor(store: &mut Store, at: Moment) -> Result<Replies, NoEntry>
+    requires kept { IsKept store.old }
+    ensures comes { Comes (world_of store.old) at Call.OpenMonitoring result (world_of store.new) }
+    ensures keeps { Keeps store.old store.new }
+    ensures place { OnOk result (HasPlace 1 store.new) }
+{
+    match within(store) {
+        Ok(()) => monitor_within(store, at),
+        Err(full) => Err(full),
+    }
+}
+
+fn monitor_within(store: &mut Store, at: Moment) -> Result<Replies, NoEntry>
+    requires kept { IsKept store.old }
+    requires within { store.old.entries + 1 + weight store.old.core.plan ≤ store.old.config.journal }
+    ensures comes { Comes (world_of store.old) at Call.OpenMonitoring result (world_of store.new) }
+    ensures keeps { Keeps store.old store.new }
+    ensures place { OnOk result (HasPlace 1 store.new) }
+{
+    match make_place(store, 0) {
+        Ok(()) => {
+            let made = store.sessions.monitor();
+            open_up(store, at, made)
+        }
+        Err(_) => Err(NoEntry::OutOfMemory),
+    }
+}
+
+/// The replies to a call that made a session number, or was refused one.
+fn open_up(
+    store: &mut Store,
+    at: Moment,
+    made: Result<SessionId, Refusal>,
+) -> Result<Replies, NoEntry>
+    requires few { store.old.entries < 4_000_001 }
+    requires room { HasPlace 1 store.old }
+    ensures opens { Opens made (world_of store.old) at result (world_of store.new) }
+    ensures keeps { Keeps store.old store.new }
+    ensures place { HasPlace 1 store.new }
+{
+    match made {
+        Ok(session) => Ok(go_on(store, at, Replies::session(session))),
+        Err(Refusal::OutOfMemory) => Err(NoEntry::OutOfMemory),
+        Err(why) => Ok(go_on(store, at, Replies::refused(&why))),
+    }
+}
+
+/// Time goes on, and an entry is made.
+pub fn go_on(store: &mut Store, at: Moment, replies: Replies) -> Replies
+    requires few { store.old.entries < 4_000_001 }
+    requires room { HasPlace 1 store.old }
+    ensures replies { result ≡ replies }
+    ensures world { world_of store.new ≡ counted (advance (world_of store.old) at) }
+    ensures keeps { Keeps store.old store.new }
+    ensures place { HasPlace 1 store.new }
+{
+    let entry = store.entries + 1;
+    store.core.advance(at, entry);
+    store.entries = entry;
+    replies
+}

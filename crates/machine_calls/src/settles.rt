@@ -1,0 +1,170 @@
+//! Calls that change no more than time: refusals, and what only reads.
+ghost use Rattle.std.specs.Prelude.{◌≡◌, ◌≢◌, ◌+◌, ◌≤◌, IfOk, OnOk, Some, None, Err, true};
+ghost use Rattle.drmaa_model.specs.declared.calls.Call.{Call};
+ghost use Rattle.drmaa_model.specs.Effects.{makes};
+ghost use Rattle.drmaa_model.specs.Refusals.{refusal};
+ghost use Rattle.drmaa_model.specs.Size.{weight};
+ghost use Rattle.drmaa_model.specs.Steps.{answer};
+ghost use Rattle.machine_readings.specs.Stores.{world_of, world_at, IsKept};
+ghost use Rattle.machine_readings.specs.Telling.{IsReply, is_reading};
+ghost use Rattle.machine_calls.specs.Serving.{Comes, IsLooked, Keeps, HasPlace, spare_of};
+
+use crate::places::{make_place, within};
+use crate::replies::Replies;
+use drmaa_model::{Call, NoEntry};
+use drmaa_types::{IdList, JobId, Moment, Refusal, SessionId, Timeout, WaitKind};
+use machine_readings::{Store, is_timed_out};
+use std::alloc::AllocError;
+
+/// Answers what changes no more than time.
+pub fn pass(store: &mut Store, at: Moment, replies: Replies) -> Result<Replies, NoEntry>
+    requires kept { IsKept store.old }
+    requires twice { replies.kept ≡ replies.told }
+    requires within { store.old.entries + 1 + weight store.old.core.plan ≤ store.old.config.journal }
+    ensures comes { (asked : Call) → answer (world_of store.old) at asked ≡ makes replies.told (world_at at store.old)
+        → Comes (world_of store.old) at asked result (world_of store.new) }
+    ensures keeps { Keeps store.old store.new }
+    ensures place { OnOk result (HasPlace 1 store.new) }
+    ensures memory { 1 ≤ spare_of store.old → result ≢ Err NoEntry.OutOfMemory }
+{
+    match make_place(store, 0) {
+        Ok(()) => {
+            let entry = store.entries + 1;
+            store.core.advance(at, entry);
+            store.entries = entry;
+            Ok(replies)
+        }
+        Err(_) => Err(NoEntry::OutOfMemory),
+    }
+}
+
+/// Refuses a call.
+pub fn refuse(store: &mut Store, at: Moment, why: &Refusal) -> Result<Replies, NoEntry>
+    requires kept { IsKept store.old }
+    ensures comes { (asked : Call) → refusal (world_at at store.old) asked ≡ Some why.now
+        → Comes (world_of store.old) at asked result (world_of store.new) }
+    ensures keeps { Keeps store.old store.new }
+    ensures place { OnOk result (HasPlace 1 store.new) }
+    ensures memory { 1 ≤ spare_of store.old → result ≢ Err NoEntry.OutOfMemory }
+{
+    match within(store) {
+        Ok(()) => pass(store, at, Replies::refused(why)),
+        Err(full) => Err(full),
+    }
+}
+
+/// Serves a call that only reads.
+pub fn read(store: &mut Store, at: Moment, call: &Call) -> Result<Replies, NoEntry>
+    requires kept { IsKept store.old }
+    requires reading { is_reading call.now ≡ true }
+    ensures comes { Comes (world_of store.old) at call.now result (world_of store.new) }
+    ensures keeps { Keeps store.old store.new }
+    ensures place { OnOk result (HasPlace 1 store.new) }
+{
+    match within(store) {
+        Ok(()) => read_within(store, at, call),
+        Err(full) => Err(full),
+    }
+}
+
+fn read_within(store: &mut Store, at: Moment, call: &Call) -> Result<Replies, NoEntry>
+    requires kept { IsKept store.old }
+    requires reading { is_reading call.now ≡ true }
+    requires within { store.old.entries + 1 + weight store.old.core.plan ≤ store.old.config.journal }
+    ensures comes { Comes (world_of store.old) at call.now result (world_of store.new) }
+    ensures keeps { Keeps store.old store.new }
+    ensures place { OnOk result (HasPlace 1 store.new) }
+{
+    match replies_to(store, at, call) {
+        Ok(replies) => pass(store, at, replies),
+        Err(_) => Err(NoEntry::OutOfMemory),
+    }
+}
+
+/// The reply to a call that only reads, twice.
+fn replies_to(store: &Store, at: Moment, call: &Call) -> Result<Replies, AllocError>
+    requires kept { IsKept store.now }
+    requires reading { is_reading call.now ≡ true }
+    ensures reply { IfOk result (λ replies. IsReply store.now at call.now replies.told) }
+    ensures twice { IfOk result (λ replies. replies.kept ≡ replies.told) }
+{
+    let told = store.reply_to(at, call)?;
+    let kept = store.reply_to(at, call)?;
+    Ok(Replies { told, kept })
+}
+
+/// Serves a wait: it answers what is reached, or that its timeout is over.
+pub fn wait(
+    store: &mut Store,
+    at: Moment,
+    session: SessionId,
+    jobs: &IdList,
+    kind: WaitKind,
+    begun: Moment,
+    timeout: Timeout,
+) -> Result<Replies, NoEntry>
+    requires kept { IsKept store.old }
+    ensures comes { Comes (world_of store.old) at (Call.Wait session jobs.now kind begun timeout) result (world_of store.new) }
+    ensures keeps { Keeps store.old store.new }
+    ensures place { OnOk result (HasPlace 1 store.new) }
+{
+    match store.wait_refusal(at, session, jobs) {
+        Some(why) => refuse(store, at, &why),
+        None => look(store, at, session, jobs, kind, begun, timeout),
+    }
+}
+
+fn look(
+    store: &mut Store,
+    at: Moment,
+    session: SessionId,
+    jobs: &IdList,
+    kind: WaitKind,
+    begun: Moment,
+    timeout: Timeout,
+) -> Result<Replies, NoEntry>
+    requires kept { IsKept store.old }
+    requires free { refusal (world_at at store.old) (Call.Wait session jobs.now kind begun timeout) ≡ None }
+    ensures comes { Comes (world_of store.old) at (Call.Wait session jobs.now kind begun timeout) result (world_of store.new) }
+    ensures keeps { Keeps store.old store.new }
+    ensures place { OnOk result (HasPlace 1 store.new) }
+{
+    let _ = session;
+    let job = store.first_reached(at, kind, jobs);
+    let over = is_timed_out(at, begun, timeout);
+    match looked(job, over) {
+        Some(replies) => settle(store, at, replies),
+        None => Err(NoEntry::NotYet),
+    }
+}
+
+/// What a look is answered, if it is answered.
+fn looked(job: Option<u64>, over: bool) -> Option<Replies>
+    ensures { IsLooked job over result }
+{
+    match job {
+        Some(job) => Some(Replies::reached(JobId(job))),
+        None => {
+            if over {
+                return Some(Replies::refused(&Refusal::Timeout));
+            }
+            None
+        }
+    }
+}
+
+/// Answers what changes no more than time, where the journal has room for it.
+pub fn settle(store: &mut Store, at: Moment, replies: Replies) -> Result<Replies, NoEntry>
+    requires kept { IsKept store.old }
+    requires twice { replies.kept ≡ replies.told }
+    ensures comes { (asked : Call) → answer (world_of store.old) at asked ≡ makes replies.told (world_at at store.old)
+        → Comes (world_of store.old) at asked result (world_of store.new) }
+    ensures keeps { Keeps store.old store.new }
+    ensures place { OnOk result (HasPlace 1 store.new) }
+    ensures memory { 1 ≤ spare_of store.old → result ≢ Err NoEntry.OutOfMemory }
+{
+    match within(store) {
+        Ok(()) => pass(store, at, replies),
+        Err(full) => Err(full),
+    }
+}
