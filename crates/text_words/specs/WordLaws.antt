@@ -1,5 +1,5 @@
 -- The laws of words: a line for each, and each value that has a word stands in its table.
-use Rattle.std.proofs.Common.{◌≡◌, ℕ, Bool, true, List, [], ◌∷◌, Option, Some, None, refl, sym, ap, ◌∙◌}
+use Rattle.std.proofs.Common.{◌≡◌, ◌≢◌, ℕ, Bool, true, List, [], ◌∷◌, Option, Some, None, refl, sym, ap, ◌∙◌}
 use Rattle.std.specs.Prelude.{IfSome}
 use Rattle.std.specs.List.{list_all}
 use Rattle.std.specs.Str.{bytes_eq}
@@ -51,6 +51,16 @@ kind_stands kind.Kill = refl
 pub note_laws : IsFormat note_form
 unfolding note_form
 note_laws = one_of_laws note_text NOTES refl
+
+pub note_stands : (x : Note) → x ≢ note.None → first_spelled note_text NOTES (note_text x) ≡ Some x
+note_stands note.None some = absurd (some refl)
+note_stands note.Terminated some = refl
+note_stands note.PastDeadline some = refl
+note_stands note.PastLimit some = refl
+note_stands note.ReservationGone some = refl
+note_stands note.StartFailed some = refl
+note_stands note.ExitUnknown some = refl
+note_stands note.SignalFailed some = refl
 
 -- a note that is spelled is not None
 pub note_here : (n : Note) → note_form.valid n → note_part n ≡ Some n

@@ -1,6 +1,7 @@
 //! The words of the arguments and limits that a refusal names.
 ghost use Rattle.std.specs.Prelude.{◌≡◌, ◌++◌, Some, true, IfSome, IfErr, OnOk};
 ghost use Rattle.drmaa_types.specs.declared.refusals.Limit.{Limit};
+ghost use Rattle.drmaa_types.specs.declared.refusals.Which.{Which};
 ghost use Rattle.text_codec.specs.Formats.{Answers, first_spelled};
 ghost use Rattle.text_codec.specs.declared.unread.Unread.{Unread};
 ghost use Rattle.text_words.specs.Words as words;
@@ -69,14 +70,22 @@ pub fn spell_which(which: Which) -> &'static str
     }
 }
 
-/// The argument that is spelled so.
-pub fn which_of(word: &[u8]) -> Option<Which>
+/// The first argument of the table that is spelled so.
+fn first_which(word: &[u8]) -> Option<Which>
     ensures { result ≡ first_spelled words.which_text ARGUMENTS word.now }
 {
     ARGUMENTS
         .iter()
         .copied()
         .find(|which| spell_which(*which).as_bytes() == word)
+}
+
+/// The argument that is spelled so. Each argument has a word, and no two share one.
+pub fn which_of(word: &[u8]) -> Option<Which>
+    ensures first { result ≡ first_spelled words.which_text ARGUMENTS word.now }
+    ensures only { (which : Which) → word.now ≡ words.which_text which → result ≡ Some which }
+{
+    first_which(word)
 }
 
 impl ReadForm for Which {

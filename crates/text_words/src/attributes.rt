@@ -1,5 +1,6 @@
 //! The words of the attributes that this profile does not support.
-ghost use Rattle.std.specs.Prelude.{◌≡◌, ◌++◌, IfErr, OnOk};
+ghost use Rattle.std.specs.Prelude.{◌≡◌, ◌++◌, Some, IfErr, OnOk};
+ghost use Rattle.drmaa_types.specs.declared.refusals.Attribute.{Attribute};
 ghost use Rattle.text_codec.specs.declared.unread.Unread.{Unread};
 ghost use Rattle.text_codec.specs.Formats.{Answers, first_spelled};
 ghost use Rattle.text_words.specs.Words as words;
@@ -62,14 +63,22 @@ pub fn spell_attribute(attribute: Attribute) -> &'static str
     }
 }
 
-/// The attribute that is spelled so.
-pub fn attribute_of(word: &[u8]) -> Option<Attribute>
+/// The first attribute of the table that is spelled so.
+fn first_attribute(word: &[u8]) -> Option<Attribute>
     ensures { result ≡ first_spelled words.attribute_text ATTRIBUTES word.now }
 {
     ATTRIBUTES
         .iter()
         .copied()
         .find(|attribute| spell_attribute(*attribute).as_bytes() == word)
+}
+
+/// The attribute that is spelled so. Each attribute has a word, and no two share one.
+pub fn attribute_of(word: &[u8]) -> Option<Attribute>
+    ensures first { result ≡ first_spelled words.attribute_text ATTRIBUTES word.now }
+    ensures only { (attribute : Attribute) → word.now ≡ words.attribute_text attribute → result ≡ Some attribute }
+{
+    first_attribute(word)
 }
 
 impl ReadForm for Attribute {

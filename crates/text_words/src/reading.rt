@@ -1,5 +1,6 @@
 //! Values of other crates that have a form: how each is read, alone and in lists.
-ghost use Rattle.std.specs.Prelude.{◌≡◌, ◌∷◌, [], ◌++◌, OnOk, true};
+ghost use Rattle.std.specs.Prelude.{◌≡◌, ◌∷◌, [], ◌++◌, IfErr, OnOk, true};
+ghost use Rattle.text_codec.specs.declared.unread.Unread.{Unread};
 ghost use Rattle.text_codec.specs.Formats.{Format, IsFormat, Answers, read_on};
 ghost use Rattle.text_codec.specs.Formats as form;
 ghost use Rattle.text_codec.specs.Fields as fields;
@@ -12,7 +13,7 @@ ghost use Rattle.std.specs.Prelude.{◌^◌};
 
 use drmaa_types::{ListOf, Moment, Text};
 use std::alloc::AllocError;
-use text_codec::{Cursor, Form, Unread};
+use text_codec::{Cursor, Unread, integer_of};
 
 /// A value that is read in one form.
 pub trait ReadForm: Drop + Sized {
@@ -52,7 +53,7 @@ fn read_each<T: ReadForm>(
 }
 
 /// Reads values, each behind a key, as many as there are.
-#[tactic(auto, using(crate::proofs::Readers::onto_none))]
+#[tactic(auto, using(text_codec::proofs::Readers::onto_none))]
 pub fn read_all<T: ReadForm>(cursor: &mut Cursor, key: &[u8]) -> Result<ListOf<T>, Unread>
     requires spaced { spaced key.now ≡ true }
     ensures { Answers (form.read_all key.now T.form.read) cursor.old result cursor.new }
@@ -94,7 +95,10 @@ impl ReadForm for u64 {
 
     ghost laws = { laws.number_laws_64 };
 
-    fn read(cursor: &mut Cursor) -> Result<u64, Unread> {
+    fn read(cursor: &mut Cursor) -> Result<u64, Unread>
+        ensures reads { Answers (form.number (2 ^ 64)).read cursor.old result cursor.new }
+        ensures memory { IfErr result (λ e. e ≡ Unread.Unspelled) }
+    {
         cursor.u64()
     }
 }
@@ -104,7 +108,10 @@ impl ReadForm for u32 {
 
     ghost laws = { laws.number_laws_32 };
 
-    fn read(cursor: &mut Cursor) -> Result<u32, Unread> {
+    fn read(cursor: &mut Cursor) -> Result<u32, Unread>
+        ensures reads { Answers (form.number (2 ^ 32)).read cursor.old result cursor.new }
+        ensures memory { IfErr result (λ e. e ≡ Unread.Unspelled) }
+    {
         cursor.u32()
     }
 }
@@ -114,7 +121,10 @@ impl ReadForm for u8 {
 
     ghost laws = { laws.number_laws_8 };
 
-    fn read(cursor: &mut Cursor) -> Result<u8, Unread> {
+    fn read(cursor: &mut Cursor) -> Result<u8, Unread>
+        ensures reads { Answers (form.number (2 ^ 8)).read cursor.old result cursor.new }
+        ensures memory { IfErr result (λ e. e ≡ Unread.Unspelled) }
+    {
         cursor.u8()
     }
 }
@@ -124,8 +134,15 @@ impl ReadForm for i32 {
 
     ghost laws = { integer_laws.integer_laws_32 };
 
-    fn read(cursor: &mut Cursor) -> Result<i32, Unread> {
-        <i32 as Form>::read(cursor)
+    #[tactic(auto, unfolding(text_codec::specs::Integers::integer))]
+    fn read(cursor: &mut Cursor) -> Result<i32, Unread>
+        ensures reads { Answers (integers.integer (2 ^ 31)).read cursor.old result cursor.new }
+        ensures memory { IfErr result (λ e. e ≡ Unread.Unspelled) }
+    {
+        match integer_of(cursor.word()) {
+            Some(number) => Ok(number),
+            None => Err(Unread::Unspelled),
+        }
     }
 }
 
@@ -134,7 +151,10 @@ impl ReadForm for Moment {
 
     ghost laws = { laws.moment_laws };
 
-    fn read(cursor: &mut Cursor) -> Result<Moment, Unread> {
+    fn read(cursor: &mut Cursor) -> Result<Moment, Unread>
+        ensures reads { Answers form.moment.read cursor.old result cursor.new }
+        ensures memory { IfErr result (λ e. e ≡ Unread.Unspelled) }
+    {
         cursor.moment()
     }
 }

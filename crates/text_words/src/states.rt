@@ -1,5 +1,8 @@
 //! The words of states, of kinds of signal and of notes.
-ghost use Rattle.std.specs.Prelude.{◌≡◌, ◌++◌, IfErr, OnOk};
+ghost use Rattle.std.specs.Prelude.{◌≡◌, ◌≢◌, ◌++◌, Some, IfErr, OnOk};
+ghost use Rattle.drmaa_types.specs.declared.states.JobState.{JobState};
+ghost use Rattle.drmaa_types.specs.declared.states.SignalKind.{SignalKind};
+ghost use Rattle.drmaa_types.specs.declared.states.Note.{Note};
 ghost use Rattle.text_codec.specs.declared.unread.Unread.{Unread};
 ghost use Rattle.text_codec.specs.Formats.{Answers, first_spelled, valid_or};
 ghost use Rattle.text_codec.specs.Fields.{spell_set};
@@ -41,14 +44,22 @@ pub fn spell_state(state: JobState) -> &'static str
     }
 }
 
-/// The state that is spelled so.
-pub fn state_of(word: &[u8]) -> Option<JobState>
+/// The first state of the table that is spelled so.
+fn first_state(word: &[u8]) -> Option<JobState>
     ensures { result ≡ first_spelled words.state_text STATES word.now }
 {
     STATES
         .iter()
         .copied()
         .find(|state| spell_state(*state).as_bytes() == word)
+}
+
+/// The state that is spelled so. Each state has a word, and no two share one.
+pub fn state_of(word: &[u8]) -> Option<JobState>
+    ensures first { result ≡ first_spelled words.state_text STATES word.now }
+    ensures only { (state : JobState) → word.now ≡ words.state_text state → result ≡ Some state }
+{
+    first_state(word)
 }
 
 impl ReadForm for JobState {
@@ -91,14 +102,22 @@ pub fn spell_kind(kind: SignalKind) -> &'static str
     }
 }
 
-/// The kind of signal that is spelled so.
-pub fn kind_of(word: &[u8]) -> Option<SignalKind>
+/// The first kind of signal of the table that is spelled so.
+fn first_kind(word: &[u8]) -> Option<SignalKind>
     ensures { result ≡ first_spelled words.kind_text KINDS word.now }
 {
     KINDS
         .iter()
         .copied()
         .find(|kind| spell_kind(*kind).as_bytes() == word)
+}
+
+/// The kind of signal that is spelled so. Each kind has a word, and no two share one.
+pub fn kind_of(word: &[u8]) -> Option<SignalKind>
+    ensures first { result ≡ first_spelled words.kind_text KINDS word.now }
+    ensures only { (kind : SignalKind) → word.now ≡ words.kind_text kind → result ≡ Some kind }
+{
+    first_kind(word)
 }
 
 impl ReadForm for SignalKind {
@@ -154,14 +173,22 @@ pub fn spell_note(note: Note) -> &'static str
     }
 }
 
-/// The note that is spelled so.
-pub fn note_of(word: &[u8]) -> Option<Note>
+/// The first note of the table that is spelled so.
+fn first_note(word: &[u8]) -> Option<Note>
     ensures { result ≡ first_spelled words.note_text NOTES word.now }
 {
     NOTES
         .iter()
         .copied()
         .find(|note| spell_note(*note).as_bytes() == word)
+}
+
+/// The note that is spelled so. Each note but `None` has a word, and no two share one.
+pub fn note_of(word: &[u8]) -> Option<Note>
+    ensures first { result ≡ first_spelled words.note_text NOTES word.now }
+    ensures only { (note : Note) → note ≢ Note.None → word.now ≡ words.note_text note → result ≡ Some note }
+{
+    first_note(word)
 }
 
 impl ReadForm for Note {

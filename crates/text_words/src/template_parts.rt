@@ -1,5 +1,6 @@
 //! The parts of templates that have a form of their own: variables, limits, and when a reservation is to start.
-ghost use Rattle.std.specs.Prelude.{◌≡◌, ◌++◌, OnOk};
+ghost use Rattle.std.specs.Prelude.{◌≡◌, ◌++◌, IfErr, OnOk};
+ghost use Rattle.text_codec.specs.declared.unread.Unread.{Unread};
 ghost use Rattle.text_codec.specs.Formats.{Answers};
 ghost use Rattle.text_words.specs.TemplateParts as parts;
 ghost use Rattle.text_words.specs.TemplatePartLaws as laws;
@@ -43,7 +44,10 @@ impl ReadForm for Start {
     ghost laws = { laws.start_laws };
 
     #[tactic(auto, unfolding(crate::specs::TemplateParts::start, text_codec::specs::Formats::mapped, text_codec::specs::Formats::or_else))]
-    fn read(cursor: &mut Cursor) -> Result<Start, Unread> {
+    fn read(cursor: &mut Cursor) -> Result<Start, Unread>
+        ensures reads { Answers parts.start.read cursor.old result cursor.new }
+        ensures memory { IfErr result (λ e. e ≡ Unread.Unspelled) }
+    {
         if cursor.skip(b"now") {
             return Ok(Start::Now);
         }

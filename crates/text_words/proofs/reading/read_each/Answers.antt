@@ -1,6 +1,6 @@
 use Rattle.std.proofs.Common.{Some, sym, ap, ◌∙◌}
 use Rattle.text_codec.specs.Formats.{read_on}
-use Rattle.text_words.proofs.Readers.{on_step, on_end, on_none, step_shorter, failed}
+use Rattle.text_codec.proofs.Readers.{on_step, on_end, on_none, step_shorter, failed}
 use Rattle.text_words.proofs.reading.read_each.Goals as goal
 
 pub returns-in_err-read : goal.returns-in_err-read
