@@ -1,8 +1,8 @@
 -- The laws of refusals: two lines for each.
-use Rattle.std.proofs.Common.{[], codes, refl}
+use Rattle.std.proofs.Common.{◌≡◌, [], codes, Some, refl}
 use Rattle.drmaa_types.specs.declared.refusals.Refusal.{Refusal}
 use Rattle.drmaa_types.specs.declared.refusals.Refusal.TheVariants as refusal
-use Rattle.text_codec.specs.Formats.{IsFormat, moment}
+use Rattle.text_codec.specs.Formats.{IsFormat, first_spelled, moment}
 use Rattle.text_codec.specs.FormatLaws.{or_else_laws}
 use Rattle.text_codec.specs.BaseLaws.{moment_laws, moment_avoids}
 use Rattle.text_codec.specs.Sums.{sum_of, read_sum, IsArm, Stands}
@@ -13,6 +13,17 @@ use Rattle.text_forms.specs.declared.refusals.TheConstants.{REFUSAL_WORDS}
 use Rattle.text_words.specs.Words.{which_form, state_form, limit_form, attribute_form}
 use Rattle.text_words.specs.WordLaws.{which_laws, state_laws, limit_laws, attribute_laws}
 use Rattle.text_forms.specs.Refusals.{refusal_word, overfull, refusal_form, refusal_arms, refusal_sum, refusals}
+
+-- each number of a refusal stands in the table, and is no other's
+pub refusal_word_stands : (k : RefusalWord) → first_spelled refusal_word REFUSAL_WORDS (refusal_word k) ≡ Some k
+refusal_word_stands why.Denied = refl
+refusal_word_stands why.Timeout = refl
+refusal_word_stands why.Argument = refl
+refusal_word_stands why.Session = refl
+refusal_word_stands why.State = refl
+refusal_word_stands why.Resource = refl
+refusal_word_stands why.Attribute = refl
+refusal_word_stands why.Operation = refl
 
 pub overfull_laws : IsFormat overfull
 unfolding overfull

@@ -1,7 +1,8 @@
 //! Templates of jobs in braces: read, in groups of fields, the last one first.
-ghost use Rattle.std.specs.Prelude.{◌≡◌};
+ghost use Rattle.std.specs.Prelude.{◌≡◌, IfErr};
 ghost use Rattle.std.specs.List.{list_all};
 ghost use Rattle.text_codec.specs.Formats.{Answers};
+ghost use Rattle.text_codec.specs.declared.unread.Unread.{Unread};
 ghost use Rattle.text_forms.specs.Templates as templates;
 
 use drmaa_types::{Attribute, AttributeList, Moment, ReservationId, Text, TextList};
@@ -77,7 +78,8 @@ pub(crate) fn are_others(attributes: &[Attribute]) -> bool
 /// Reads an attribute that a template has under `other`.
 #[tactic(auto, unfolding(crate::specs::Templates::other_form, text_codec::specs::Formats::checked))]
 pub fn read_other(cursor: &mut Cursor) -> Result<Attribute, Unread>
-    ensures { Answers templates.other_form.read cursor.old result cursor.new }
+    ensures reads { Answers templates.other_form.read cursor.old result cursor.new }
+    ensures memory { IfErr result (λ e. e ≡ Unread.Unspelled) }
 {
     let attribute = Attribute::read(cursor)?;
     if is_other(attribute) {

@@ -1,5 +1,7 @@
 //! Refusals: read and printed.
-ghost use Rattle.std.specs.Prelude.{◌≡◌, ◌++◌, true, OnOk};
+ghost use Rattle.std.specs.Prelude.{◌≡◌, ◌++◌, Some, true, IfErr, OnOk};
+ghost use Rattle.text_codec.specs.declared.unread.Unread.{Unread};
+ghost use Rattle.text_forms.specs.declared.refusals.RefusalWord.{RefusalWord};
 ghost use Rattle.text_codec.specs.Formats.{Answers, first_spelled};
 ghost use Rattle.text_words.specs.Words.{limit_form, is_told};
 ghost use Rattle.text_forms.specs.Refusals as refusals;
@@ -51,8 +53,8 @@ pub fn spell_refusal_word(word: RefusalWord) -> &'static str
     }
 }
 
-/// The refusal whose number is spelled so.
-pub fn refusal_word_of(word: &[u8]) -> Option<RefusalWord>
+/// The first refusal of the table that is spelled so.
+fn first_refusal_word(word: &[u8]) -> Option<RefusalWord>
     ensures { result ≡ first_spelled refusals.refusal_word REFUSAL_WORDS word.now }
 {
     REFUSAL_WORDS
@@ -61,10 +63,19 @@ pub fn refusal_word_of(word: &[u8]) -> Option<RefusalWord>
         .find(|kind| spell_refusal_word(*kind).as_bytes() == word)
 }
 
+/// The refusal whose number is spelled so. Each has a number, and no two share one.
+pub fn refusal_word_of(word: &[u8]) -> Option<RefusalWord>
+    ensures first { result ≡ first_spelled refusals.refusal_word REFUSAL_WORDS word.now }
+    ensures only { (kind : RefusalWord) → word.now ≡ refusals.refusal_word kind → result ≡ Some kind }
+{
+    first_refusal_word(word)
+}
+
 /// What stands behind the first number.
 #[tactic(auto, unfolding(crate::specs::Refusals::overfull, text_codec::specs::Formats::or_else))]
 fn denied_at(cursor: &mut Cursor) -> Result<Refusal, Unread>
-    ensures { Answers (refusals.refusal_arms why.Denied) cursor.old result cursor.new }
+    ensures reads { Answers (refusals.refusal_arms why.Denied) cursor.old result cursor.new }
+    ensures memory { IfErr result (λ e. e ≡ Unread.Unspelled) }
 {
     cursor.expect(b" ")?;
     if cursor.skip(b"-") {
@@ -74,28 +85,32 @@ fn denied_at(cursor: &mut Cursor) -> Result<Refusal, Unread>
 }
 
 fn argument_at(cursor: &mut Cursor) -> Result<Refusal, Unread>
-    ensures { Answers (refusals.refusal_arms why.Argument) cursor.old result cursor.new }
+    ensures reads { Answers (refusals.refusal_arms why.Argument) cursor.old result cursor.new }
+    ensures memory { IfErr result (λ e. e ≡ Unread.Unspelled) }
 {
     cursor.expect(b" ")?;
     Ok(Refusal::InvalidArgument(Which::read(cursor)?))
 }
 
 fn state_at(cursor: &mut Cursor) -> Result<Refusal, Unread>
-    ensures { Answers (refusals.refusal_arms why.State) cursor.old result cursor.new }
+    ensures reads { Answers (refusals.refusal_arms why.State) cursor.old result cursor.new }
+    ensures memory { IfErr result (λ e. e ≡ Unread.Unspelled) }
 {
     cursor.expect(b" ")?;
     Ok(Refusal::InvalidState(JobState::read(cursor)?))
 }
 
 fn resource_at(cursor: &mut Cursor) -> Result<Refusal, Unread>
-    ensures { Answers (refusals.refusal_arms why.Resource) cursor.old result cursor.new }
+    ensures reads { Answers (refusals.refusal_arms why.Resource) cursor.old result cursor.new }
+    ensures memory { IfErr result (λ e. e ≡ Unread.Unspelled) }
 {
     cursor.expect(b" ")?;
     Ok(Refusal::OutOfResource(Limit::read(cursor)?))
 }
 
 fn attribute_at(cursor: &mut Cursor) -> Result<Refusal, Unread>
-    ensures { Answers (refusals.refusal_arms why.Attribute) cursor.old result cursor.new }
+    ensures reads { Answers (refusals.refusal_arms why.Attribute) cursor.old result cursor.new }
+    ensures memory { IfErr result (λ e. e ≡ Unread.Unspelled) }
 {
     cursor.expect(b" ")?;
     Ok(Refusal::UnsupportedAttribute(Attribute::read(cursor)?))
@@ -103,7 +118,8 @@ fn attribute_at(cursor: &mut Cursor) -> Result<Refusal, Unread>
 
 /// What stands behind the number of a refusal.
 fn carried_at(word: RefusalWord, cursor: &mut Cursor) -> Result<Refusal, Unread>
-    ensures { Answers (refusals.refusal_arms word) cursor.old result cursor.new }
+    ensures reads { Answers (refusals.refusal_arms word) cursor.old result cursor.new }
+    ensures memory { IfErr result (λ e. e ≡ Unread.Unspelled) }
 {
     match word {
         RefusalWord::Denied => denied_at(cursor),
@@ -120,7 +136,8 @@ fn carried_at(word: RefusalWord, cursor: &mut Cursor) -> Result<Refusal, Unread>
 /// Reads a refusal by its number, and what it carries.
 #[tactic(auto, unfolding(crate::specs::Refusals::refusals, crate::specs::Refusals::refusal_sum, text_codec::specs::Sums::sum_of))]
 pub fn read_refusal(cursor: &mut Cursor) -> Result<Refusal, Unread>
-    ensures { Answers refusals.refusals.read cursor.old result cursor.new }
+    ensures reads { Answers refusals.refusals.read cursor.old result cursor.new }
+    ensures memory { IfErr result (λ e. e ≡ Unread.Unspelled) }
 {
     match refusal_word_of(cursor.word()) {
         Some(word) => carried_at(word, cursor),
@@ -149,7 +166,8 @@ fn push_limit(out: &mut Vec<u8>, limit: Limit) -> Result<(), AllocError>
     out.extend_from_slice(spell_limit(limit).as_bytes())
 }
 
-/// Prints a refusal. One that stands in no journal is printed by its number, and is read by nobody.
+/// Prints a refusal. One that no journal has is printed as its number alone, `2` or `8`, or as the journal's own limit, `7 journal`:
+/// it has no spelling that is read.
 pub fn push_refusal(out: &mut Vec<u8>, refusal: Refusal) -> Result<(), AllocError>
     ensures text { OnOk result (out.new.items ≡ out.old.items ++ (refusals.refusal_form refusal).text) }
     ensures valid { refusals.may_stand refusal ≡ true → OnOk result ((refusals.refusal_form refusal).valid) }
