@@ -5,12 +5,11 @@ use Rattle.std.specs.List.{AllByRecursion, list_any}
 use Rattle.std.specs.Option.{option_map, option_map_or, option_and_then}
 use Rattle.drmaa_types.specs.declared.identifiers.JobId.{JobId}
 use Rattle.drmaa_types.specs.declared.identifiers.ReservationId.{ReservationId}
-use Rattle.drmaa_types.specs.declared.infos.JobInfo.{JobInfo}
 use Rattle.drmaa_model.specs.declared.reservations.Accepted.{Accepted}
 use Rattle.drmaa_model.specs.declared.rows.Row.{Row}
 use Rattle.drmaa_model.specs.Fit.{IsFit, IsRising, number_of, reservation_number}
 use Rattle.drmaa_model.specs.FitLaws.{advance-fit}
-use Rattle.drmaa_model.specs.Infos.{info, home_name, default_queue}
+use Rattle.drmaa_model.specs.Infos.{info, home_name}
 use Rattle.drmaa_model.specs.Load.{reservation_of}
 use Rattle.drmaa_model.specs.Plan.{Plan}
 use Rattle.drmaa_model.specs.RowLaws.{rising-found, all-implied, all-both}
@@ -22,8 +21,8 @@ use Rattle.drmaa_model.specs.World.{World}
 use Rattle.scheduler_core.specs.declared.facts.RowFacts.{RowFacts}
 use Rattle.reservation_requests.specs.Reservations.{reservation_from}
 use Rattle.scheduler_core.specs.Facts.{row_facts, job_from}
-use Rattle.machine_readings.specs.Clocks.{clock_of}
 use Rattle.machine_readings.specs.Lookups.{any-one, any-found, any-one_both}
+use Rattle.machine_readings.specs.Told.{told_of, name_in}
 use Rattle.machine_readings.specs.Nexts.{AfterRow, AfterAccepted}
 use Rattle.machine_readings.specs.Walks.{from_on, first_on, on-none, on-next, first-map, first-all}
 
@@ -191,30 +190,28 @@ name-at at p job row found =
           sym (ap (λ (x : Row). x.template.job_name) (timed-only q.moment q.reservations r)) ∙ ap (λ (x : Row). x.template.job_name) same)
     ]) (sym (row_of-advance 0 at p job) ∙ found)
 
-abbrev told : RowFacts → Option (List ℕ) → Option (List ℕ) → List ℕ → Option ℕ → JobInfo
-told facts session name queue clock = record {
-  job = facts.job;
-  session = session;
-  name = name;
-  array = facts.array;
-  index = facts.index;
-  state = facts.state;
-  slots = facts.last_slots;
-  queue = queue;
-  wallclock = clock;
-  submitted = facts.submitted;
-  dispatched = facts.dispatched;
-  finished = facts.finished;
-  exit = facts.exit;
-  note = facts.note;
-}
+-- what is told of facts is the info of their row
+pub facts-info : (w : World) (row : Row) (facts : RowFacts) (name : Option (List ℕ)) (moment : ℕ) → facts ≡ row_facts row → name ≡ row.template.job_name → moment ≡ w.plan.moment
+    → told_of facts (home_name w.sessions facts.home) name moment ≡ info w row
+facts-info w row facts name moment is name_is moment_is =
+    ap (λ n. told_of facts (home_name w.sessions facts.home) n moment) name_is
+    ∙ ap (λ m. told_of facts (home_name w.sessions facts.home) row.template.job_name m) moment_is
+    ∙ ap (λ (f : RowFacts). told_of f (home_name w.sessions f.home) row.template.job_name w.plan.moment) is
 
-pub info-is : (w : World) (row : Row) (facts : RowFacts) (session name : Option (List ℕ)) (queue : List ℕ) (clock : Option ℕ) → facts ≡ row_facts row
-    → session ≡ home_name w.sessions facts.home → name ≡ row.template.job_name → queue ≡ default_queue → clock ≡ clock_of w.plan.moment facts.state facts.finished facts.dispatched
-    → told facts session name queue clock ≡ info w row
-info-is w row facts session name queue clock is session_is name_is queue_is clock_is =
-    ap (λ s. told facts s name queue clock) session_is
-    ∙ ap (λ n. told facts (home_name w.sessions facts.home) n queue clock) name_is
-    ∙ ap (λ q. told facts (home_name w.sessions facts.home) row.template.job_name q clock) queue_is
-    ∙ ap (λ k. told facts (home_name w.sessions facts.home) row.template.job_name default_queue k) clock_is
-    ∙ ap (λ (f : RowFacts). told f (home_name w.sessions f.home) row.template.job_name default_queue (clock_of w.plan.moment f.state f.finished f.dispatched)) is
+-- ---- as they are now
+
+pub row-now : (from : ℕ) (p : Plan) (job : JobId) (o : Option RowFacts) → IsFit p → p.next_job < 2 ^ 63 → Some job ≡ job_from from p
+    → o ≡ option_map row_facts (row_of job p.rows) → AfterRow p.rows from o
+row-now from p job o fit small is read =
+    let f = first-job from p job is in
+    let found : row_of f.row.job p.rows ≡ Some f.row = first-all number_of (λ (r : Row). row_of r.job p.rows ≡ Some r) from p.rows f.row (rising-found p.rows fit.jobs.rising) f.found in
+    let below : f.row.job.0 < p.next_job = first-all number_of (λ (r : Row). r.job.0 < p.next_job) from p.rows f.row fit.jobs.below f.found in
+    let read_is : o ≡ Some (row_facts f.row) = read ∙ ap (λ (j : JobId). option_map row_facts (row_of j p.rows)) (sym f.job_is) ∙ ap (option_map row_facts) found in
+    subst (AfterRow p.rows from) (sym read_is)
+    (record { row = f.row; facts_are = refl; found = found; split = on-next number_of from p.rows f.row fit.jobs.rising f.found; small = omega (arith, below, small) })
+
+pub none-now : (from : ℕ) (p : Plan) → None ≡ job_from from p → from_on number_of from p.rows ≡ []
+none-now from p is = on-none number_of from p.rows (no-job from p is)
+
+pub name-now : (job : JobId) (rows : List Row) (row : Row) → row_of job rows ≡ Some row → name_in job rows ≡ row.template.job_name
+name-now job rows row found = ap (option_and_then (λ (r : Row). r.template.job_name)) found

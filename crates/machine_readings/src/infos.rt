@@ -1,6 +1,6 @@
 //! What is told of a job once time has come to a moment, and which jobs a filter lets through.
 ghost use Rattle.std.specs.Prelude.{◌≡◌, false, max, Some, IfOk};
-ghost use Rattle.std.specs.Option.{option_map, option_map_or, option_and_then};
+ghost use Rattle.std.specs.Option.{option_map, option_map_or};
 ghost use Rattle.drmaa_types.specs.Filters.{matches};
 ghost use Rattle.drmaa_model.specs.declared.rows.Row.{Row};
 ghost use Rattle.drmaa_model.specs.Infos.{default_queue, home_name, info, machine_info};
@@ -8,6 +8,7 @@ ghost use Rattle.drmaa_model.specs.Rows.{row_of};
 ghost use Rattle.drmaa_model.specs.Time.{rows_at};
 ghost use Rattle.scheduler_core.specs.Facts.{row_facts};
 ghost use Rattle.machine_readings.specs.Clocks.{clock_of};
+ghost use Rattle.machine_readings.specs.Told.{told_of, name_in};
 ghost use Rattle.machine_readings.specs.Stores.{IsKept, world_at};
 
 use crate::store::Store;
@@ -33,6 +34,13 @@ impl Store {
         ensures { IfOk result (λ i. (row : Row) → row_of facts.now.job (rows_at at self.now.core.plan) ≡ Some row → facts.now ≡ row_facts row
             → i ≡ info (world_at at self.now) row) }
     {
+        self.told_at(self.moment_at(at), facts)
+    }
+
+    /// What is told of a kept job at a moment, by its facts.
+    pub fn told_at(&self, moment: Moment, facts: &RowFacts) -> Result<JobInfo, AllocError>
+        ensures { IfOk result (λ i. i ≡ told_of facts.now (home_name self.now.sessions facts.now.home) (name_in facts.now.job self.now.core.plan.rows) moment) }
+    {
         let session = self.home_name(facts.home)?;
         let name = self.job_name(facts.job)?;
         let queue = default_queue(self.alloc)?;
@@ -45,7 +53,7 @@ impl Store {
             state: facts.state,
             slots: facts.last_slots,
             queue,
-            wallclock: wallclock(self.moment_at(at), facts),
+            wallclock: wallclock(moment, facts),
             submitted: facts.submitted,
             dispatched: facts.dispatched,
             finished: facts.finished,
@@ -80,7 +88,7 @@ impl Store {
     }
 
     fn job_name(&self, job: JobId) -> Result<Option<Text>, AllocError>
-        ensures { IfOk result (λ name. name ≡ option_and_then (λ (row : Row). row.template.job_name) (row_of job self.now.core.plan.rows)) }
+        ensures { IfOk result (λ name. name ≡ name_in job self.now.core.plan.rows) }
     {
         match self.core.job_name(job) {
             Some(name) => Ok(Some(name.clone()?)),

@@ -5,6 +5,7 @@
 mod homes;
 mod infos;
 mod listings;
+mod present;
 mod replies;
 mod reservations;
 mod rows;

@@ -388,6 +388,13 @@ impl Core {
         facts::row_facts(&self.book, at, job)
     }
 
+    /// What is known of a job as it is now, before time comes to a later moment. None exactly where it is not kept.
+    pub fn present_row(&self, job: JobId) -> Option<RowFacts>
+        ensures { result ≡ option_map row_facts (row_of job self.now.plan.rows) }
+    {
+        facts::present_facts(&self.book, job)
+    }
+
     /// The number of the first job in the list of kept jobs, which stand in order of number, that is this one or above it.
     pub fn next_row(&self, from: JobId) -> Option<JobId>
         ensures { result ≡ job_from from.0 self.now.plan }

@@ -91,6 +91,17 @@ pub fn row_facts(book: &Book, at: Moment, job: JobId) -> Option<RowFacts>
     }
 }
 
+/// What is told of a job, as it is now.
+pub fn present_facts(book: &Book, job: JobId) -> Option<RowFacts>
+    requires kept { IsKept book.now }
+    ensures { result ≡ option_map row_facts (row_of job (plan_of book.now).rows) }
+{
+    match book.row(job) {
+        Some(row) => Some(facts_with(row, &row.course)),
+        None => None,
+    }
+}
+
 /// The first kept job whose number is this one or above it.
 pub fn job_from(book: &Book, number: u64) -> Option<JobId>
     ensures { result ≡ job_from number (plan_of book.now) }
