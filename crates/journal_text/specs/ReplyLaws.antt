@@ -1,8 +1,8 @@
 -- The laws of replies: two lines for each.
-use Rattle.std.proofs.Common.{◌^◌, [], ◌∷◌, lit≤, refl, arith}
+use Rattle.std.proofs.Common.{◌≡◌, ◌^◌, [], ◌∷◌, Some, lit≤, refl, arith}
 use Rattle.drmaa_model.specs.declared.replies.Reply.{Reply}
 use Rattle.drmaa_model.specs.declared.replies.Reply.TheVariants as reply
-use Rattle.text_codec.specs.Formats.{IsFormat, Avoids, number, moment, mapped}
+use Rattle.text_codec.specs.Formats.{IsFormat, Avoids, first_spelled, number, moment, mapped}
 use Rattle.text_codec.specs.Fields.{in_braces}
 use Rattle.text_codec.specs.FormatLaws.{pair_laws, mapped_laws}
 use Rattle.text_codec.specs.FieldLaws.{list_laws}
@@ -22,6 +22,28 @@ use Rattle.journal_text.specs.declared.reply_words.ReplyWord.{ReplyWord}
 use Rattle.journal_text.specs.declared.reply_words.ReplyWord.TheVariants as told
 use Rattle.journal_text.specs.declared.reply_words.TheConstants.{REPLY_WORDS}
 use Rattle.journal_text.specs.Replies.{reply_word, ids, texts, infos, reservation_infos, members, reserved, machine, launch, signal, reply_form, reply_arms, reply_sum, replies}
+
+-- each word of a reply stands in the table, and is no other's
+pub reply_word_stands : (x : ReplyWord) → first_spelled reply_word REPLY_WORDS (reply_word x) ≡ Some x
+reply_word_stands told.Ok = refl
+reply_word_stands told.Session = refl
+reply_word_stands told.Names = refl
+reply_word_stands told.Job = refl
+reply_word_stands told.Array = refl
+reply_word_stands told.Jobs = refl
+reply_word_stands told.State = refl
+reply_word_stands told.Info = refl
+reply_word_stands told.Reached = refl
+reply_word_stands told.Reserved = refl
+reply_word_stands told.Reservation = refl
+reply_word_stands told.Reservations = refl
+reply_word_stands told.Infos = refl
+reply_word_stands told.ReservationInfos = refl
+reply_word_stands told.Machine = refl
+reply_word_stands told.Callback = refl
+reply_word_stands told.Launch = refl
+reply_word_stands told.Signal = refl
+reply_word_stands told.Refused = refl
 
 pub ids_laws : IsFormat ids
 unfolding ids

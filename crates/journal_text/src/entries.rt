@@ -1,5 +1,6 @@
 //! The lines of entries, and the last line.
-ghost use Rattle.std.specs.Prelude.{◌≡◌, ◌∷◌, [], ◌++◌, ◌^◌, ◌<◌, true, map, OnOk};
+ghost use Rattle.std.specs.Prelude.{◌≡◌, ◌∷◌, [], ◌++◌, ◌^◌, ◌<◌, true, map, IfErr, OnOk};
+ghost use Rattle.text_codec.specs.declared.unread.Unread.{Unread};
 ghost use Rattle.std.specs.List.{AllByRecursion};
 ghost use Rattle.drmaa_model.specs.KeptCalls.{kept};
 ghost use Rattle.text_codec.specs.Formats.{Answers, Says, number, read_line};
@@ -72,7 +73,8 @@ pub(crate) fn entry_of(alloc: Global, line: &[u8]) -> Result<(u64, Entry), Unrea
 
 /// The number that stands alone in what is left of a line.
 pub(crate) fn count_of(cursor: &mut Cursor) -> Result<u64, Unread>
-    ensures { Says (read_line (number (2 ^ 64)) cursor.old) result }
+    ensures says { Says (read_line (number (2 ^ 64)) cursor.old) result }
+    ensures memory { IfErr result (λ e. e ≡ Unread.Unspelled) }
 {
     let count = cursor.u64()?;
     cursor.end()?;

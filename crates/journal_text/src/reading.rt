@@ -1,6 +1,7 @@
 //! Reads a journal, line by line.
-ghost use Rattle.std.specs.Prelude.{◌≡◌, ◌≤◌, ◌⊎◌, ℕ, length, IfOk, Ok, Err};
-ghost use Rattle.text_codec.specs.Formats.{Says};
+ghost use Rattle.std.specs.Prelude.{◌≡◌, ◌≤◌, ◌⊎◌, ℕ, length, IfOk, IfErr, IsSome, Ok, Err, codes};
+ghost use Rattle.text_codec.specs.Formats.{Says, strip};
+ghost use Rattle.text_codec.specs.declared.unread.Unread.{Unread};
 ghost use Rattle.text_lines.specs.Lines.{IsFirstBad};
 ghost use Rattle.text_lines.specs.declared.reading.TextFault.{TextFault};
 ghost use Rattle.journal_text.specs.Journals.{IsWritable, Spells, byte_limit, journal_text};
@@ -35,7 +36,8 @@ pub enum JournalReader {
 
 /// What is read with the last line, which says so many entries.
 fn closed(config: Config, entries: EntryList, count: u64) -> Result<JournalReader, Unread>
-    ensures { Says (lines.closed config entries count) result }
+    ensures says { Says (lines.closed config entries count) result }
+    ensures memory { IfErr result (λ e. e ≡ Unread.Unspelled) }
 {
     if count == entries.as_slice().len() as u64 {
         Ok(JournalReader::Ended(Journal { config, entries }))
@@ -72,7 +74,8 @@ fn after_going(
     entries: EntryList,
     line: &[u8],
 ) -> Result<JournalReader, Unread>
-    ensures { Says (lines.next (JournalReader.Going config entries) line.now) result }
+    ensures says { Says (lines.next (JournalReader.Going config entries) line.now) result }
+    ensures last { IsSome (strip (codes "end ") line.now) → IfErr result (λ e. e ≡ Unread.Unspelled) }
 {
     let mut cursor = Cursor::new(alloc, line);
     if cursor.skip(b"end ") {
@@ -89,7 +92,10 @@ impl LineReader for JournalReader {
 
     ghost reads = { laws.reads_from };
 
-    fn next(self, alloc: Global, line: &[u8]) -> Result<JournalReader, Unread> {
+    fn next(self, alloc: Global, line: &[u8]) -> Result<JournalReader, Unread>
+        ensures says { Says (lines.next self line.now) result }
+        ensures ended { (journal : Journal) → self ≡ JournalReader.Ended journal → result ≡ Err Unread.Unspelled }
+    {
         match self {
             JournalReader::Start => {
                 let config = header_of(alloc, line)?;
@@ -112,8 +118,8 @@ impl LineReader for JournalReader {
 /// The journal that these bytes spell, all of them.
 ///
 /// # Errors
-/// `Line` exactly where they spell none, or are more than 268,435,456 bytes, with the number of the first line after which
-/// no journal goes on.
+/// `Line` where they spell none, or are more than 268,435,456 bytes, with the number of the first line after which no journal
+/// goes on. `OutOfMemory` where memory ran out, which may be before a bad line was seen.
 pub fn read_journal(alloc: Global, bytes: &[u8]) -> Result<Journal, TextFault>
     ensures writable { IfOk result (λ j. IsWritable j.config j.entries) }
     ensures found { IfOk result (λ j. bytes.now ≡ journal_text j.config j.entries) }

@@ -79,7 +79,8 @@ fn push_refused(out: &mut Vec<u8>, refusal: Refusal) -> Result<(), AllocError>
     push_refusal(out, refusal)
 }
 
-/// Prints a reply. A refusal that no journal may have is printed by its number, and is read by nobody.
+/// Prints a reply. A refusal that no journal has is printed as `refused` with its number alone, or with the journal's own limit
+/// (`refused 2`, `refused 8`, `refused 7 journal`): it has no spelling that is read.
 #[tactic(auto, unfolding(crate::specs::Replies::ids, crate::specs::Replies::texts, crate::specs::Replies::infos, crate::specs::Replies::reservation_infos, crate::specs::Replies::members))]
 pub fn push_reply(out: &mut Vec<u8>, reply: &Reply) -> Result<(), AllocError>
     ensures text { OnOk result (out.new.items ≡ out.old.items ++ (reply_form reply.now).text) }

@@ -1,5 +1,6 @@
 //! The words of replies.
-ghost use Rattle.std.specs.Prelude.{◌≡◌};
+ghost use Rattle.std.specs.Prelude.{◌≡◌, Some};
+ghost use Rattle.journal_text.specs.declared.reply_words.ReplyWord.{ReplyWord};
 ghost use Rattle.text_codec.specs.Formats.{first_spelled};
 ghost use Rattle.journal_text.specs.Replies as replies;
 
@@ -77,12 +78,20 @@ pub fn spell_reply_word(word: ReplyWord) -> &'static str
     }
 }
 
-/// The reply whose word is spelled so.
-pub fn reply_word_of(word: &[u8]) -> Option<ReplyWord>
+/// The first reply of the table that is spelled so.
+fn first_reply_word(word: &[u8]) -> Option<ReplyWord>
     ensures { result ≡ first_spelled replies.reply_word REPLY_WORDS word.now }
 {
     REPLY_WORDS
         .iter()
         .copied()
         .find(|reply| spell_reply_word(*reply).as_bytes() == word)
+}
+
+/// The reply whose word is spelled so. Each reply has a word, and no two share one.
+pub fn reply_word_of(word: &[u8]) -> Option<ReplyWord>
+    ensures first { result ≡ first_spelled replies.reply_word REPLY_WORDS word.now }
+    ensures only { (reply : ReplyWord) → word.now ≡ replies.reply_word reply → result ≡ Some reply }
+{
+    first_reply_word(word)
 }
