@@ -135,7 +135,7 @@ entries_are_clean n (e ∷ es) few each =
     let rest : n + 1 + length es ≤ 2 ^ 64 = omega (arith, few) in
     (entry_laws.clean (n, e) (entry_valid n e small each.0), entries_are_clean (n + 1) es rest each.1)
 
-both_clean : (ls ms : List (List ℕ)) → AllByRecursion IsClean ls → AllByRecursion IsClean ms → AllByRecursion IsClean (ls ++ ms)
+pub both_clean : (ls ms : List (List ℕ)) → AllByRecursion IsClean ls → AllByRecursion IsClean ms → AllByRecursion IsClean (ls ++ ms)
 both_clean [] ms a b = b
 both_clean (l ∷ ls) ms a b = (a.0, both_clean ls ms a.1 b)
 
@@ -143,7 +143,7 @@ are_lines : (ls : List (List ℕ)) → AllByRecursion IsClean ls → AreLines ls
 are_lines [] h = tt
 are_lines (l ∷ ls) h = (h.0.one_line, are_lines ls h.1)
 
-closing_is_clean : (n : ℕ) → n < 2 ^ 64 → AllByRecursion IsClean (closing.spell n ∷ [])
+pub closing_is_clean : (n : ℕ) → n < 2 ^ 64 → AllByRecursion IsClean (closing.spell n ∷ [])
 closing_is_clean n h = (closing_laws.clean n (closing_is n h), tt)
 
 journal_is_clean : (c : Config) (es : List Entry) → IsWritable c es → AllByRecursion IsClean (journal_lines c es)

@@ -8,3 +8,4 @@ pub mod Reading
 pub mod JournalLaws
 pub mod Printing
 pub mod PrintLaws
+pub mod TextLaws

@@ -20,7 +20,7 @@ mod titles;
 
 pub use call_printing::push_call;
 pub use calls::read_call;
-pub use journals::{Journal, print_journal};
+pub use journals::{Journal, journal_bytes, print_journal};
 pub use laws::{a_journal_is_utf8, a_writable_journal_keeps_its_calls, one_bad_line, one_journal};
 pub use reading::{BYTE_LIMIT, JournalReader, read_journal};
 pub use replies::read_reply;

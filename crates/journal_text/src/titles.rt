@@ -1,6 +1,7 @@
 //! The first line of a journal: the machine.
 ghost use Rattle.std.specs.Prelude.{◌≡◌, ◌∷◌, [], ◌++◌, ◌^◌, true, OnOk};
 ghost use Rattle.text_codec.specs.Formats.{Answers, Says, first_spelled, number, pair, read_line};
+ghost use Rattle.text_codec.specs.Lexical.{IsClean};
 ghost use Rattle.text_codec.specs.Quotes.{text};
 ghost use Rattle.journal_text.specs.Journals as journals;
 
@@ -121,6 +122,7 @@ fn push_machine(out: &mut Vec<u8>, config: &Config) -> Result<(), AllocError>
 fn push_title(out: &mut Vec<u8>, config: &Config) -> Result<(), AllocError>
     ensures text { OnOk result (out.new.items ≡ out.old.items ++ journals.title.spell (journals.machine_of config.now)) }
     ensures valid { journals.is_machine (journals.machine_of config.now) ≡ true → OnOk result (journals.title.valid (journals.machine_of config.now)) }
+    ensures clean { OnOk result (IsClean (journals.title.spell (journals.machine_of config.now))) }
 {
     out.extend_from_slice(b"drmaa-journal 1 ")?;
     push_machine(out, config)
@@ -131,6 +133,7 @@ fn push_title(out: &mut Vec<u8>, config: &Config) -> Result<(), AllocError>
 pub(crate) fn push_header(out: &mut Vec<u8>, config: &Config) -> Result<(), AllocError>
     ensures text { OnOk result (out.new.items ≡ out.old.items ++ (journals.header.spell config.now ++ 10 ∷ [])) }
     ensures valid { journals.is_machine (journals.machine_of config.now) ≡ true → OnOk result (journals.title.valid (journals.machine_of config.now)) }
+    ensures clean { OnOk result (IsClean (journals.header.spell config.now)) }
 {
     push_title(out, config)?;
     out.extend_from_slice(b"\n")

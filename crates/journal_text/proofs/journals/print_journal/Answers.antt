@@ -1,21 +1,8 @@
-use Rattle.std.proofs.Common.{◌≡◌, ◌∷◌, [], ◌++◌, map, ap, ◌∙◌}
-use Rattle.journal_text.specs.Journals.{header, journal_text, kept_entry}
-use Rattle.journal_text.specs.PrintLaws.{printed_is, same_entries, entries_kept, is_writable}
+use Rattle.std.proofs.Common.{sym, subst, IsUtf8}
 use Rattle.journal_text.proofs.journals.print_journal.Goals as goal
 
-printed : (c : goal.After-from_vec) → c.from_vec.result ≡ journal_text c.args.config.now (map kept_entry c.args.entries.now)
-printed c =
-    let first = c.in_ok-push_header.ensures.text ∙ ap (λ t. t ++ (header.spell c.args.config.now ++ 10 ∷ [])) c.new-out.ensures.items in
-    printed_is c.args.config.now c.args.entries.now c.push_header.new.out.items c.push_lines.new.out.items c.from_vec.result first c.in_ok-push_lines.ensures.text (c.from_vec.ensures ∙ c.in_ok-push_closing.ensures.text)
-
-pub returns-clause-text : goal.returns-clause-text
-returns-clause-text c = printed c
-
-pub returns-clause-kept : goal.returns-clause-kept
-returns-clause-kept c = λ k. printed c ∙ ap (λ es. journal_text c.args.config.now es) (same_entries c.args.entries.now k)
-
-pub returns-clause-written : goal.returns-clause-written
-returns-clause-written c = λ w. returns-clause-kept c (entries_kept c.args.entries.now w.each)
-
-pub returns-clause-writable : goal.returns-clause-writable
-returns-clause-writable c = λ p. is_writable c.args.config.now c.args.entries.now p c.in_ok-push_header.ensures.valid c.in_ok-push_lines.ensures.ranged c.in_ok-push_closing.ensures.small
+pub unreachable-requires : goal.unreachable-requires
+unreachable-requires c =
+    let bytes = subst IsUtf8 (sym c.into_vec.ensures) c.in-Ok.ensures.utf8 in
+    let contradiction = c.in_default-from_utf8.ensures.succeeds bytes in
+    cc
