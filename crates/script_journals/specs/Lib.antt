@@ -1,0 +1,3 @@
+pub mod AnsweredLaws
+pub mod AskedLaws
+pub mod PlayedLaws

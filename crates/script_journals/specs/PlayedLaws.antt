@@ -1,0 +1,232 @@
+-- The journal of a script's play may be printed, and read again.
+use Rattle.std.proofs.Common.{◌≡◌, ℕ, ◌+◌, Bool, true, false, cond, nat_le, List, [], ◌∷◌, ◌++◌, length, map, codes, Option, Some, None, refl, sym, ap, subst, ◌∙◌}
+use Rattle.std.specs.List.{AllByRecursion}
+use Rattle.drmaa_types.specs.declared.identifiers.CallerId.{CallerId}
+use Rattle.job_template.specs.declared.templates.JobTemplate.{JobTemplate}
+use Rattle.job_template.specs.declared.templates.ResourceLimit.{ResourceLimit}
+use Rattle.drmaa_model.specs.declared.calls.Call.{Call}
+use Rattle.drmaa_model.specs.declared.calls.Call.TheVariants as call
+use Rattle.drmaa_model.specs.declared.configs.Config.{Config}
+use Rattle.drmaa_model.specs.declared.replies.Reply.{Reply}
+use Rattle.drmaa_model.specs.Effects.{StepAnswer, gives, nothing, not_yet}
+use Rattle.drmaa_model.specs.KeptCalls.{kept, kept_template, kept_limit, is_word}
+use Rattle.drmaa_model.specs.RowLaws.{all-push}
+use Rattle.drmaa_model.specs.Size.{size}
+use Rattle.drmaa_model.specs.Steps.{answer}
+use Rattle.drmaa_model.specs.World.{World}
+use Rattle.text_codec.specs.Formats.{choose, checked}
+use Rattle.journal_text.specs.Calls.{has_others}
+use Rattle.journal_text.specs.Journals.{is_machine, machine_of}
+use Rattle.journal_text.specs.Printing.{MayStand, IsPrintable}
+use Rattle.script_lines.specs.declared.lines.Line.{Line}
+use Rattle.script_text.specs.declared.scripts.Mode.{Mode}
+use Rattle.script_text.specs.declared.scripts.Script.{Script}
+use Rattle.script_text.specs.Follows.{lines_of}
+use Rattle.script_text.specs.Header.{header, config_of}
+use Rattle.script_text.specs.Scripts.{Part, After, Makes, begun, Spells}
+use Rattle.script_text.specs.Scripts.Part.{Job, Reservation, Lines}
+use Rattle.script_asks.specs.declared.given.Given.{Given}
+use Rattle.script_asks.specs.Plays.{Playing, Crew, Turn, crew_of, turn_of, entered, after_answer, after_look, come_later, second_look, asks_now, play_turn, play_line, play_lines, play_clients, opening, after_setup, serial_play}
+use Rattle.script_asks.specs.Plays.Turn.{sets, waits, a_client, the_launcher, the_reaper}
+use Rattle.script_asks.specs.Replies.{names_after, last_attempt}
+use Rattle.script_journals.specs.AnsweredLaws.{answer-stands}
+use Rattle.script_journals.specs.AskedLaws.{HasOthers, Holds, makes-others, asks-holds}
+
+-- ---- what is kept of a call
+
+limit-kept : (l : ResourceLimit) → kept_limit (kept_limit l) ≡ kept_limit l
+limit-kept l =
+    (elim (is_word l.name) as (λ b. is_word l.name ≡ b → kept_limit (cond b l (record l { name = codes "OTHER" })) ≡ cond b l (record l { name = codes "OTHER" })) [
+      | true ↦ λ e. ap (λ b. cond b l (record l { name = codes "OTHER" })) e
+      | false ↦ λ e. refl
+    ]) refl
+
+limits-kept : (ls : List ResourceLimit) → map kept_limit (map kept_limit ls) ≡ map kept_limit ls
+limits-kept [] = refl
+limits-kept (l ∷ ls) = ap (λ x. x ∷ map kept_limit (map kept_limit ls)) (limit-kept l) ∙ ap (λ xs. kept_limit l ∷ xs) (limits-kept ls)
+
+template-kept : (t : JobTemplate) → kept_template (kept_template t) ≡ kept_template t
+template-kept t = ap (λ ls. record t { resource_limits = ls }) (limits-kept t.resource_limits)
+
+kept-twice : (c : Call) → kept (kept c) ≡ kept c
+kept-twice (call.CreateJobSession name) = refl
+kept-twice (call.CreateReservationSession name) = refl
+kept-twice (call.OpenJobSession name) = refl
+kept-twice (call.OpenReservationSession name) = refl
+kept-twice (call.DestroyJobSession name) = refl
+kept-twice (call.DestroyReservationSession name) = refl
+kept-twice call.JobSessionNames = refl
+kept-twice call.ReservationSessionNames = refl
+kept-twice call.OpenMonitoring = refl
+kept-twice (call.CloseSession session) = refl
+kept-twice (call.RunJob session t) = ap (call.RunJob session) (template-kept t)
+kept-twice (call.RunBulk session t indices) = ap (λ u. call.RunBulk session u indices) (template-kept t)
+kept-twice (call.GetJobs session f) = refl
+kept-twice (call.GetJobArray session array) = refl
+kept-twice (call.Control session meant what) = refl
+kept-twice (call.Reap session meant) = refl
+kept-twice (call.GetState session job) = refl
+kept-twice (call.GetInfo session job) = refl
+kept-twice (call.Wait session listed kind begins timeout) = refl
+kept-twice (call.RequestReservation session t) = refl
+kept-twice (call.GetReservation session number) = refl
+kept-twice (call.GetReservations session) = refl
+kept-twice (call.EndReservation session number) = refl
+kept-twice (call.AllJobs session f) = refl
+kept-twice (call.AllReservations session) = refl
+kept-twice (call.AllQueues session) = refl
+kept-twice (call.AllMachines session) = refl
+kept-twice call.Register = refl
+kept-twice call.TakeLaunch = refl
+kept-twice (call.Started job attempt) = refl
+kept-twice (call.StartFailed job attempt) = refl
+kept-twice (call.Exited job attempt exit) = refl
+kept-twice (call.ExitUnknown job attempt) = refl
+kept-twice call.TakeSignal = refl
+kept-twice (call.SignalDone job attempt kind) = refl
+kept-twice (call.SignalFailed job attempt kind) = refl
+
+kept-others : (c : Call) → has_others (kept c) ≡ has_others c
+kept-others (call.CreateJobSession name) = refl
+kept-others (call.CreateReservationSession name) = refl
+kept-others (call.OpenJobSession name) = refl
+kept-others (call.OpenReservationSession name) = refl
+kept-others (call.DestroyJobSession name) = refl
+kept-others (call.DestroyReservationSession name) = refl
+kept-others call.JobSessionNames = refl
+kept-others call.ReservationSessionNames = refl
+kept-others call.OpenMonitoring = refl
+kept-others (call.CloseSession session) = refl
+kept-others (call.RunJob session t) = refl
+kept-others (call.RunBulk session t indices) = refl
+kept-others (call.GetJobs session f) = refl
+kept-others (call.GetJobArray session array) = refl
+kept-others (call.Control session meant what) = refl
+kept-others (call.Reap session meant) = refl
+kept-others (call.GetState session job) = refl
+kept-others (call.GetInfo session job) = refl
+kept-others (call.Wait session listed kind begins timeout) = refl
+kept-others (call.RequestReservation session t) = refl
+kept-others (call.GetReservation session number) = refl
+kept-others (call.GetReservations session) = refl
+kept-others (call.EndReservation session number) = refl
+kept-others (call.AllJobs session f) = refl
+kept-others (call.AllReservations session) = refl
+kept-others (call.AllQueues session) = refl
+kept-others (call.AllMachines session) = refl
+kept-others call.Register = refl
+kept-others call.TakeLaunch = refl
+kept-others (call.Started job attempt) = refl
+kept-others (call.StartFailed job attempt) = refl
+kept-others (call.Exited job attempt exit) = refl
+kept-others (call.ExitUnknown job attempt) = refl
+kept-others call.TakeSignal = refl
+kept-others (call.SignalDone job attempt kind) = refl
+kept-others (call.SignalFailed job attempt kind) = refl
+
+-- ---- the play
+
+AllStand : Playing → Type 0
+AllStand p = AllByRecursion MayStand p.entries
+
+entered-stands : (p : Playing) (caller : CallerId) (l : Line) (c : Call) (r : Reply) (next : World) → has_others c ≡ true → AllStand p → answer p.world p.moment (kept c) ≡ gives r next → AllStand (entered p caller l c r next)
+unfolding AllStand
+entered-stands p caller l c r next has all is =
+    elim (nat_le (size next) p.world.config.journal) as (λ b. AllStand (cond b (record p {
+      world = next;
+      names = names_after l r p.names;
+      entries = p.entries ++ record { caller = caller; at = p.moment; call = kept c; reply = r } ∷ [];
+    }) (record p { full = Some (size next) }))) [
+      | true ↦ all-push MayStand p.entries (record { caller = caller; at = p.moment; call = kept c; reply = r }) all (record {
+        call = kept-twice c;
+        others = kept-others c ∙ has;
+        reply = answer-stands p.world p.moment (kept c) r next is;
+      })
+      | false ↦ all
+    ]
+
+answered-stands : (p : Playing) (caller : CallerId) (l : Line) (c : Call) (a : StepAnswer) (second : Playing) → has_others c ≡ true → AllStand p → AllStand second → answer p.world p.moment (kept c) ≡ a → AllStand (after_answer p caller l c a second)
+answered-stands p caller l c (gives r next) second has all then is = entered-stands p caller l c r next has all is
+answered-stands p caller l c nothing second has all then is = all
+answered-stands p caller l c not_yet second has all then is = then
+
+look-stands : (p : Playing) (caller : CallerId) (l : Line) (c : Call) (second : Playing) → has_others c ≡ true → AllStand p → AllStand second → AllStand (after_look p caller l c second)
+look-stands p caller l c second has all then = answered-stands p caller l c (answer p.world p.moment (kept c)) second has all then refl
+
+later-stands : (p : Playing) (timeout : ℕ) → AllStand p → AllStand (come_later p timeout)
+unfolding AllStand
+later-stands p timeout all = all
+
+second-stands : (q : Playing) (caller : CallerId) (l : Line) (c : Call) → has_others c ≡ true → AllStand q → AllStand (second_look q caller l c)
+second-stands q caller l c has all = look-stands q caller l c q has all all
+
+chosen-stands : (p : Playing) (o : Option Call) (f : Call → Playing) → Holds o → AllStand p → ((c : Call) → has_others c ≡ true → AllStand (f c)) → AllStand (choose o f p)
+unfolding Holds
+chosen-stands p None f holds all each = all
+chosen-stands p (Some c) f holds all each = each c holds
+
+asks_now-holds : (s : Script) (p : Playing) (l : Line) → HasOthers s → Holds (asks_now s p l)
+asks_now-holds s p l has = asks-holds s p.names (λ job. last_attempt job (map (λ e. e.reply) p.entries)) p.moment l has
+
+turn-stands : (s : Script) (crew : Crew) (p : Playing) (l : Line) (t : Turn) → HasOthers s → AllStand p → AllStand (play_turn s crew p l t)
+unfolding AllStand
+turn-stands s crew p l (sets m) has all = all
+turn-stands s crew p l (waits timeout) has all =
+    chosen-stands p (asks_now s p l) (λ c. after_look p crew.client l c (second_look (come_later p timeout) crew.client l c)) (asks_now-holds s p l has) all (λ c holds.
+    look-stands p crew.client l c (second_look (come_later p timeout) crew.client l c) holds all (second-stands (come_later p timeout) crew.client l c holds (later-stands p timeout all)))
+turn-stands s crew p l a_client has all = chosen-stands p (asks_now s p l) (λ c. after_look p crew.client l c p) (asks_now-holds s p l has) all (λ c holds. look-stands p crew.client l c p holds all all)
+turn-stands s crew p l the_launcher has all = chosen-stands p (asks_now s p l) (λ c. after_look p crew.launcher l c p) (asks_now-holds s p l has) all (λ c holds. look-stands p crew.launcher l c p holds all all)
+turn-stands s crew p l the_reaper has all = chosen-stands p (asks_now s p l) (λ c. after_look p crew.reaper l c p) (asks_now-holds s p l has) all (λ c holds. look-stands p crew.reaper l c p holds all all)
+
+line-stands : (s : Script) (crew : Crew) (p : Playing) (l : Line) → HasOthers s → AllStand p → AllStand (play_line s crew p l)
+line-stands s crew p l has all =
+    elim p.full as (λ o. AllStand (choose o (λ (n : ℕ). p) (play_turn s crew p l (turn_of l)))) [
+      | None ↦ turn-stands s crew p l (turn_of l) has all
+      | Some n ↦ all
+    ]
+
+lines-stand : (s : Script) (crew : Crew) (p : Playing) (ls : List Line) → HasOthers s → AllStand p → AllStand (play_lines s crew p ls)
+lines-stand s crew p [] has all = all
+lines-stand s crew p (l ∷ ls) has all = lines-stand s crew (play_line s crew p l) ls has (line-stands s crew p l has all)
+
+clients-stand : (s : Script) (names : List (List ℕ × Given)) (number : ℕ) (p : Playing) (bs : List (List Line)) → HasOthers s → AllStand p → AllStand (play_clients s names number p bs)
+unfolding AllStand
+clients-stand s names number p [] has all = all
+clients-stand s names number p (b ∷ bs) has all =
+    clients-stand s names (number + 1) (play_lines s (crew_of (length s.clients) number) (record p { names = names }) b) bs has
+    (lines-stand s (crew_of (length s.clients) number) (record p { names = names }) b has all)
+
+play-stands : (s : Script) → HasOthers s → AllByRecursion MayStand (serial_play s).entries
+unfolding AllStand
+play-stands s has =
+    clients-stand s (after_setup s).names 1 (after_setup s) s.clients has
+    (lines-stand s (crew_of (length s.clients) 0) (opening s) (lines_of s.setup) has tt)
+
+-- ---- the machine of a script
+
+after-config : (m : Mode) (s : Script) (p : Part) (t : Script) → After m s p t → t.config ≡ s.config
+after-config m s (Job n fs) t (d, is, early, new, named, valid, same) = ap (λ (x : Script). x.config) same
+after-config m s (Reservation n fs) t (r, is, early, new, named, valid, same) = ap (λ (x : Script). x.config) same
+after-config m s (Lines true ls) t (open_, follow, same) = ap (λ (x : Script). x.config) same
+after-config m s (Lines false ls) t (open_, follow, same) = ap (λ (x : Script). x.config) same
+
+makes-config : (m : Mode) (s : Script) (ps : List Part) (t : Script) → Makes m s ps t → t.config ≡ s.config
+makes-config m s [] t is = ap (λ (x : Script). x.config) (sym is)
+makes-config m s (p ∷ ps) t (u, first, rest) = makes-config m u ps t rest ∙ after-config m s p u first
+
+machine-stands : (m : ℕ × (List ℕ × Bool)) → header.valid m → is_machine (machine_of (config_of m)) ≡ true
+unfolding header checked
+machine-stands m valid = valid.1
+
+no-templates : (m : ℕ × (List ℕ × Bool)) → HasOthers (begun m)
+no-templates m = record { jobs = tt; reservations = tt }
+
+-- The journal of the play of a script that lines spell may be printed, and read again.
+pub play-printable : (mode : Mode) (lines : List (List ℕ)) (s : Script) → Spells mode lines s → IsPrintable s.config (serial_play s).entries
+play-printable mode lines s is =
+    let same : s.config ≡ config_of is.machine = makes-config mode (begun is.machine) is.parts s is.makes in
+    record {
+      machine = subst (λ (c : Config). is_machine (machine_of c) ≡ true) (sym same) (machine-stands is.machine is.valid);
+      size = ap (λ (c : Config). c.journal) same;
+      entries = play-stands s (makes-others mode (begun is.machine) is.parts s is.makes (no-templates is.machine));
+    }
