@@ -1,3 +1,4 @@
+//! Sources and sinks in memory with faults, their adapters, reading and writing whole.
 use byte_streams::{
     Input, MemorySink, MemorySource, ReadError, Sink, Source, StdSink, StdSource, read_all,
     write_all,
@@ -15,6 +16,16 @@ fn numbers(alloc: Global, count: usize) -> Result<Vec<u8>, Fail> {
         bytes.push((i % 251) as u8)?;
     }
     Ok(bytes)
+}
+
+/// Whether these are so many of those bytes.
+fn are_numbers(bytes: &[u8], count: usize) -> bool {
+    for (place, byte) in bytes.iter().enumerate() {
+        if usize::from(*byte) != place % 251 {
+            return false;
+        }
+    }
+    bytes.len() == count
 }
 
 fn source(alloc: Global, count: usize, failing: &[u64]) -> Result<MemorySource, Fail> {
@@ -38,7 +49,7 @@ fn a_read_gives_at_most_64_bytes_and_fails_where_it_is_named(rt: HostRuntime) ->
     let mut source = source(rt.alloc(), 70, &[2])?;
     let mut into = [255; 100];
     for want in [Ok(64), Err(Failed), Ok(6), Ok(0)] {
-        assert_eq!(rt; source.read(&mut into), want);
+        assert!(rt; source.read(&mut into) == want);
     }
     assert_eq!(rt; &into[..7], [64, 65, 66, 67, 68, 69, 6].as_slice());
     Ok(())
@@ -49,50 +60,72 @@ fn a_write_takes_at_most_64_bytes_and_the_room_left(rt: HostRuntime) -> Result<(
     let piece = numbers(rt.alloc(), 100)?;
     let mut sink = sink(rt.alloc(), 70, &[2], true)?;
     for want in [Ok(64), Err(Failed), Ok(6), Err(Failed)] {
-        assert_eq!(rt; sink.write(piece.as_slice()), want);
+        assert!(rt; sink.write(piece.as_slice()) == want);
     }
-    assert_eq!(rt; sink.write(&[]), Ok(0));
-    assert_eq!(rt; sink.bytes().len(), 70);
-    assert_eq!(rt; &sink.bytes()[62..66], [62, 63, 0, 1].as_slice());
-    assert_eq!(rt; sink.finish(), Err(Failed));
+    assert!(rt; sink.write(&[]) == Ok(0));
+    assert!(rt; sink.bytes().len() == 70);
+    assert!(rt; &sink.bytes()[62..66] == [62, 63, 0, 1].as_slice());
+    assert!(rt; sink.finish() == Err(Failed));
+    Ok(())
+}
+
+/// What is read of a source with so many bytes.
+fn read(
+    alloc: Global,
+    count: usize,
+    failing: &[u64],
+    limit: usize,
+) -> Result<Result<Input, ReadError>, Fail> {
+    let mut source = source(alloc, count, failing)?;
+    Ok(read_all(alloc, &mut source, limit))
+}
+
+/// How many bytes a source has, the limit, how many are read, and whether that is the whole.
+const READS: [(usize, usize, usize, bool); 6] = [
+    (0, 0, 0, true),
+    (1, 0, 0, false),
+    (130, 130, 130, true),
+    (130, 129, 129, false),
+    (9000, 8192, 8192, false),
+    (9000, 10000, 9000, true),
+];
+
+#[test]
+fn reads_all_up_to_the_limit(rt: HostRuntime) -> Result<(), Fail> {
+    for (count, limit, want, whole) in &READS {
+        let input = read(rt.alloc(), *count, &[], *limit)??;
+        assert!(rt;
+            are_numbers(input.bytes.as_slice(), *want),
+            "{count} bytes, limit {limit}"
+        );
+        assert!(rt; input.whole == *whole, "{count} bytes, limit {limit}");
+    }
     Ok(())
 }
 
 #[test]
-fn reads_all_up_to_the_limit(rt: HostRuntime) -> Result<(), Fail> {
-    for (count, limit, want, whole) in [
-        (0, 0, 0, true),
-        (1, 0, 0, false),
-        (130, 130, 130, true),
-        (130, 129, 129, false),
-        (9000, 8192, 8192, false),
-        (9000, 10000, 9000, true),
-    ] {
-        let mut source = source(rt.alloc(), count, &[])?;
-        let input = read_all(rt.alloc(), &mut source, limit)?;
-        assert_eq!(rt;
-            input.bytes.as_slice(),
-            numbers(rt.alloc(), want)?.as_slice()
-        );
-        assert_eq!(rt; input.whole, whole, "{count} bytes, limit {limit}");
+fn a_fault_ends_the_reading(rt: HostRuntime) -> Result<(), Fail> {
+    match read(rt.alloc(), 130, &[3], 1000)? {
+        Ok(_) => assert!(rt; false, "the third read fails"),
+        Err(error) => assert_eq!(rt; error, ReadError::Fault),
     }
-    let mut failing = source(rt.alloc(), 130, &[3])?;
-    let fault = read_all(rt.alloc(), &mut failing, 1000).map(|input: Input| input.whole);
-    assert_eq!(rt; fault, Err(ReadError::Fault));
     Ok(())
 }
+
+/// How many bytes a sink takes, whether it can't be finished, what is answered, and how many of 130 bytes it has then.
+const WRITES: [(usize, bool, Result<(), Failed>, usize); 3] = [
+    (130, false, Ok(()), 130),
+    (100, false, Err(Failed), 100),
+    (200, true, Err(Failed), 130),
+];
 
 #[test]
 fn writes_all_or_a_front(rt: HostRuntime) -> Result<(), Fail> {
     let bytes = numbers(rt.alloc(), 130)?;
-    for (capacity, finish_fails, want, written) in [
-        (130, false, Ok(()), 130),
-        (100, false, Err(Failed), 100),
-        (200, true, Err(Failed), 130),
-    ] {
-        let mut sink = sink(rt.alloc(), capacity, &[], finish_fails)?;
-        assert_eq!(rt; write_all(&mut sink, bytes.as_slice()), want);
-        assert_eq!(rt; sink.bytes(), numbers(rt.alloc(), written)?.as_slice());
+    for (capacity, finish_fails, want, written) in &WRITES {
+        let mut sink = sink(rt.alloc(), *capacity, &[], *finish_fails)?;
+        assert!(rt; write_all(&mut sink, bytes.as_slice()) == *want);
+        assert!(rt; are_numbers(sink.bytes(), *written));
     }
     Ok(())
 }
@@ -129,28 +162,36 @@ impl Write for Stuck {
 }
 
 #[test]
-fn a_broken_reader_and_a_full_writer_are_faults(rt: HostRuntime) -> Result<(), Fail> {
+fn a_slice_is_read_whole(rt: HostRuntime) -> Result<(), Fail> {
     let mut whole = StdSource::new(b"at 5\n".as_slice());
     let input = read_all(rt.alloc(), &mut whole, 100)?;
-    assert_eq!(rt; input.bytes.as_slice(), b"at 5\n".as_slice());
+    assert!(rt; input.bytes.as_slice() == b"at 5\n".as_slice());
+    Ok(())
+}
+
+#[test]
+fn a_broken_reader_is_a_fault(rt: HostRuntime) {
     let mut broken = StdSource::new(Breaks { is_broken: false });
     let mut into = [0; 8];
     for want in [Ok(1), Err(Failed), Err(Failed)] {
-        assert_eq!(rt; broken.read(&mut into), want);
+        assert!(rt; broken.read(&mut into) == want);
     }
+}
+
+#[test]
+fn a_full_writer_is_a_fault(rt: HostRuntime) {
     let mut room = [0; 2];
     let mut full = StdSink::new(room.as_mut_slice());
     for want in [Ok(2), Err(Failed)] {
-        assert_eq!(rt; full.write(b"abc"), want);
+        assert!(rt; full.write(b"abc") == want);
     }
-    assert_eq!(rt; write_all(&mut StdSink::new(Stuck), b"abc"), Err(Failed));
-    Ok(())
+    assert!(rt; write_all(&mut StdSink::new(Stuck), b"abc") == Err(Failed));
 }
 
 #[test]
 fn standard_output_takes_all(rt: HostRuntime) {
     let mut output = StdSink::new(rt.stdout());
-    assert_eq!(rt; write_all(&mut output, b"written whole\n"), Ok(()));
+    assert!(rt; write_all(&mut output, b"written whole\n") == Ok(()));
 }
 
 #[test]
