@@ -1,0 +1,7 @@
+use Rattle.std.proofs.Common.{◌≡◌, ◌++◌}
+use Rattle.std.specs.Prelude.{replicate, string_bytes}
+use Rattle.monitor_session.proofs.columns.push_spaces.Given as goal
+
+-- a space for each turn
+abbrev pub invariant-loop : goal.invariant-loop
+invariant-loop l = string_bytes l.out ≡ string_bytes l.initial.out ++ replicate l.counter 32
