@@ -1,0 +1,120 @@
+//! The call that hands out the next launch.
+ghost use Rattle.std.specs.Prelude.{◌≡◌, ◌+◌, ◌<◌, ◌≤◌, OnOk, OnErr, IfErr, IsSome, Some};
+ghost use Rattle.drmaa_model.specs.declared.calls.Call.{Call};
+ghost use Rattle.drmaa_model.specs.Fit.{IsFit};
+ghost use Rattle.drmaa_model.specs.Launching.{launch};
+ghost use Rattle.drmaa_model.specs.Order.{next_launch};
+ghost use Rattle.drmaa_model.specs.Size.{weight};
+ghost use Rattle.drmaa_model.specs.Time.{advance_plan};
+ghost use Rattle.machine_readings.specs.Stores.{world_of, IsKept};
+ghost use Rattle.machine_calls.specs.Serving.{Comes, Keeps, HasPlace};
+
+use drmaa_model::{Launch, NoEntry, Reply};
+use drmaa_types::Moment;
+use machine_calls::{Replies, make_place};
+use machine_readings::Store;
+
+/// What a launch adds to the journal's size beside its entry: the change of its job, and three more that are promised to it.
+const ADDED: u64 = 4;
+
+/// How many reports a launched job's process may bring: its start and its end.
+const REPORTS: u32 = 2;
+
+/// Hands out the job that is next in order, and takes the memory for the entries of its reports.
+///
+/// # Errors
+///
+/// The first of these that holds: `Nothing` where no job is ready; `Journal` where the journal would be too large. Want of memory
+/// is told only where neither holds.
+pub fn take_launch(store: &mut Store, at: Moment) -> Result<Replies, NoEntry>
+    requires kept { IsKept store.old }
+    ensures comes { Comes (world_of store.old) at Call.TakeLaunch result (world_of store.new) }
+    ensures keeps { Keeps store.old store.new }
+    ensures place { OnOk result (HasPlace 1 store.new) }
+{
+    match store.core.next_launch(at) {
+        Ok(None) => Err(NoEntry::Nothing),
+        Ok(Some(next)) => hand_out(store, at, next),
+        Err(_) => Err(short(store)),
+    }
+}
+
+/// What a launch for which memory is wanting is answered: the journal's size comes first.
+fn short(store: &Store) -> NoEntry
+    requires { IsKept store.now }
+    ensures full { store.now.config.journal < store.now.entries + 1 + weight store.now.core.plan + 4
+        → result ≡ NoEntry.Journal (store.now.entries + 1 + weight store.now.core.plan + 4) }
+    ensures short { store.now.entries + 1 + weight store.now.core.plan + 4 ≤ store.now.config.journal → result ≡ NoEntry.OutOfMemory }
+{
+    match within(store) {
+        Ok(()) => NoEntry::OutOfMemory,
+        Err(full) => full,
+    }
+}
+
+/// Whether the journal has room for a launch and its entry.
+fn within(store: &Store) -> Result<(), NoEntry>
+    requires { IsKept store.now }
+    ensures ok { OnOk result (store.now.entries + 1 + weight store.now.core.plan + 4 ≤ store.now.config.journal) }
+    ensures err { IfErr result (λ e. e ≡ NoEntry.Journal (store.now.entries + 1 + weight store.now.core.plan + 4)) }
+    ensures above { OnErr result (store.now.config.journal < store.now.entries + 1 + weight store.now.core.plan + 4) }
+{
+    let size = store.entries + 1 + store.core.size() + ADDED;
+    if size > store.config.journal {
+        return Err(NoEntry::Journal { size });
+    }
+    Ok(())
+}
+
+/// Hands out this launch, which is the next.
+fn hand_out(store: &mut Store, at: Moment, next: Launch) -> Result<Replies, NoEntry>
+    requires kept { IsKept store.old }
+    requires next { launch.told (advance_plan 0 at store.old.core.plan) ≡ Some next }
+    ensures comes { Comes (world_of store.old) at Call.TakeLaunch result (world_of store.new) }
+    ensures keeps { Keeps store.old store.new }
+    ensures place { OnOk result (HasPlace 1 store.new) }
+{
+    match within(store) {
+        Ok(()) => hand_out_within(store, at, next),
+        Err(full) => Err(full),
+    }
+}
+
+fn hand_out_within(store: &mut Store, at: Moment, next: Launch) -> Result<Replies, NoEntry>
+    requires kept { IsKept store.old }
+    requires next { launch.told (advance_plan 0 at store.old.core.plan) ≡ Some next }
+    requires within { store.old.entries + 1 + weight store.old.core.plan + 4 ≤ store.old.config.journal }
+    ensures comes { Comes (world_of store.old) at Call.TakeLaunch result (world_of store.new) }
+    ensures keeps { Keeps store.old store.new }
+    ensures place { OnOk result (HasPlace 1 store.new) }
+{
+    match make_place(store, REPORTS) {
+        Ok(()) => hand_out_now(store, at, next),
+        Err(_) => Err(NoEntry::OutOfMemory),
+    }
+}
+
+fn hand_out_now(store: &mut Store, at: Moment, next: Launch) -> Result<Replies, NoEntry>
+    requires fit { IsFit store.old.core.plan }
+    requires journal { store.old.config.journal ≤ 4_000_000 }
+    requires next { launch.told (advance_plan 0 at store.old.core.plan) ≡ Some next }
+    requires within { store.old.entries + 1 + weight store.old.core.plan + 4 ≤ store.old.config.journal }
+    requires room { HasPlace 3 store.old }
+    ensures comes { Comes (world_of store.old) at Call.TakeLaunch result (world_of store.new) }
+    ensures keeps { Keeps store.old store.new }
+    ensures place { OnOk result (HasPlace 1 store.new) }
+{
+    let entry = store.entries + 1;
+    let limit = store.config.journal;
+    match store.core.take_launch(at, entry, limit) {
+        Ok(Some(told)) => {
+            store.entries = entry;
+            Ok(Replies {
+                told: Reply::Launch(told),
+                kept: Reply::Launch(next),
+            })
+        }
+        Ok(None) => unreachable!(),
+        Err(_) => Err(NoEntry::OutOfMemory),
+    }
+}

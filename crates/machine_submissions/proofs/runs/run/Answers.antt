@@ -1,0 +1,11 @@
+use Rattle.std.proofs.Common.{sym}
+use Rattle.machine_readings.specs.Stores.{world_at}
+use Rattle.machine_submissions.specs.Runs.{run_call}
+use Rattle.machine_submissions.proofs.Submits.{run-first}
+use Rattle.machine_submissions.proofs.runs.run.Goals as goal
+
+pub returns-in-Some-clause-comes : goal.returns-in-Some-clause-comes
+returns-in-Some-clause-comes c = c.refuse.ensures.comes (run_call c.args.session c.args.template.now c.args.indices) (run-first c.args.session c.args.template.now c.args.indices (world_at c.args.at c.args.store.now) c.in-Some.why (sym (c.in-Some.ensures {u = tt})))
+
+pub run_own-requires-clause-own : goal.run_own-requires-clause-own
+run_own-requires-clause-own c = sym (c.in-None.ensures {u = tt})

@@ -1,0 +1,96 @@
+//! The call that an entry keeps of a call: a name of a limit that a journal can't print becomes `OTHER`.
+ghost use Rattle.std.specs.Prelude.{◌≡◌, IfOk, OnOk, map, codes};
+ghost use Rattle.std.specs.List.{list_all};
+ghost use Rattle.drmaa_model.specs.KeptCalls.{is_capital, is_word, kept, kept_limit, kept_template};
+
+use drmaa_model::Call;
+use drmaa_types::{ListOf, Text};
+use job_template::{JobTemplate, LimitList, ResourceLimit};
+use std::alloc::{AllocError, Global};
+
+/// The call that its entry keeps. It takes memory only for a name that becomes `OTHER`.
+pub fn kept_call(alloc: Global, call: Call) -> Result<Call, AllocError>
+    ensures { IfOk result (λ call'. call' ≡ kept call) }
+{
+    match call {
+        Call::RunJob { session, template } => Ok(Call::RunJob {
+            session,
+            template: kept_template(alloc, template)?,
+        }),
+        Call::RunBulk {
+            session,
+            template,
+            indices,
+        } => Ok(Call::RunBulk {
+            session,
+            template: kept_template(alloc, template)?,
+            indices,
+        }),
+        other => Ok(other),
+    }
+}
+
+/// The template that an entry keeps, and the job's row with it.
+pub fn kept_template(alloc: Global, template: JobTemplate) -> Result<JobTemplate, AllocError>
+    ensures { IfOk result (λ t. t ≡ kept_template template) }
+{
+    let limits = kept_limits(alloc, template.resource_limits)?;
+    Ok(JobTemplate {
+        resource_limits: limits,
+        ..template
+    })
+}
+
+fn kept_limits(alloc: Global, limits: LimitList) -> Result<LimitList, AllocError>
+    ensures { IfOk result (λ ls. ls ≡ map kept_limit limits) }
+{
+    let mut items = limits.into_vec();
+    keep_limits(alloc, &mut items)?;
+    Ok(ListOf::from_vec(items))
+}
+
+fn keep_limits(alloc: Global, limits: &mut Vec<ResourceLimit>) -> Result<(), AllocError>
+    ensures { OnOk result (limits.new.items ≡ map kept_limit limits.old.items) }
+{
+    for limit in limits.iter_mut() {
+        keep_limit(alloc, limit)?;
+    }
+    Ok(())
+}
+
+fn keep_limit(alloc: Global, limit: &mut ResourceLimit) -> Result<(), AllocError>
+    ensures { OnOk result (limit.new ≡ kept_limit limit.old) }
+{
+    if !is_word(limit.name.as_str().as_bytes()) {
+        limit.name = other_name(alloc)?;
+    }
+    Ok(())
+}
+
+/// The name that stands for one that can't be printed.
+fn other_name(alloc: Global) -> Result<Text, AllocError>
+    ensures { IfOk result (λ t. t ≡ codes "OTHER") }
+{
+    Ok(Text::from_string(String::from_str(alloc, "OTHER")?))
+}
+
+/// Whether a journal can print this name: ASCII capitals and `_`, one at least.
+fn is_word(name: &[u8]) -> bool
+    ensures { result ≡ is_word name.now }
+{
+    !name.is_empty() && are_capitals(name)
+}
+
+/// Whether these bytes are all ASCII capitals or `_`.
+fn are_capitals(bytes: &[u8]) -> bool
+    ensures { result ≡ list_all is_capital bytes.now }
+{
+    bytes.iter().all(|b| is_capital(*b))
+}
+
+/// Whether a byte is an ASCII capital, or `_`.
+fn is_capital(byte: u8) -> bool
+    ensures { result ≡ is_capital byte }
+{
+    (b'A' <= byte && byte <= b'Z') || byte == b'_'
+}
