@@ -1,0 +1,47 @@
+//! Texts to test with, made of a good one.
+use std::alloc::Global;
+use std::test::Fail;
+use text_lines::TextFault;
+
+/// A journal of one job that is run, launched and done.
+pub const JOURNAL: &str =
+    "drmaa-journal 1 4 \"node1\" suspend\n1 1 @0 create-jobs \"s\" = session 1\n2 1 @0 run 1 {command \"true\"} = job 1\n3 2 @0 launch = launch 1 1 1 [\"\" \"\" \"\" \"\" \"apart\" \"0\" \"true\"]\n4 3 @0 exit 1 1 code 0 = ok\n5 1 @0 state 1 1 = state DONE\nend 5\n";
+
+/// The fault of a text whose first bad line has this number; none where the number is 0.
+pub fn at_line(number: u64) -> Option<TextFault> {
+    if number == 0 {
+        None
+    } else {
+        Some(TextFault::Line(number))
+    }
+}
+
+/// The number of the line that the byte behind these stands in.
+pub fn line_behind(bytes: &[u8]) -> u64 {
+    let mut number = 1u64;
+    for byte in bytes {
+        if *byte == b'\n' && number < u64::MAX {
+            number += 1;
+        }
+    }
+    number
+}
+
+/// The text, the first such piece of it changed.
+pub fn changed(alloc: Global, text: &str, piece: &str, new: &str) -> Result<String, Fail> {
+    let (front, rest) = text.split_once(piece).ok_or("no such piece")?;
+    let mut made = String::from_str(alloc, front)?;
+    made.push_str(new)?;
+    made.push_str(rest)?;
+    Ok(made)
+}
+
+/// Lines, each with its line feed.
+pub fn whole(alloc: Global, lines: &[&str]) -> Result<String, Fail> {
+    let mut text = String::new(alloc);
+    for line in lines {
+        text.push_str(line)?;
+        text.push_str("\n")?;
+    }
+    Ok(text)
+}
