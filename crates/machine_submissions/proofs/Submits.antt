@@ -1,5 +1,5 @@
 -- Submissions: the tests that come before those of the core, and what they leave to it.
-use Rattle.std.proofs.Common.{◌≡◌, ℕ, ◌+◌, ◌≤◌, true, [], ◌∷◌, Option, Some, None, refl, sym, subst, arith}
+use Rattle.std.proofs.Common.{◌≡◌, ℕ, ◌≤◌, true, [], ◌∷◌, Option, Some, None, refl, sym, subst, arith}
 use Rattle.std.specs.Prelude.{Err}
 use Rattle.drmaa_types.specs.Refusals.{first_refusal}
 use Rattle.drmaa_types.specs.RefusalLaws.{refused_first, passed_first}
