@@ -5,5 +5,7 @@ pub mod Firsts
 pub mod Openings
 pub mod Outcomes
 pub mod Placed
+pub mod Promised
 pub mod Sizes
+pub mod Spares
 pub mod Through

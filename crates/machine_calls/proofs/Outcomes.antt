@@ -59,7 +59,7 @@ row-less q job row course fit found less =
     let own : row_of row.job q.rows ≡ Some row = ap (λ n. row_of (record { 0 = n }) q.rows) (row_of-is job q.rows row found) ∙ found in
     omega (arith, go-due q row course fit.jobs.rising own, less)
 
-launching-due : (p : Phase) → is_launching p ≡ true → reports_due p ≡ 2
+pub launching-due : (p : Phase) → is_launching p ≡ true → reports_due p ≡ 2
 launching-due Idle is = absurd (cc)
 launching-due Launching is = refl
 launching-due Alive is = absurd (cc)

@@ -5,10 +5,11 @@ use Rattle.drmaa_types.specs.declared.refusals.Refusal.{Refusal}
 use Rattle.drmaa_types.specs.declared.refusals.Refusal.TheVariants.{OutOfMemory}
 use Rattle.drmaa_model.specs.declared.calls.Call.{Call}
 use Rattle.drmaa_model.specs.declared.faults.NoEntry.{NoEntry}
+use Rattle.drmaa_model.specs.declared.faults.NoEntry.TheVariants as fault
 use Rattle.drmaa_model.specs.declared.replies.Reply.{Reply}
 use Rattle.drmaa_model.specs.Fit.{IsFit}
 use Rattle.drmaa_model.specs.FitLaws.{advance-fit}
-use Rattle.drmaa_model.specs.Operation.{Operation, outcome, Meets}
+use Rattle.drmaa_model.specs.Operation.{Operation, outcome, size_at, Meets}
 use Rattle.drmaa_model.specs.Plan.{Plan}
 use Rattle.drmaa_model.specs.Time.{advance_plan}
 use Rattle.drmaa_model.specs.World.{World}
@@ -18,7 +19,7 @@ use Rattle.machine_readings.specs.Stores.{world_of, world_at}
 use Rattle.machine_calls.specs.declared.replies.Replies.{Replies}
 use Rattle.machine_calls.specs.Serving.{Comes, Concludes, HasPlace, is_sized_first}
 use Rattle.machine_calls.proofs.Dues.{advance-due}
-use Rattle.machine_calls.proofs.Through.{IsThrough, op-comes, op-place}
+use Rattle.machine_calls.proofs.Through.{IsThrough, op-comes, op-comes-sized, op-remembers, op-due, op-place}
 
 module _ {A : Type 0} (tell : A → Reply) (op : Operation A) (s mid : Store) (at : ℕ) (asked : Call) (is : IsThrough tell op at (world_at at s) asked) (limit : ℕ) (new : Plan)
     (done : Result A Refusal) (result : Result Replies NoEntry) (next : World) (same : world_of mid ≡ world_of s) (placed : 0 < limit → limit ≡ s.config.journal)
@@ -32,6 +33,26 @@ module _ {A : Type 0} (tell : A → Reply) (op : Operation A) (s mid : Store) (a
 
   pub comes-after : (is_sized_first asked ≡ true → done ≡ Err OutOfMemory → ⊥) → Comes (world_of s) at asked result next
   comes-after sure = op-comes tell op (world_of s) at asked is limit placed new result next done sure met-then ends-then
+
+  -- where memory may be told before the size only if the size is within the limit
+  pub comes-after-sized : (is_sized_first asked ≡ true → done ≡ Err OutOfMemory → size_at (mid.entries + 1) (outcome op (mid.entries + 1) (advance_plan (mid.entries + 1) at mid.core.plan)).plan ≤ limit)
+      → Comes (world_of s) at asked result next
+  comes-after-sized sure =
+      op-comes-sized tell op (world_of s) at asked is limit placed new result next done
+      (λ sized e. subst (λ (w : World). size_at (w.entries + 1) (outcome op (w.entries + 1) (advance_plan (w.entries + 1) at w.plan)).plan ≤ limit) same (sure sized e)) met-then ends-then
+
+  -- with the journal's limit, want of memory is the operation's own
+  pub remembers-after : limit ≡ s.config.journal → (done ≡ Err OutOfMemory → ⊥) → result ≡ Err fault.OutOfMemory → ⊥
+  remembers-after whole sure = op-remembers tell op (world_of s) at asked is limit placed new result next done whole sure met-then ends-then
+
+  -- no more reports are to come
+  pub due-after : ((q : Plan) → IsFit q → reports_to_come (outcome op (s.entries + 1) q).plan.rows ≤ reports_to_come q.rows) → IsFit s.core.plan
+      → reports_to_come new.rows ≤ reports_to_come s.core.plan.rows
+  due-after less fit =
+      (let q = advance_plan (s.entries + 1) at s.core.plan in
+      let due = less q (advance-fit (s.entries + 1) at s.core.plan fit) in
+      let earlier = advance-due (s.entries + 1) at s.core.plan in
+      op-due tell op (world_of s) at asked is limit placed new result next done (omega (arith, due, earlier)) met-then)
 
   pub place-after : (t : Store) → (0 < limit → HasPlace 1 mid) → ((q : Plan) → IsFit q → reports_to_come (outcome op (s.entries + 1) q).plan.rows ≤ reports_to_come q.rows) → IsFit s.core.plan
       → vec_len t.history ≡ vec_len mid.history → vec_capacity mid.history ≤ vec_capacity t.history → t.core.plan ≡ new → OnOk result (HasPlace 1 t)

@@ -76,17 +76,22 @@ module _ {A : Type 0} (tell : A → Reply) (op : Operation A) (w : World) (at : 
         (both.kept ∙ sym both.told)
         (subst (λ (x : World). size x ≤ w.config.journal) (sym there) (subst (λ n. size (counted (record w { plan = o.plan })) ≤ n) limit_is within)))
 
-    pub op-comes : (done : Result A Refusal) → (is_sized_first asked ≡ true → done ≡ Err OutOfMemory → ⊥)
+    -- a size within the limit is within the journal's
+    within-journal : (n : ℕ) → w.entries + 1 + n ≤ limit → w.entries + 1 + n ≤ w.config.journal
+    within-journal n h = (let same = placed (size_positive limit w.entries n h) in omega (arith, h, same))
+
+    -- where memory may be told before the size only if the size is within the limit
+    pub op-comes-sized : (done : Result A Refusal) → (is_sized_first asked ≡ true → done ≡ Err OutOfMemory → size_at (w.entries + 1) (outcome op (w.entries + 1) (advance w at).plan).plan ≤ limit)
         → Meets (outcome op (w.entries + 1) (advance w at).plan) w.plan (w.entries + 1) limit done new
         → Concludes tell done (record w { plan = new }) result next → Comes w at asked result next
     unfolding o
-    op-comes (Ok a) sure met ends =
+    op-comes-sized (Ok a) sure met ends =
         elim met [
           | served s ↦ served-comes (Ok a) ends.0 s ends.1 ends.2 ends.3
           | full f ↦ (let e = f.answered in absurd (cc))
           | short s ↦ (let e = s.answered in absurd (cc))
         ]
-    op-comes (Err why) sure met ends =
+    op-comes-sized (Err why) sure met ends =
         elim met [
           | served s ↦
               (let mine = s.answers in
@@ -103,7 +108,39 @@ module _ {A : Type 0} (tell : A → Reply) (op : Operation A) (w : World) (at : 
               (let e : why ≡ OutOfMemory = err-same why OutOfMemory s.answered in
               let back : record w { plan = new } ≡ w = ap (λ (p : Plan). record w { plan = p }) s.plan in
               let ended = ends.memory e in
-              is_short (reply_of tell o.answer) (counted (record w { plan = o.plan })) ended.0 through-answer (λ sized. absurd (sure sized s.answered)) (ended.1 ∙ back))
+              is_short (reply_of tell o.answer) (counted (record w { plan = o.plan })) ended.0 through-answer (λ sized. within-journal (weight o.plan) (sure sized s.answered)) (ended.1 ∙ back))
+        ]
+
+    -- where no memory is taken
+    pub op-comes : (done : Result A Refusal) → (is_sized_first asked ≡ true → done ≡ Err OutOfMemory → ⊥)
+        → Meets (outcome op (w.entries + 1) (advance w at).plan) w.plan (w.entries + 1) limit done new
+        → Concludes tell done (record w { plan = new }) result next → Comes w at asked result next
+    op-comes done sure met ends = op-comes-sized done (λ sized e. absurd (sure sized e)) met ends
+
+    -- with the journal's limit, want of memory is the operation's own
+    pub op-remembers : (done : Result A Refusal) → limit ≡ w.config.journal → (done ≡ Err OutOfMemory → ⊥)
+        → Meets (outcome op (w.entries + 1) (advance w at).plan) w.plan (w.entries + 1) limit done new
+        → Concludes tell done (record w { plan = new }) result next → result ≡ Err fault.OutOfMemory → ⊥
+    unfolding o
+    op-remembers (Ok a) whole sure met ends told = (let is_ok = ends.1 in cc)
+    op-remembers (Err why) whole sure met ends told =
+        elim met [
+          | served s ↦ (let sorted = ends.answer s.answers in let is_ok = sorted.1 in cc)
+          | full f ↦
+              (let e : why ≡ OutOfResource (Journal (size_at (w.entries + 1) o.plan)) = err-same why (OutOfResource (Journal (size_at (w.entries + 1) o.plan))) f.answered in
+              let above : w.config.journal < size_at (w.entries + 1) o.plan = subst (λ n. n < size_at (w.entries + 1) o.plan) whole f.above in
+              let full_is = (ends.full (size_at (w.entries + 1) o.plan) e above).0 in cc)
+          | short s ↦ sure s.answered
+        ]
+
+    -- no more reports are to come
+    pub op-due : (done : Result A Refusal) → reports_to_come (outcome op (w.entries + 1) (advance w at).plan).plan.rows ≤ reports_to_come w.plan.rows
+        → Meets (outcome op (w.entries + 1) (advance w at).plan) w.plan (w.entries + 1) limit done new → reports_to_come new.rows ≤ reports_to_come w.plan.rows
+    op-due done due met =
+        elim met [
+          | served s ↦ (let same = ap (λ (p : Plan). reports_to_come p.rows) s.plan in omega (arith, same, due))
+          | full f ↦ (let same = ap (λ (p : Plan). reports_to_come p.rows) f.plan in omega (arith, same))
+          | short s ↦ (let same = ap (λ (p : Plan). reports_to_come p.rows) s.plan in omega (arith, same))
         ]
 
     fails : (done : Result A Refusal) (why : Refusal) (P : Type 0) → done ≡ Err why → Concludes tell done (record w { plan = new }) result next

@@ -23,8 +23,7 @@ pub record AreBoth (replies : Replies) (r : Reply) : Type 0 where
   pub told : replies.told ≡ r
   pub kept : replies.kept ≡ r
 
--- Where the journal would be too large, the call says so before memory is asked for. What is submitted and what is
--- controlled want memory first.
+-- Where the journal would be too large, the call says so before memory is asked for. What is submitted wants memory first.
 abbrev pub is_sized_first : Call → Bool
 is_sized_first (call.CreateJobSession name) = true
 is_sized_first (call.CreateReservationSession name) = true
@@ -40,7 +39,7 @@ is_sized_first (call.RunJob session t) = false
 is_sized_first (call.RunBulk session t indices) = false
 is_sized_first (call.GetJobs session filter) = true
 is_sized_first (call.GetJobArray session array) = true
-is_sized_first (call.Control session meant what) = false
+is_sized_first (call.Control session meant what) = true
 is_sized_first (call.Reap session meant) = true
 is_sized_first (call.GetState session job) = true
 is_sized_first (call.GetInfo session job) = true
@@ -97,6 +96,10 @@ places s = vec_capacity s.history - (vec_len s.history + reports_to_come s.core.
 -- and how many more calls that change one job's state at most
 abbrev pub spare_of : Store → ℕ
 spare_of s = min (places s) s.core.spare
+
+-- how many of them are left once the entry of a call that was served is made
+abbrev pub left_of : Store → ℕ
+left_of s = min (places s - 1) s.core.spare
 
 -- An error of an operation, as the machine takes it: a refusal is a reply, and an entry more. A journal that is too large
 -- for the limit alone is want of memory.

@@ -1,19 +1,19 @@
 //! Calls that an operation of the core serves.
-ghost use Rattle.std.specs.Prelude.{◌≡◌, ◌&&◌, not, [], ◌∷◌, OnOk, None};
+ghost use Rattle.std.specs.Prelude.{◌≡◌, ◌≢◌, ◌&&◌, ◌+◌, ◌≤◌, not, true, [], ◌∷◌, OnOk, Err, None};
 ghost use Rattle.drmaa_types.specs.Refusals.{first_refusal};
 ghost use Rattle.drmaa_types.specs.declared.sessions.SessionKind.{SessionKind};
 ghost use Rattle.drmaa_model.specs.declared.calls.Call.{Call};
 ghost use Rattle.drmaa_model.specs.Homes.{session_test, own_test, reap_test, reapers, reservation_test};
 ghost use Rattle.drmaa_model.specs.Refusals.{is_pausing};
+ghost use Rattle.job_control.specs.Targets.{is_one_quiet};
 ghost use Rattle.machine_readings.specs.Stores.{world_of, world_at, IsKept};
-ghost use Rattle.machine_calls.specs.Reports.{call_of};
-ghost use Rattle.machine_calls.specs.Serving.{Comes, Keeps, HasPlace};
+ghost use Rattle.machine_calls.specs.Serving.{Comes, Keeps, HasPlace, spare_of, left_of};
 
 use crate::concludes::conclude;
 use crate::places::limit_for;
 use crate::replies::Replies;
 use crate::settles::refuse;
-use drmaa_model::{NoEntry, Report, Target};
+use drmaa_model::{NoEntry, Target};
 use drmaa_types::{Control, Moment, Refusal, ReservationId, SessionId};
 use machine_readings::Store;
 
@@ -54,7 +54,8 @@ fn reap_own(
     conclude(store, done)
 }
 
-/// Holds, releases, suspends, resumes or terminates jobs.
+/// Holds, releases, suspends, resumes or terminates jobs. A hold or a release of one job takes no memory where `spare` is at
+/// least 1, and uses one of it.
 pub fn control(
     store: &mut Store,
     at: Moment,
@@ -66,6 +67,8 @@ pub fn control(
     ensures comes { Comes (world_of store.old) at (Call.Control session target what) result (world_of store.new) }
     ensures keeps { Keeps store.old store.new }
     ensures place { OnOk result (HasPlace 1 store.new) }
+    ensures memory { is_one_quiet target what ≡ true → 1 ≤ spare_of store.old → result ≢ Err NoEntry.OutOfMemory }
+    ensures spare { is_one_quiet target what ≡ true → spare_of store.old ≤ left_of store.new + 1 }
 {
     match store.control_refusal(at, session, &target, what) {
         Some(why) => refuse(store, at, &why),
@@ -86,6 +89,8 @@ fn control_own(
     ensures comes { Comes (world_of store.old) at (Call.Control session target what) result (world_of store.new) }
     ensures keeps { Keeps store.old store.new }
     ensures place { OnOk result (HasPlace 1 store.new) }
+    ensures memory { is_one_quiet target what ≡ true → 1 ≤ spare_of store.old → result ≢ Err NoEntry.OutOfMemory }
+    ensures spare { is_one_quiet target what ≡ true → spare_of store.old ≤ left_of store.new + 1 }
 {
     let _ = session;
     let limit = limit_for(store);
@@ -128,18 +133,5 @@ fn end_own(
     let limit = limit_for(store);
     let entry = store.entries + 1;
     let done = store.core.end_reservation(at, entry, limit, number);
-    conclude(store, done)
-}
-
-/// Takes a report of launcher or reaper.
-pub fn report(store: &mut Store, at: Moment, report: Report) -> Result<Replies, NoEntry>
-    requires kept { IsKept store.old }
-    ensures comes { Comes (world_of store.old) at (call_of report) result (world_of store.new) }
-    ensures keeps { Keeps store.old store.new }
-    ensures place { OnOk result (HasPlace 1 store.new) }
-{
-    let limit = limit_for(store);
-    let entry = store.entries + 1;
-    let done = store.core.report(at, entry, limit, report);
     conclude(store, done)
 }

@@ -1,5 +1,7 @@
 //! Calls that change no more than time: refusals, and what only reads.
-ghost use Rattle.std.specs.Prelude.{◌≡◌, ◌≢◌, ◌+◌, ◌≤◌, IfOk, OnOk, Some, None, Err, true};
+ghost use Rattle.std.specs.Prelude.{◌≡◌, ◌≢◌, ◌+◌, ◌≤◌, IfOk, IsOk, OnOk, Some, None, Err, true};
+ghost use Rattle.drmaa_types.specs.declared.identifiers.JobId.{JobId};
+ghost use Rattle.drmaa_types.specs.declared.identifiers.SessionId.{SessionId};
 ghost use Rattle.drmaa_model.specs.declared.calls.Call.{Call};
 ghost use Rattle.drmaa_model.specs.Effects.{makes};
 ghost use Rattle.drmaa_model.specs.Refusals.{refusal};
@@ -26,6 +28,7 @@ pub fn pass(store: &mut Store, at: Moment, replies: Replies) -> Result<Replies, 
     ensures keeps { Keeps store.old store.new }
     ensures place { OnOk result (HasPlace 1 store.new) }
     ensures memory { 1 ≤ spare_of store.old → result ≢ Err NoEntry.OutOfMemory }
+    ensures spare { spare_of store.old ≤ spare_of store.new }
 {
     match make_place(store, 0) {
         Ok(()) => {
@@ -46,6 +49,7 @@ pub fn refuse(store: &mut Store, at: Moment, why: &Refusal) -> Result<Replies, N
     ensures keeps { Keeps store.old store.new }
     ensures place { OnOk result (HasPlace 1 store.new) }
     ensures memory { 1 ≤ spare_of store.old → result ≢ Err NoEntry.OutOfMemory }
+    ensures spare { spare_of store.old ≤ spare_of store.new }
 {
     match within(store) {
         Ok(()) => pass(store, at, Replies::refused(why)),
@@ -53,13 +57,16 @@ pub fn refuse(store: &mut Store, at: Moment, why: &Refusal) -> Result<Replies, N
     }
 }
 
-/// Serves a call that only reads.
+/// Serves a call that only reads. What asks for a job's state takes no memory where `spare` is at least 1.
 pub fn read(store: &mut Store, at: Moment, call: &Call) -> Result<Replies, NoEntry>
     requires kept { IsKept store.old }
     requires reading { is_reading call.now ≡ true }
     ensures comes { Comes (world_of store.old) at call.now result (world_of store.new) }
     ensures keeps { Keeps store.old store.new }
     ensures place { OnOk result (HasPlace 1 store.new) }
+    ensures memory { (session : SessionId) (job : JobId) → call.now ≡ Call.GetState session job → 1 ≤ spare_of store.old
+        → result ≢ Err NoEntry.OutOfMemory }
+    ensures spare { spare_of store.old ≤ spare_of store.new }
 {
     match within(store) {
         Ok(()) => read_within(store, at, call),
@@ -74,6 +81,9 @@ fn read_within(store: &mut Store, at: Moment, call: &Call) -> Result<Replies, No
     ensures comes { Comes (world_of store.old) at call.now result (world_of store.new) }
     ensures keeps { Keeps store.old store.new }
     ensures place { OnOk result (HasPlace 1 store.new) }
+    ensures memory { (session : SessionId) (job : JobId) → call.now ≡ Call.GetState session job → 1 ≤ spare_of store.old
+        → result ≢ Err NoEntry.OutOfMemory }
+    ensures spare { spare_of store.old ≤ spare_of store.new }
 {
     match replies_to(store, at, call) {
         Ok(replies) => pass(store, at, replies),
@@ -81,8 +91,33 @@ fn read_within(store: &mut Store, at: Moment, call: &Call) -> Result<Replies, No
     }
 }
 
-/// The reply to a call that only reads, twice.
+/// The reply to a call that only reads, twice. What asks for a job's state takes no memory.
 fn replies_to(store: &Store, at: Moment, call: &Call) -> Result<Replies, AllocError>
+    requires kept { IsKept store.now }
+    requires reading { is_reading call.now ≡ true }
+    ensures reply { IfOk result (λ replies. IsReply store.now at call.now replies.told) }
+    ensures twice { IfOk result (λ replies. replies.kept ≡ replies.told) }
+    ensures memory { (session : SessionId) (job : JobId) → call.now ≡ Call.GetState session job → IsOk result }
+{
+    match call {
+        Call::GetState { session, job } => Ok(state(store, at, *session, *job)),
+        _ => told_of(store, at, call),
+    }
+}
+
+/// The state of a job, twice.
+fn state(store: &Store, at: Moment, session: SessionId, job: JobId) -> Replies
+    requires kept { IsKept store.now }
+    ensures reply { IsReply store.now at (Call.GetState session job) result.told }
+    ensures twice { result.kept ≡ result.told }
+{
+    Replies {
+        told: store.state(at, session, job),
+        kept: store.state(at, session, job),
+    }
+}
+
+fn told_of(store: &Store, at: Moment, call: &Call) -> Result<Replies, AllocError>
     requires kept { IsKept store.now }
     requires reading { is_reading call.now ≡ true }
     ensures reply { IfOk result (λ replies. IsReply store.now at call.now replies.told) }
@@ -162,6 +197,7 @@ pub fn settle(store: &mut Store, at: Moment, replies: Replies) -> Result<Replies
     ensures keeps { Keeps store.old store.new }
     ensures place { OnOk result (HasPlace 1 store.new) }
     ensures memory { 1 ≤ spare_of store.old → result ≢ Err NoEntry.OutOfMemory }
+    ensures spare { spare_of store.old ≤ spare_of store.new }
 {
     match within(store) {
         Ok(()) => pass(store, at, replies),

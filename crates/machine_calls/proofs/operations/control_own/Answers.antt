@@ -1,22 +1,53 @@
-use Rattle.std.proofs.Common.{ap}
+use Rattle.std.proofs.Common.{◌+◌, inl, inr, ◌∙◌, ap, arith}
 use Rattle.drmaa_model.specs.declared.calls.Call.TheVariants as call
-use Rattle.std.specs.Prelude.{◌+◌}
+use Rattle.std.proofs.lemmas.Bool.{cases_lt}
 use Rattle.drmaa_model.specs.Controlling.{control}
 use Rattle.drmaa_model.specs.Effects.{unit}
+use Rattle.drmaa_model.specs.Operation.{outcome, size_at}
+use Rattle.drmaa_model.specs.Time.{advance_plan}
 use Rattle.machine_readings.specs.Stores.{world_of, world_at}
+use Rattle.scheduler_core.specs.Facts.{reports_to_come}
 use Rattle.scheduler_core.specs.View.{View}
 use Rattle.machine_calls.proofs.Firsts.{control-through}
 use Rattle.machine_calls.proofs.Outcomes.{control-outcome}
-use Rattle.machine_calls.proofs.Placed.{comes-after, place-after}
+use Rattle.machine_calls.proofs.Placed.{comes-after-sized, due-after, place-after, remembers-after}
+use Rattle.machine_calls.proofs.Spares.{uses-one}
 use Rattle.machine_calls.proofs.operations.control_own.Goals as goal
 
 pub returns-clause-comes : goal.returns-clause-comes
 returns-clause-comes c =
-    comes-after unit (control c.args.target c.args.what) c.args.store.now c.limit_for-limit.new.store c.args.at (call.Control c.args.session c.args.target c.args.what) (control-through c.args.session c.args.target c.args.what c.args.at (world_at c.args.at c.args.store.now) c.requires.own) c.limit_for-limit.result c.control-done.new.self.plan c.control-done.result c.conclude.result (world_of c.conclude.new.store)
-    c.limit_for-limit.ensures.world c.limit_for-limit.ensures.placed c.control-done.ensures.meets c.conclude.ensures.concludes (λ sized e. absurd (cc))
+    comes-after-sized unit (control c.args.target c.args.what) c.args.store.now c.limit_for-limit.new.store c.args.at (call.Control c.args.session c.args.target c.args.what) (control-through c.args.session c.args.target c.args.what c.args.at (world_at c.args.at c.args.store.now) c.requires.own) c.limit_for-limit.result c.control-done.new.self.plan c.control-done.result c.conclude.result (world_of c.conclude.new.store)
+    c.limit_for-limit.ensures.world c.limit_for-limit.ensures.placed c.control-done.ensures.meets c.conclude.ensures.concludes
+    (λ sized e.
+    (let mid = c.limit_for-limit.new.store in
+    let n = size_at (mid.entries + 1) (outcome (control c.args.target c.args.what) (mid.entries + 1) (advance_plan (mid.entries + 1) c.args.at mid.core.plan)).plan in
+    elim (cases_lt c.limit_for-limit.result n) [
+      | inl above ↦ absurd (c.control-done.ensures.sized above e)
+      | inr below ↦ below
+    ]))
 
 pub returns-clause-place : goal.returns-clause-place
 returns-clause-place c =
     place-after unit (control c.args.target c.args.what) c.args.store.now c.limit_for-limit.new.store c.args.at (call.Control c.args.session c.args.target c.args.what) (control-through c.args.session c.args.target c.args.what c.args.at (world_at c.args.at c.args.store.now) c.requires.own) c.limit_for-limit.result c.control-done.new.self.plan c.control-done.result c.conclude.result (world_of c.conclude.new.store)
     c.limit_for-limit.ensures.world c.limit_for-limit.ensures.placed c.control-done.ensures.meets c.conclude.ensures.concludes c.conclude.new.store c.limit_for-limit.ensures.place (control-outcome c.args.target c.args.what (c.args.store.now.entries + 1)) c.requires.kept.consistent.fit
     c.conclude.ensures.keeps.len c.conclude.ensures.keeps.more (ap (λ (v : View). v.plan) c.conclude.ensures.core)
+
+pub returns-clause-memory : goal.returns-clause-memory
+returns-clause-memory c = λ quiet room.
+    (let before = ap (λ (v : View). v.spare) c.limit_for-limit.ensures.core in
+    remembers-after unit (control c.args.target c.args.what) c.args.store.now c.limit_for-limit.new.store c.args.at (call.Control c.args.session c.args.target c.args.what) (control-through c.args.session c.args.target c.args.what c.args.at (world_at c.args.at c.args.store.now) c.requires.own) c.limit_for-limit.result c.control-done.new.self.plan c.control-done.result c.conclude.result (world_of c.conclude.new.store)
+    c.limit_for-limit.ensures.world c.limit_for-limit.ensures.placed c.control-done.ensures.meets c.conclude.ensures.concludes (c.limit_for-limit.ensures.succeeds (omega (arith, room))) (c.control-done.ensures.memory quiet (omega (arith, room, before))))
+
+pub returns-clause-spare : goal.returns-clause-spare
+returns-clause-spare c = λ quiet.
+    (let due = due-after unit (control c.args.target c.args.what) c.args.store.now c.limit_for-limit.new.store c.args.at (call.Control c.args.session c.args.target c.args.what) (control-through c.args.session c.args.target c.args.what c.args.at (world_at c.args.at c.args.store.now) c.requires.own) c.limit_for-limit.result c.control-done.new.self.plan c.control-done.result c.conclude.result (world_of c.conclude.new.store)
+    c.limit_for-limit.ensures.world c.limit_for-limit.ensures.placed c.control-done.ensures.meets c.conclude.ensures.concludes (control-outcome c.args.target c.args.what (c.args.store.now.entries + 1)) c.requires.kept.consistent.fit in
+    let rows = ap (λ (v : View). reports_to_come v.plan.rows) c.conclude.ensures.core in
+    let left = ap (λ (v : View). v.spare) c.conclude.ensures.core in
+    let before = ap (λ (v : View). v.spare) c.limit_for-limit.ensures.core in
+    let one = c.control-done.ensures.one quiet in
+    let first = c.limit_for-limit.ensures.keeps in
+    let then = c.conclude.ensures.keeps in
+    let more = first.more in
+    let again = then.more in
+    uses-one c.args.store.now c.conclude.new.store (then.len ∙ first.len) (omega (arith, more, again)) (omega (arith, due, rows)) (omega (arith, left, before, one)))

@@ -6,6 +6,7 @@ use Rattle.drmaa_model.specs.Time.{advance}
 use Rattle.drmaa_model.specs.TimeLaws.{weight-advance}
 use Rattle.drmaa_model.specs.World.{World, counted}
 use Rattle.scheduler_core.specs.Facts.{reports_to_come}
+use Rattle.scheduler_core.specs.View.{View}
 use Rattle.machine_readings.specs.Stores.{world_of}
 use Rattle.machine_calls.specs.Serving.Comes.{answers}
 use Rattle.machine_calls.proofs.Dues.{advance-due}
@@ -34,3 +35,23 @@ returns-in-Ok-clause-place c =
     let same = ap (λ (p : Plan). reports_to_come p.rows) c.advance.ensures.plan in
     let place = (c.in-Ok.ensures {u = tt}).place in
     omega (arith, less, same, place))
+
+pub returns-in-Ok-clause-spare : goal.returns-in-Ok-clause-spare
+returns-in-Ok-clause-spare c =
+    (let mid = c.make_place.new.store in
+    let less = advance-due (mid.entries + 1) c.args.at mid.core.plan in
+    let same = ap (λ (p : Plan). reports_to_come p.rows) c.advance.ensures.plan in
+    let rows = ap (λ (v : View). reports_to_come v.plan.rows) c.make_place.ensures.core in
+    let before = ap (λ (v : View). v.spare) c.make_place.ensures.core in
+    let after = c.advance.ensures.spare in
+    let len = c.make_place.ensures.keeps.len in
+    let more = c.make_place.ensures.keeps.more in
+    omega (arith, less, same, rows, before, after, len, more))
+
+pub returns-in-Err-clause-spare : goal.returns-in-Err-clause-spare
+returns-in-Err-clause-spare c =
+    (let rows = ap (λ (v : View). reports_to_come v.plan.rows) c.make_place.ensures.core in
+    let before = ap (λ (v : View). v.spare) c.make_place.ensures.core in
+    let len = c.make_place.ensures.keeps.len in
+    let more = c.make_place.ensures.keeps.more in
+    omega (arith, rows, before, len, more))
