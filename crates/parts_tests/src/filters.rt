@@ -1,8 +1,37 @@
 //! Which infos a filter lets through.
-use crate::builders::{Sample, moment, sample_text};
-use drmaa_types::{Exit, JobFilter, JobId, JobInfo, JobState, Note};
+use drmaa_types::{Exit, JobFilter, JobId, JobInfo, JobState, Moment, Note, Text};
 use std::alloc::Global;
-use std::test::Fail;
+
+/// A text of a table, which is quick to check.
+#[derive(Clone, Copy)]
+enum Sample {
+    Empty,
+    Word,
+    Other,
+    Cut,
+    Hyphen,
+}
+
+/// The text of a sample. Where there is no memory it is empty, and a test that needs it fails.
+fn sample_text(alloc: Global, sample: Sample) -> Text {
+    let characters = match sample {
+        Sample::Empty => "",
+        Sample::Word => "a",
+        Sample::Other => "A",
+        Sample::Cut => "a\0b",
+        Sample::Hyphen => "A-B",
+    };
+    match String::from_str(alloc, characters) {
+        Ok(text) => Text::from_string(text),
+        Err(_) => Text::from_string(String::new(alloc)),
+    }
+}
+
+/// The moment of this number.
+#[tactic(auto, unfolding(drmaa_types::specs::Moments::greatest))]
+fn moment(number: u32) -> Moment {
+    Moment::new(u64::from(number)).unwrap()
+}
 
 /// A filter that lets every job through.
 fn any() -> JobFilter {
@@ -21,9 +50,8 @@ fn any() -> JobFilter {
 }
 
 /// What is known of job 7, submitted at 5, before it is launched.
-fn waiting(alloc: Global) -> Result<JobInfo, Fail> {
-    let submitted = moment(5)?;
-    Ok(JobInfo {
+fn waiting(alloc: Global) -> JobInfo {
+    JobInfo {
         job: JobId(7),
         session: None,
         name: None,
@@ -31,29 +59,34 @@ fn waiting(alloc: Global) -> Result<JobInfo, Fail> {
         index: None,
         state: JobState::Queued,
         slots: None,
-        queue: sample_text(alloc, Sample::Other)?,
+        queue: sample_text(alloc, Sample::Other),
         wallclock: None,
-        submitted,
+        submitted: moment(5),
         dispatched: None,
         finished: None,
         exit: None,
         note: Note::None,
-    })
+    }
 }
 
 /// What is known of job 7, which has a name, was launched on two slots at 10, and has ended at 20 by this exit.
-fn ended(alloc: Global, exit: Exit) -> Result<JobInfo, Fail> {
-    let dispatched = moment(10)?;
-    let finished = moment(20)?;
-    let mut info = waiting(alloc)?;
-    info.name = Some(sample_text(alloc, Sample::Word)?);
+fn ended(alloc: Global, exit: Exit) -> JobInfo {
+    let mut info = waiting(alloc);
+    info.name = Some(sample_text(alloc, Sample::Word));
     info.state = JobState::Done;
     info.slots = Some(2);
     info.wallclock = Some(10);
-    info.dispatched = Some(dispatched);
-    info.finished = Some(finished);
+    info.dispatched = Some(moment(10));
+    info.finished = Some(moment(20));
     info.exit = Some(exit);
-    Ok(info)
+    info
+}
+
+/// Whether the filter lets the job that waits, and the one that has ended with code 3, through.
+fn lets(alloc: Global, filter: &JobFilter) -> (bool, bool) {
+    let waits = waiting(alloc);
+    let done = ended(alloc, Exit::Code(3));
+    (filter.matches(&waits), filter.matches(&done))
 }
 
 /// A field that is a number.
@@ -69,8 +102,8 @@ enum Field {
 }
 
 /// A filter of one field.
-fn only(field: Field, number: u8) -> Result<JobFilter, Fail> {
-    let at = moment(u64::from(number))?;
+fn only(field: Field, number: u8) -> JobFilter {
+    let at = moment(u32::from(number));
     let mut filter = any();
     match field {
         Field::Job => filter.job = Some(JobId(u64::from(number))),
@@ -81,7 +114,7 @@ fn only(field: Field, number: u8) -> Result<JobFilter, Fail> {
         Field::Dispatched => filter.dispatched = Some(at),
         Field::Finished => filter.finished = Some(at),
     }
-    Ok(filter)
+    filter
 }
 
 /// A field and its number, and whether the job that waits and the one that has ended are let through.
@@ -109,15 +142,11 @@ const FIELDS: [(Field, u8, bool, bool); 20] = [
 ];
 
 #[test]
-fn numbers_are_equal_and_moments_not_before(rt: HostRuntime) -> Result<(), Fail> {
-    let waits = waiting(rt.alloc())?;
-    let done = ended(rt.alloc(), Exit::Code(3))?;
+fn numbers_are_equal_and_moments_not_before(rt: HostRuntime) {
     for (field, number, before, after) in &FIELDS {
-        let filter = only(*field, *number)?;
-        assert_eq!(rt; filter.matches(&waits), *before);
-        assert_eq!(rt; filter.matches(&done), *after);
+        let found = lets(rt.alloc(), &only(*field, *number));
+        assert_eq!(rt; found, (*before, *after));
     }
-    Ok(())
 }
 
 /// A status, an exit, and whether they agree.
@@ -131,12 +160,12 @@ const EXITS: [(u8, Exit, bool); 6] = [
 ];
 
 #[test]
-fn a_status_is_of_an_exit_by_code(rt: HostRuntime) -> Result<(), Fail> {
+fn a_status_is_of_an_exit_by_code(rt: HostRuntime) {
     for (status, exit, want) in &EXITS {
-        let info = ended(rt.alloc(), *exit)?;
-        assert_eq!(rt; only(Field::Status, *status)?.matches(&info), *want);
+        let info = ended(rt.alloc(), *exit);
+        let found = only(Field::Status, *status).matches(&info);
+        assert_eq!(rt; found, *want);
     }
-    Ok(())
 }
 
 /// A state, and whether the job that waits and the one that has ended are let through.
@@ -153,28 +182,28 @@ const STATES: [(JobState, bool, bool); 9] = [
 ];
 
 #[test]
-fn a_state_is_the_one_wanted(rt: HostRuntime) -> Result<(), Fail> {
-    let waits = waiting(rt.alloc())?;
-    let done = ended(rt.alloc(), Exit::Code(3))?;
+fn a_state_is_the_one_wanted(rt: HostRuntime) {
     for (state, before, after) in &STATES {
         let mut filter = any();
         filter.state = Some(*state);
-        assert_eq!(rt; filter.matches(&waits), *before);
-        assert_eq!(rt; filter.matches(&done), *after);
+        assert_eq!(rt; lets(rt.alloc(), &filter), (*before, *after));
     }
-    Ok(())
+}
+
+/// The text of a sample, where there is one.
+fn set_text(alloc: Global, sample: Option<Sample>) -> Option<Text> {
+    match sample {
+        Some(sample) => Some(sample_text(alloc, sample)),
+        None => None,
+    }
 }
 
 /// A name, and a queue, as they are set.
-fn named(alloc: Global, name: Option<Sample>, queue: Option<Sample>) -> Result<JobFilter, Fail> {
+fn named(alloc: Global, name: Option<Sample>, queue: Option<Sample>) -> JobFilter {
     let mut filter = any();
-    if let Some(name) = name {
-        filter.name = Some(sample_text(alloc, name)?);
-    }
-    if let Some(queue) = queue {
-        filter.queue = Some(sample_text(alloc, queue)?);
-    }
-    Ok(filter)
+    filter.name = set_text(alloc, name);
+    filter.queue = set_text(alloc, queue);
+    filter
 }
 
 /// A name and a queue, and whether the job that waits and the one that has ended are let through.
@@ -191,36 +220,29 @@ const TEXTS: [(Option<Sample>, Option<Sample>, bool, bool); 9] = [
 ];
 
 #[test]
-fn texts_are_equal(rt: HostRuntime) -> Result<(), Fail> {
-    let waits = waiting(rt.alloc())?;
-    let done = ended(rt.alloc(), Exit::Code(3))?;
+fn texts_are_equal(rt: HostRuntime) {
     for (name, queue, before, after) in &TEXTS {
-        let filter = named(rt.alloc(), *name, *queue)?;
-        assert_eq!(rt; filter.matches(&waits), *before);
-        assert_eq!(rt; filter.matches(&done), *after);
+        let found = lets(rt.alloc(), &named(rt.alloc(), *name, *queue));
+        assert_eq!(rt; found, (*before, *after));
     }
-    Ok(())
 }
 
 /// A filter with each field, that lets the job that has ended through where its job, slots and end do.
-fn every(alloc: Global, job: u64, slots: u32, finished: u64) -> Result<JobFilter, Fail> {
-    let submitted = Some(moment(5)?);
-    let dispatched = Some(moment(10)?);
-    let finished = Some(moment(finished)?);
-    let mut filter = named(alloc, Some(Sample::Word), Some(Sample::Other))?;
+fn every(alloc: Global, job: u64, slots: u32, finished: u32) -> JobFilter {
+    let mut filter = named(alloc, Some(Sample::Word), Some(Sample::Other));
     filter.job = Some(JobId(job));
     filter.state = Some(JobState::Done);
     filter.slots = Some(slots);
     filter.status = Some(3);
     filter.wallclock = Some(10);
-    filter.submitted = submitted;
-    filter.dispatched = dispatched;
-    filter.finished = finished;
-    Ok(filter)
+    filter.submitted = Some(moment(5));
+    filter.dispatched = Some(moment(10));
+    filter.finished = Some(moment(finished));
+    filter
 }
 
 /// A job, slots and an end, and whether the job is let through.
-const WHOLES: [(u64, u32, u64, bool); 4] = [
+const WHOLES: [(u64, u32, u32, bool); 4] = [
     (7, 2, 20, true),
     (6, 2, 20, false),
     (7, 1, 20, false),
@@ -228,11 +250,9 @@ const WHOLES: [(u64, u32, u64, bool); 4] = [
 ];
 
 #[test]
-fn each_set_field_has_to_agree(rt: HostRuntime) -> Result<(), Fail> {
-    let done = ended(rt.alloc(), Exit::Code(3))?;
+fn each_set_field_has_to_agree(rt: HostRuntime) {
     for (job, slots, finished, want) in &WHOLES {
-        let filter = every(rt.alloc(), *job, *slots, *finished)?;
-        assert_eq!(rt; filter.matches(&done), *want);
+        let (_, found) = lets(rt.alloc(), &every(rt.alloc(), *job, *slots, *finished));
+        assert_eq!(rt; found, *want);
     }
-    Ok(())
 }

@@ -1,26 +1,38 @@
+//! Moments and clocks, and texts and lists that keep what they are made of.
 use drmaa_types::{Bytes, Clock, ListClock, Moment, MomentList, StepClock, Text};
 use std::test::Fail;
 
-fn moment(number: u64) -> Result<Moment, Fail> {
-    Ok(Moment::new(number).ok_or("no moment")?)
+/// The moment of this number, which is not above the greatest.
+fn moment(number: u64) -> Moment {
+    match Moment::new(number) {
+        Some(moment) => moment,
+        None => Moment::greatest(),
+    }
 }
 
+/// The number of the moment so many seconds after 99,999,999,999.
+fn late(seconds: u64) -> Option<u64> {
+    match moment(99_999_999_999).plus(seconds) {
+        Some(moment) => Some(moment.number()),
+        None => None,
+    }
+}
+
+/// Seconds that are added, and the moment then.
+const LATER: [(u64, Option<u64>); 3] = [(1, Some(100_000_000_000)), (2, None), (u64::MAX, None)];
+
 #[test]
-fn moments_end_at_the_greatest(rt: HostRuntime) -> Result<(), Fail> {
-    let late = moment(99_999_999_999)?;
-    assert_eq!(rt; late.plus(1).map(|m| m.number()), Some(100_000_000_000));
-    assert_eq!(rt; late.plus(2), None);
-    assert_eq!(rt; late.plus(u64::MAX), None);
-    assert_eq!(rt; Moment::new(100_000_000_001), None);
-    assert_eq!(rt; Moment::greatest().number(), 100_000_000_000);
-    Ok(())
+fn moments_end_at_the_greatest(rt: HostRuntime) {
+    for (seconds, want) in &LATER {
+        assert_eq!(rt; late(*seconds), *want);
+    }
+    assert!(rt; Moment::new(100_000_000_001).is_none());
+    assert!(rt; Moment::greatest().number() == 100_000_000_000);
 }
 
 #[test]
 fn list_clock(rt: HostRuntime) -> Result<(), Fail> {
-    let mut readings = Vec::new(rt.alloc());
-    readings.push(moment(3)?)?;
-    readings.push(moment(5)?)?;
+    let readings = vec![in rt.alloc(); moment(3), moment(5)]?;
     assert!(rt; readings.is_sorted());
     let mut clock = ListClock::new(MomentList::from_vec(readings));
     for want in [3, 5, 5] {
@@ -30,8 +42,8 @@ fn list_clock(rt: HostRuntime) -> Result<(), Fail> {
 }
 
 #[test]
-fn step_clock_is_held_at_the_greatest_moment(rt: HostRuntime) -> Result<(), Fail> {
-    let mut clock = StepClock::new(moment(99_999_999_990)?, 7);
+fn step_clock_is_held_at_the_greatest_moment(rt: HostRuntime) {
+    let mut clock = StepClock::new(moment(99_999_999_990), 7);
     for want in [
         99_999_999_990,
         99_999_999_997,
@@ -40,18 +52,24 @@ fn step_clock_is_held_at_the_greatest_moment(rt: HostRuntime) -> Result<(), Fail
     ] {
         assert_eq!(rt; clock.now().number(), want);
     }
+}
+
+#[test]
+fn texts_keep_what_they_are_made_of(rt: HostRuntime) -> Result<(), Fail> {
+    let name = "node1";
+    let text = Text::from_string(String::from_str(rt.alloc(), name)?);
+    let copy = text.clone()?;
+    assert!(rt; copy == text);
+    assert!(rt; copy.as_str() == name);
+    assert!(rt; text.into_string().as_str() == name);
     Ok(())
 }
 
 #[test]
-fn texts_and_lists_keep_what_they_are_made_of(rt: HostRuntime) -> Result<(), Fail> {
-    let text = Text::from_string(String::from_str(rt.alloc(), "node1")?);
-    assert_eq!(rt; text.clone()?.as_str(), "node1");
-    assert!(rt; text.clone()? == text);
-    assert_eq!(rt; text.into_string().as_str(), "node1");
+fn lists_keep_what_they_are_made_of(rt: HostRuntime) -> Result<(), Fail> {
     let bytes = Bytes::from_vec(Vec::from_slice(rt.alloc(), b"ab")?);
-    assert_eq!(rt; bytes.as_slice(), b"ab".as_slice());
-    assert_eq!(rt; bytes.into_vec().len(), 2);
+    assert!(rt; bytes.as_slice() == b"ab".as_slice());
+    assert!(rt; bytes.into_vec().len() == 2);
     assert!(rt; Bytes::new(rt.alloc()).as_slice().is_empty());
     Ok(())
 }

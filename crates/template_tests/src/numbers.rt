@@ -1,9 +1,8 @@
 //! What is refused of the numbers of a job template.
-use crate::builders::{Sample, job, moment, sample_text, set_moment};
-use drmaa_types::{Attribute, AttributeList, Refusal, Which};
+use crate::builders::{Sample, attributes, job, moment, sample_text, set_moment};
+use drmaa_types::{Attribute, Refusal, Which};
 use job_template::{JobTemplate, validate_job};
 use std::alloc::Global;
-use std::test::Fail;
 
 /// The refusal of an argument, where there is one.
 fn refusal(which: Option<Which>) -> Option<Refusal> {
@@ -32,21 +31,20 @@ const SLOTS: [(u32, Option<u32>, Option<u32>, Option<Which>); 14] = [
 ];
 
 /// A template with these numbers of slots.
-fn wide(alloc: Global, min: Option<u32>, max: Option<u32>) -> Result<JobTemplate, Fail> {
-    let mut template = job(alloc, sample_text(alloc, Sample::Word)?);
+fn wide(alloc: Global, min: Option<u32>, max: Option<u32>) -> JobTemplate {
+    let mut template = job(alloc, sample_text(alloc, Sample::Word));
     template.min_slots = min;
     template.max_slots = max;
-    Ok(template)
+    template
 }
 
 #[test]
-fn slots_are_those_of_the_machine(rt: HostRuntime) -> Result<(), Fail> {
+fn slots_are_those_of_the_machine(rt: HostRuntime) {
     for (slots, min, max, which) in &SLOTS {
-        let template = wide(rt.alloc(), *min, *max)?;
-        let said = validate_job(&template, *slots, moment(0)?);
+        let template = wide(rt.alloc(), *min, *max);
+        let said = validate_job(&template, *slots, moment(0));
         assert_eq!(rt; said.err(), refusal(*which));
     }
-    Ok(())
 }
 
 /// The moment, the start, the deadline, and whether the deadline is good.
@@ -66,20 +64,18 @@ const DEADLINES: [(u64, Option<u64>, Option<u64>, bool); 12] = [
 ];
 
 /// A template with this start and this deadline.
-fn timed(alloc: Global, start: Option<u64>, deadline: Option<u64>) -> Result<JobTemplate, Fail> {
-    let start = set_moment(start)?;
-    let deadline = set_moment(deadline)?;
-    let mut template = job(alloc, sample_text(alloc, Sample::Word)?);
-    template.start_time = start;
-    template.deadline_time = deadline;
-    Ok(template)
+fn timed(alloc: Global, start: Option<u64>, deadline: Option<u64>) -> JobTemplate {
+    let mut template = job(alloc, sample_text(alloc, Sample::Word));
+    template.start_time = set_moment(start);
+    template.deadline_time = set_moment(deadline);
+    template
 }
 
 #[test]
-fn a_deadline_is_after_now_and_after_the_start(rt: HostRuntime) -> Result<(), Fail> {
+fn a_deadline_is_after_now_and_after_the_start(rt: HostRuntime) {
     for (now, start, deadline, good) in &DEADLINES {
-        let template = timed(rt.alloc(), *start, *deadline)?;
-        let said = validate_job(&template, 4, moment(*now)?);
+        let template = timed(rt.alloc(), *start, *deadline);
+        let said = validate_job(&template, 4, moment(*now));
         let which = if *good {
             None
         } else {
@@ -87,7 +83,6 @@ fn a_deadline_is_after_now_and_after_the_start(rt: HostRuntime) -> Result<(), Fa
         };
         assert_eq!(rt; said.err(), refusal(which));
     }
-    Ok(())
 }
 
 const ATTRIBUTES: [(Attribute, Attribute); 4] = [
@@ -97,17 +92,24 @@ const ATTRIBUTES: [(Attribute, Attribute); 4] = [
     (Attribute::StageInFiles, Attribute::CandidateMachines),
 ];
 
+/// What is refused of a template with these attributes, at least two slots and at most so many.
+fn refused(
+    alloc: Global,
+    first: Attribute,
+    second: Attribute,
+    max: Option<u32>,
+) -> Option<Refusal> {
+    let mut template = wide(alloc, Some(2), max);
+    template.others = attributes(alloc, first, second);
+    validate_job(&template, 4, moment(0)).err()
+}
+
 #[test]
-fn what_the_profile_lacks_is_refused_last(rt: HostRuntime) -> Result<(), Fail> {
-    let alloc = rt.alloc();
+fn what_the_profile_lacks_is_refused_last(rt: HostRuntime) {
     for (first, second) in &ATTRIBUTES {
-        let mut template = wide(alloc, Some(2), Some(1))?;
-        template.others = AttributeList::from_vec(vec![in alloc; *first, *second]?);
-        let said = validate_job(&template, 4, moment(0)?);
-        assert_eq!(rt; said.err(), refusal(Some(Which::MaxSlots)));
-        template.max_slots = None;
-        let said = validate_job(&template, 4, moment(0)?);
-        assert_eq!(rt; said.err(), Some(Refusal::UnsupportedAttribute(*first)));
+        let few = refused(rt.alloc(), *first, *second, Some(1));
+        assert_eq!(rt; few, refusal(Some(Which::MaxSlots)));
+        let lacking = refused(rt.alloc(), *first, *second, None);
+        assert_eq!(rt; lacking, Some(Refusal::UnsupportedAttribute(*first)));
     }
-    Ok(())
 }

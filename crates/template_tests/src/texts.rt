@@ -1,9 +1,8 @@
 //! What is refused of the texts of a job template, and in which order.
-use crate::builders::{Sample, job, letters, sample_text};
-use drmaa_types::{Attribute, Limit, Moment, Refusal, Text, TextList, Which};
-use job_template::{JobTemplate, Pair, PairList, text_length, validate_job};
+use crate::builders::{Sample, job, letters, list, sample_text};
+use drmaa_types::{Attribute, Limit, Moment, Refusal, Text, Which};
+use job_template::{JobTemplate, Pair, text_length, validate_job};
 use std::alloc::Global;
-use std::test::Fail;
 
 /// A text of a template.
 #[derive(Clone, Copy)]
@@ -22,10 +21,10 @@ use Place::{Arg, Command, Directory, Error, Input, Name, Output, Queue};
 use Sample::{Accent, Cut, Dash, Digit, Empty, Flag, Hyphen, Nul, Other, Word};
 
 /// Sets a text of a template.
-fn put(alloc: Global, template: &mut JobTemplate, place: Place, text: Text) -> Result<(), Fail> {
+fn put(alloc: Global, template: &mut JobTemplate, place: Place, text: Text) {
     match place {
         Command => template.remote_command = text,
-        Arg => template.args = TextList::from_vec(vec![in alloc; text]?),
+        Arg => template.args = list(alloc, vec![in alloc; text]),
         Directory => template.working_directory = Some(text),
         Name => template.job_name = Some(text),
         Input => template.input_path = Some(text),
@@ -33,7 +32,6 @@ fn put(alloc: Global, template: &mut JobTemplate, place: Place, text: Text) -> R
         Error => template.error_path = Some(text),
         Queue => template.queue_name = Some(text),
     }
-    Ok(())
 }
 
 const BAD_COMMAND: Option<Refusal> = Some(Refusal::InvalidArgument(Which::RemoteCommand));
@@ -91,73 +89,62 @@ const TEXTS: [(Place, Sample, Place, Sample, Option<Refusal>); 34] = [
 ];
 
 /// What is refused of a template with these two texts, on a machine of four slots.
-fn refused(
-    alloc: Global,
-    first: (Place, Sample),
-    second: (Place, Sample),
-) -> Result<Option<Refusal>, Fail> {
-    let mut template = job(alloc, sample_text(alloc, Word)?);
-    put(alloc, &mut template, first.0, sample_text(alloc, first.1)?)?;
-    put(
-        alloc,
-        &mut template,
-        second.0,
-        sample_text(alloc, second.1)?,
-    )?;
-    Ok(validate_job(&template, 4, Moment::greatest()).err())
+fn refused(alloc: Global, first: (Place, Sample), second: (Place, Sample)) -> Option<Refusal> {
+    let mut template = job(alloc, sample_text(alloc, Word));
+    put(alloc, &mut template, first.0, sample_text(alloc, first.1));
+    put(alloc, &mut template, second.0, sample_text(alloc, second.1));
+    validate_job(&template, 4, Moment::greatest()).err()
 }
 
 #[test]
-fn the_first_wrong_text_is_refused(rt: HostRuntime) -> Result<(), Fail> {
+fn the_first_wrong_text_is_refused(rt: HostRuntime) {
     for (place, text, other, rest, want) in &TEXTS {
-        let refusal = refused(rt.alloc(), (*place, *text), (*other, *rest))?;
+        let refusal = refused(rt.alloc(), (*place, *text), (*other, *rest));
         assert_eq!(rt; refusal, *want);
     }
-    Ok(())
 }
 
-/// Two variables with their values, and whether they are in form.
-const VARIABLES: [(Sample, Sample, Sample, Sample, bool); 12] = [
-    (Word, Word, Other, Word, true),
-    (Sample::Name, Empty, Word, Hyphen, true),
-    (Word, Accent, Sample::Name, Dash, true),
-    (Empty, Word, Other, Word, false),
-    (Word, Word, Digit, Word, false),
-    (Hyphen, Word, Other, Word, false),
-    (Word, Word, Accent, Word, false),
-    (Cut, Word, Word, Word, false),
-    (Word, Word, Nul, Word, false),
-    (Word, Word, Word, Other, false),
-    (Word, Nul, Other, Word, false),
-    (Word, Word, Other, Cut, false),
+const BAD_ENVIRONMENT: Option<Refusal> = Some(Refusal::InvalidArgument(Which::JobEnvironment));
+
+/// Two variables with their values, and what is refused of an environment that has both.
+const VARIABLES: [(Sample, Sample, Sample, Sample, Option<Refusal>); 12] = [
+    (Word, Word, Other, Word, None),
+    (Sample::Name, Empty, Word, Hyphen, None),
+    (Word, Accent, Sample::Name, Dash, None),
+    (Empty, Word, Other, Word, BAD_ENVIRONMENT),
+    (Word, Word, Digit, Word, BAD_ENVIRONMENT),
+    (Hyphen, Word, Other, Word, BAD_ENVIRONMENT),
+    (Word, Word, Accent, Word, BAD_ENVIRONMENT),
+    (Cut, Word, Word, Word, BAD_ENVIRONMENT),
+    (Word, Word, Nul, Word, BAD_ENVIRONMENT),
+    (Word, Word, Word, Other, BAD_ENVIRONMENT),
+    (Word, Nul, Other, Word, BAD_ENVIRONMENT),
+    (Word, Word, Other, Cut, BAD_ENVIRONMENT),
 ];
 
 /// A variable and its value.
-fn pair(alloc: Global, name: Sample, value: Sample) -> Result<Pair, Fail> {
-    Ok(Pair {
-        name: sample_text(alloc, name)?,
-        value: sample_text(alloc, value)?,
-    })
+fn pair(alloc: Global, name: Sample, value: Sample) -> Pair {
+    Pair {
+        name: sample_text(alloc, name),
+        value: sample_text(alloc, value),
+    }
 }
 
-/// What is refused of an environment.
-fn unset(alloc: Global, first: Pair, second: Pair) -> Result<Option<Refusal>, Fail> {
-    let mut template = job(alloc, sample_text(alloc, Word)?);
-    template.job_environment = PairList::from_vec(vec![in alloc; first, second]?);
-    Ok(validate_job(&template, 4, Moment::greatest()).err())
+/// What is refused of an environment of two variables with their values.
+fn unset(alloc: Global, first: (Sample, Sample), second: (Sample, Sample)) -> Option<Refusal> {
+    let first = pair(alloc, first.0, first.1);
+    let second = pair(alloc, second.0, second.1);
+    let mut template = job(alloc, sample_text(alloc, Word));
+    template.job_environment = list(alloc, vec![in alloc; first, second]);
+    validate_job(&template, 4, Moment::greatest()).err()
 }
 
 #[test]
-fn variables_have_names_of_their_own(rt: HostRuntime) -> Result<(), Fail> {
-    let alloc = rt.alloc();
-    let wrong = Refusal::InvalidArgument(Which::JobEnvironment);
-    for (name, value, other, rest, good) in &VARIABLES {
-        let first = pair(alloc, *name, *value)?;
-        let second = pair(alloc, *other, *rest)?;
-        let want = if *good { None } else { Some(wrong) };
-        assert_eq!(rt; unset(alloc, first, second)?, want);
+fn variables_have_names_of_their_own(rt: HostRuntime) {
+    for (name, value, other, rest, want) in &VARIABLES {
+        let refusal = unset(rt.alloc(), (*name, *value), (*other, *rest));
+        assert_eq!(rt; refusal, *want);
     }
-    Ok(())
 }
 
 const LONG: Option<Refusal> = Some(Refusal::OutOfResource(Limit::TemplateText));
@@ -177,15 +164,23 @@ const LENGTHS: [(usize, Place, usize, Option<u32>, Option<Refusal>); 10] = [
     (4, Queue, 65_531, None, LONG),
 ];
 
+/// How long the texts are of a template with a command and another text of so many bytes, and what is refused of it.
+fn measured(
+    alloc: Global,
+    command: usize,
+    place: Place,
+    count: usize,
+) -> (Option<u32>, Option<Refusal>) {
+    let mut template = job(alloc, letters(alloc, command));
+    put(alloc, &mut template, place, letters(alloc, count));
+    let refusal = validate_job(&template, 4, Moment::greatest()).err();
+    (text_length(&template), refusal)
+}
+
 #[test]
-fn a_template_has_at_most_65_536_bytes(rt: HostRuntime) -> Result<(), Fail> {
-    let alloc = rt.alloc();
+fn a_template_has_at_most_65_536_bytes(rt: HostRuntime) {
     for (command, place, count, length, want) in &LENGTHS {
-        let mut template = job(alloc, letters(alloc, *command)?);
-        put(alloc, &mut template, *place, letters(alloc, *count)?)?;
-        assert_eq!(rt; text_length(&template), *length);
-        let refusal = validate_job(&template, 4, Moment::greatest()).err();
-        assert_eq!(rt; refusal, *want);
+        let found = measured(rt.alloc(), *command, *place, *count);
+        assert_eq!(rt; found, (*length, *want));
     }
-    Ok(())
 }

@@ -1,6 +1,6 @@
 //! Where a reservation may lie, and what is refused of its template.
-use crate::builders::{Sample, letters, moment, reservation, sample_text, set_moment};
-use drmaa_types::{Attribute, AttributeList, Limit, Moment, Refusal, Which};
+use crate::builders::{Sample, attributes, letters, moment, reservation, sample_text, set_moment};
+use drmaa_types::{Attribute, Limit, Moment, Refusal, Which};
 use job_template::{Frame, ReservationTemplate, Start, validate_reservation};
 use std::alloc::Global;
 use std::test::Fail;
@@ -17,17 +17,26 @@ fn when(
     start: Option<u64>,
     end: Option<u64>,
     duration: Option<u64>,
-) -> Result<ReservationTemplate, Fail> {
-    let start = set_moment(start)?;
-    let end = set_moment(end)?;
+) -> ReservationTemplate {
     let mut template = reservation(alloc);
-    template.start_time = match start {
+    template.start_time = match set_moment(start) {
         Some(moment) => Some(Start::At(moment)),
         None => None,
     };
-    template.end_time = end;
+    template.end_time = set_moment(end);
     template.duration = duration;
-    Ok(template)
+    template
+}
+
+/// A frame of one slot.
+fn single(from: u64, until: u64, span: u64) -> Frame {
+    Frame {
+        from: moment(from),
+        until: moment(until),
+        span,
+        min: 1,
+        max: 1,
+    }
 }
 
 /// The moment, the start, the end and the duration; and the start, the end and the length of the frame.
@@ -48,19 +57,12 @@ const FRAMES: [(u64, Option<u64>, Option<u64>, Option<u64>, u64, u64, u64); 13] 
 ];
 
 #[test]
-fn two_of_three_give_an_interval(rt: HostRuntime) -> Result<(), Fail> {
+fn two_of_three_give_an_interval(rt: HostRuntime) {
     for (now, start, end, duration, from, until, span) in &FRAMES {
-        let template = when(rt.alloc(), *start, *end, *duration)?;
-        let want = Frame {
-            from: moment(*from)?,
-            until: moment(*until)?,
-            span: *span,
-            min: 1,
-            max: 1,
-        };
-        assert_eq!(rt; validate_reservation(&template, moment(*now)?), Ok(want));
+        let template = when(rt.alloc(), *start, *end, *duration);
+        let found = validate_reservation(&template, moment(*now));
+        assert_eq!(rt; found, Ok(single(*from, *until, *span)));
     }
-    Ok(())
 }
 
 /// The moment, the start, the end and the duration; and which argument is refused.
@@ -87,13 +89,12 @@ const REFUSED: [(u64, Option<u64>, Option<u64>, Option<u64>, Which); 19] = [
 ];
 
 #[test]
-fn a_time_without_meaning_is_refused(rt: HostRuntime) -> Result<(), Fail> {
+fn a_time_without_meaning_is_refused(rt: HostRuntime) {
     for (now, start, end, duration, which) in &REFUSED {
-        let template = when(rt.alloc(), *start, *end, *duration)?;
-        let refusal = validate_reservation(&template, moment(*now)?).err();
+        let template = when(rt.alloc(), *start, *end, *duration);
+        let refusal = validate_reservation(&template, moment(*now)).err();
         assert_eq!(rt; refusal, Some(Refusal::InvalidArgument(*which)));
     }
-    Ok(())
 }
 
 /// The end, the duration, and the length of the frame from 60 to 100.
@@ -104,33 +105,21 @@ const FROM_NOW: [(Option<u64>, Option<u64>, u64); 3] = [
 ];
 
 #[test]
-fn now_is_the_current_moment(rt: HostRuntime) -> Result<(), Fail> {
-    let now = moment(60)?;
+fn now_is_the_current_moment(rt: HostRuntime) {
     for (end, duration, span) in &FROM_NOW {
-        let mut template = when(rt.alloc(), None, *end, *duration)?;
+        let mut template = when(rt.alloc(), None, *end, *duration);
         template.start_time = Some(Start::Now);
-        let want = Frame {
-            from: now,
-            until: moment(100)?,
-            span: *span,
-            min: 1,
-            max: 1,
-        };
-        assert_eq!(rt; validate_reservation(&template, now), Ok(want));
+        let found = validate_reservation(&template, moment(60));
+        assert_eq!(rt; found, Ok(single(60, 100, *span)));
     }
-    Ok(())
 }
 
 /// A template from 100 to 200, and what is said of it at moment 0.
-fn said_of(
-    alloc: Global,
-    min: Option<u32>,
-    max: Option<u32>,
-) -> Result<Result<Frame, Refusal>, Fail> {
-    let mut template = when(alloc, Some(100), Some(200), None)?;
+fn said_of(alloc: Global, min: Option<u32>, max: Option<u32>) -> Result<Frame, Refusal> {
+    let mut template = when(alloc, Some(100), Some(200), None);
     template.min_slots = min;
     template.max_slots = max;
-    Ok(validate_reservation(&template, moment(0)?))
+    validate_reservation(&template, moment(0))
 }
 
 /// The least and the greatest number that are asked for, and those of the frame, or which is refused.
@@ -148,24 +137,18 @@ const SLOTS: [(Option<u32>, Option<u32>, u32, u32, Option<Which>); 10] = [
 ];
 
 #[test]
-fn numbers_of_slots_are_filled_in(rt: HostRuntime) -> Result<(), Fail> {
-    let from = moment(100)?;
-    let until = moment(200)?;
+fn numbers_of_slots_are_filled_in(rt: HostRuntime) {
     for (min, max, least, most, which) in &SLOTS {
-        let frame = Frame {
-            from,
-            until,
-            span: 100,
-            min: *least,
-            max: *most,
-        };
         let want = match which {
             Some(which) => Err(Refusal::InvalidArgument(*which)),
-            None => Ok(frame),
+            None => Ok(Frame {
+                min: *least,
+                max: *most,
+                ..single(100, 200, 100)
+            }),
         };
-        assert_eq!(rt; said_of(rt.alloc(), *min, *max)?, want);
+        assert_eq!(rt; said_of(rt.alloc(), *min, *max), want);
     }
-    Ok(())
 }
 
 const BAD_NAME: Option<Refusal> = Some(Refusal::InvalidArgument(Which::ReservationName));
@@ -183,15 +166,14 @@ const NAMES: [(usize, Option<Refusal>); 6] = [
 ];
 
 #[test]
-fn a_name_is_not_empty_nor_long(rt: HostRuntime) -> Result<(), Fail> {
+fn a_name_is_not_empty_nor_long(rt: HostRuntime) {
     let alloc = rt.alloc();
     for (count, want) in &NAMES {
-        let mut template = when(alloc, Some(100), Some(200), None)?;
-        template.reservation_name = Some(letters(alloc, *count)?);
-        let refusal = validate_reservation(&template, moment(0)?).err();
+        let mut template = when(alloc, Some(100), Some(200), None);
+        template.reservation_name = Some(letters(alloc, *count));
+        let refusal = validate_reservation(&template, moment(0)).err();
         assert_eq!(rt; refusal, *want);
     }
-    Ok(())
 }
 
 /// A name, the start, the duration and the least number of slots; and which argument is refused first at moment 2,
@@ -206,52 +188,45 @@ const ORDER: [(Sample, u64, u64, u32, Option<Which>); 6] = [
 ];
 
 /// A template with a fault in each of its parts.
-fn faulty(
-    alloc: Global,
-    name: Sample,
-    start: u64,
-    duration: u64,
-    min: u32,
-) -> Result<ReservationTemplate, Fail> {
-    let mut template = when(alloc, Some(start), None, Some(duration))?;
-    template.reservation_name = Some(sample_text(alloc, name)?);
+fn faulty(alloc: Global, name: Sample, start: u64, duration: u64, min: u32) -> ReservationTemplate {
+    let mut template = when(alloc, Some(start), None, Some(duration));
+    template.reservation_name = Some(sample_text(alloc, name));
     template.min_slots = Some(min);
     template.max_slots = Some(2);
-    let others = vec![in alloc; Attribute::Email, Attribute::MachineOs]?;
-    template.others = AttributeList::from_vec(others);
-    Ok(template)
+    template.others = attributes(alloc, Attribute::Email, Attribute::MachineOs);
+    template
 }
 
 #[test]
-fn the_first_fault_is_refused(rt: HostRuntime) -> Result<(), Fail> {
-    let now = moment(2)?;
+fn the_first_fault_is_refused(rt: HostRuntime) {
     for (name, start, duration, min, which) in &ORDER {
-        let template = faulty(rt.alloc(), *name, *start, *duration, *min)?;
+        let template = faulty(rt.alloc(), *name, *start, *duration, *min);
         let want = match which {
             Some(which) => Refusal::InvalidArgument(*which),
             None => Refusal::UnsupportedAttribute(Attribute::Email),
         };
-        assert_eq!(rt; validate_reservation(&template, now).err(), Some(want));
+        let found = validate_reservation(&template, moment(2));
+        assert_eq!(rt; found.err(), Some(want));
     }
+}
+
+/// A copy of a template is refused as the template is.
+#[test]
+fn a_copy_has_the_same_fault(rt: HostRuntime) -> Result<(), Fail> {
+    let copy = faulty(rt.alloc(), Sample::Word, 2, 1, 2).clone()?;
+    let email = Refusal::UnsupportedAttribute(Attribute::Email);
+    let found = validate_reservation(&copy, moment(2));
+    assert_eq!(rt; found.err(), Some(email));
     Ok(())
 }
 
-/// A copy of a template is refused and accepted as the template is.
+/// A copy of a template is accepted as the template is.
 #[test]
-fn a_copy_is_the_same(rt: HostRuntime) -> Result<(), Fail> {
-    let alloc = rt.alloc();
-    let copy = faulty(alloc, Sample::Word, 2, 1, 2)?.clone()?;
-    let email = Refusal::UnsupportedAttribute(Attribute::Email);
-    assert_eq!(rt; validate_reservation(&copy, moment(2)?).err(), Some(email));
-    let copy = when(alloc, Some(3), Some(9), Some(4))?.clone()?;
-    let want = Frame {
-        from: moment(3)?,
-        until: moment(9)?,
-        span: 4,
-        min: 1,
-        max: 1,
-    };
-    assert_eq!(rt; validate_reservation(&copy, Moment::greatest()).ok(), None);
-    assert_eq!(rt; validate_reservation(&copy, moment(0)?), Ok(want));
+fn a_copy_has_the_same_frame(rt: HostRuntime) -> Result<(), Fail> {
+    let copy = when(rt.alloc(), Some(3), Some(9), Some(4)).clone()?;
+    let late = validate_reservation(&copy, Moment::greatest());
+    assert_eq!(rt; late.ok(), None);
+    let found = validate_reservation(&copy, moment(0));
+    assert_eq!(rt; found, Ok(single(3, 9, 4)));
     Ok(())
 }

@@ -1,8 +1,8 @@
-//! Texts and templates to test with. A table has a name for each text that it needs, which is quick to check.
-use drmaa_types::{AttributeList, Moment, Text, TextList};
+//! Texts and templates to test with. A table has a name for each text that it needs, which is quick to check. Where
+//! there is no memory a text or a list is empty, and a test that needs it fails.
+use drmaa_types::{Attribute, AttributeList, ListOf, Moment, Text, TextList};
 use job_template::{JobTemplate, LimitList, PairList, ReservationTemplate};
 use std::alloc::Global;
-use std::test::Fail;
 
 /// A text of a table.
 #[derive(Clone, Copy)]
@@ -38,34 +38,55 @@ pub fn spelled(sample: Sample) -> &'static str {
 }
 
 /// The text of a sample.
-pub fn sample_text(alloc: Global, sample: Sample) -> Result<Text, Fail> {
+pub fn sample_text(alloc: Global, sample: Sample) -> Text {
     text(alloc, spelled(sample))
 }
 
 /// The text of these characters.
-pub fn text(alloc: Global, characters: &str) -> Result<Text, Fail> {
-    Ok(Text::from_string(String::from_str(alloc, characters)?))
+pub fn text(alloc: Global, characters: &str) -> Text {
+    match String::from_str(alloc, characters) {
+        Ok(text) => Text::from_string(text),
+        Err(_) => Text::from_string(String::new(alloc)),
+    }
+}
+
+/// The list that was made.
+pub fn list<T: Drop, E: Drop>(alloc: Global, made: Result<Vec<T>, E>) -> ListOf<T> {
+    match made {
+        Ok(items) => ListOf::from_vec(items),
+        Err(_) => ListOf::new(alloc),
+    }
+}
+
+/// A list of two attributes.
+pub fn attributes(alloc: Global, first: Attribute, second: Attribute) -> AttributeList {
+    list(alloc, vec![in alloc; first, second])
 }
 
 /// A text of so many letters.
-pub fn letters(alloc: Global, count: usize) -> Result<Text, Fail> {
+pub fn letters(alloc: Global, count: usize) -> Text {
     let mut letters = String::new(alloc);
     for _ in 0..count {
-        letters.push('a')?;
+        if letters.push('a').is_err() {
+            break;
+        }
     }
-    Ok(Text::from_string(letters))
+    Text::from_string(letters)
 }
 
-/// The moment of this number.
-pub fn moment(number: u64) -> Result<Moment, Fail> {
-    Ok(Moment::new(number).ok_or("no moment")?)
+/// The moment of this number, which is not above the greatest.
+pub fn moment(number: u64) -> Moment {
+    match Moment::new(number) {
+        Some(moment) => moment,
+        None => Moment::greatest(),
+    }
 }
 
 /// The moment of this number, where there is one.
-pub fn set_moment(number: Option<u64>) -> Result<Option<Moment>, Fail> {
+pub fn set_moment(number: Option<u64>) -> Option<Moment> {
     match number {
-        Some(number) => Ok(Some(moment(number)?)),
-        None => Ok(None),
+        Some(number) => Some(moment(number)),
+        None => None,
     }
 }
 

@@ -1,9 +1,8 @@
 //! What is refused of the limits of a job template.
-use crate::builders::{Sample, job, sample_text, text};
+use crate::builders::{Sample, job, list, sample_text, text};
 use drmaa_types::{Attribute, Moment, Refusal, Which};
 use job_template::{LimitList, ResourceLimit, validate_job};
 use std::alloc::Global;
-use std::test::Fail;
 
 /// A name of a limit.
 #[derive(Clone, Copy)]
@@ -53,29 +52,39 @@ const LACKING: [(Name, Attribute); 7] = [
 ];
 
 /// What is refused of a template with these limits.
-fn refused(alloc: Global, limits: LimitList) -> Result<Option<Refusal>, Fail> {
-    let mut template = job(alloc, sample_text(alloc, Sample::Word)?);
+fn refused(alloc: Global, limits: LimitList) -> Option<Refusal> {
+    let mut template = job(alloc, sample_text(alloc, Sample::Word));
     template.resource_limits = limits;
-    Ok(validate_job(&template, 4, Moment::greatest()).err())
+    validate_job(&template, 4, Moment::greatest()).err()
 }
 
 /// A limit with a value.
-fn limit(alloc: Global, name: Name, value: u64) -> Result<ResourceLimit, Fail> {
-    Ok(ResourceLimit {
-        name: text(alloc, spelled(name))?,
+fn limit(alloc: Global, name: Name, value: u64) -> ResourceLimit {
+    ResourceLimit {
+        name: text(alloc, spelled(name)),
         value,
-    })
+    }
+}
+
+/// A limit alone.
+fn alone(alloc: Global, name: Name, value: u64) -> LimitList {
+    list(alloc, vec![in alloc; limit(alloc, name, value)])
+}
+
+/// Two limits.
+fn both(alloc: Global, first: (Name, u64), second: (Name, u64)) -> LimitList {
+    let first = limit(alloc, first.0, first.1);
+    let second = limit(alloc, second.0, second.1);
+    list(alloc, vec![in alloc; first, second])
 }
 
 #[test]
-fn other_limits_are_not_supported(rt: HostRuntime) -> Result<(), Fail> {
+fn other_limits_are_not_supported(rt: HostRuntime) {
     let alloc = rt.alloc();
     for (name, attribute) in &LACKING {
-        let limits = LimitList::from_vec(vec![in alloc; limit(alloc, *name, 5)?]?);
         let want = Refusal::UnsupportedAttribute(*attribute);
-        assert_eq!(rt; refused(alloc, limits)?, Some(want));
+        assert_eq!(rt; refused(alloc, alone(alloc, *name, 5)), Some(want));
     }
-    Ok(())
 }
 
 /// Two limits with their values, and what is refused.
@@ -91,17 +100,13 @@ const LIMITS: [(Name, u64, Name, u64, Option<Refusal>); 8] = [
 ];
 
 #[test]
-fn the_first_wrong_limit_is_refused(rt: HostRuntime) -> Result<(), Fail> {
+fn the_first_wrong_limit_is_refused(rt: HostRuntime) {
     let alloc = rt.alloc();
     for (name, value, other, rest, want) in &LIMITS {
-        let first = limit(alloc, *name, *value)?;
-        let second = limit(alloc, *other, *rest)?;
-        let limits = LimitList::from_vec(vec![in alloc; first, second]?);
-        assert_eq!(rt; refused(alloc, limits)?, *want);
+        let limits = both(alloc, (*name, *value), (*other, *rest));
+        assert_eq!(rt; refused(alloc, limits), *want);
     }
     for value in [1, 3_600, u64::MAX] {
-        let limits = LimitList::from_vec(vec![in alloc; limit(alloc, Time, value)?]?);
-        assert_eq!(rt; refused(alloc, limits)?, None);
+        assert_eq!(rt; refused(alloc, alone(alloc, Time, value)), None);
     }
-    Ok(())
 }
