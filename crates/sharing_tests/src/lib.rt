@@ -1,4 +1,4 @@
-//! Tests of what stands between threads and callbacks: ears, and later the lock, the history and the hub.
+//! Tests of the lock and of callbacks.
 #![tactic(auto)]
 
 #[cfg(test)]

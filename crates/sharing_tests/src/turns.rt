@@ -1,10 +1,10 @@
 ghost use Rattle.std.specs.Prelude.{◌≡◌, ◌+◌, ◌<◌, [], length};
 ghost use Rattle.turn_lock.specs.Tokens.{BelongsTo, IsFree};
 
-use turn_lock::{Busy, CallerId, Chronicle, ChronicleEntry, Opener, Pass, TurnLock};
 use std::sync::Wait;
 use std::test::Fail;
 use std::thread::{Threads, join};
+use turn_lock::{Busy, CallerId, Chronicle, ChronicleEntry, Opener, Pass, TurnLock};
 
 /// A list of numbers, each with who told it.
 #[derive(Drop)]
