@@ -1,8 +1,11 @@
 //! The sequential machine: each call is one step, and one entry of its history.
 #![tactic(auto)]
 
+mod applying;
+mod kept_calls;
 mod looks;
 mod machines;
+mod performs;
 
 pub use drmaa_model::{Answer, Call, Config, Entry, NoEntry, Question, Reply};
 pub use machines::Machine;

@@ -1,11 +1,12 @@
 //! Questions that make no entry, and memory that is taken ahead.
-ghost use Rattle.std.specs.Prelude.{◌≡◌, ◌≤◌, OnOk, IfErr, take, drop};
+ghost use Rattle.std.specs.Prelude.{◌≡◌, ◌≤◌, OnOk, IfErr, take, drop, IfOk};
+ghost use Rattle.drmaa_model.specs.Infos.{infos};
 ghost use Rattle.machine_readings.specs.Stores.{world_of, world_at, IsKept};
 ghost use Rattle.drmaa_machine.specs.Looks.{IsAnswer};
 ghost use Rattle.machine_calls.specs.Serving.{Keeps, spare_of};
 
 use drmaa_model::{Answer, Question};
-use drmaa_types::{Change, ChangeBatch, Moment, Refusal};
+use drmaa_types::{Change, ChangeBatch, InfoList, Moment, Refusal};
 use machine_readings::Store;
 
 /// The most changes of one answer.
@@ -25,6 +26,18 @@ pub fn reserve_in(store: &mut Store, n: u32) -> Result<(), Refusal>
         return Err(Refusal::OutOfMemory);
     }
     store.core.reserve(n)
+}
+
+/// What is told of each kept job, as it is now.
+pub fn infos_in(store: &Store) -> Result<InfoList, Refusal>
+    requires { IsKept store.now }
+    ensures ok { IfOk result (λ list. list ≡ infos (world_of store.now)) }
+    ensures err { IfErr result (λ why. why ≡ Refusal.OutOfMemory) }
+{
+    match store.present_infos() {
+        Ok(list) => Ok(list),
+        Err(_) => Err(Refusal::OutOfMemory),
+    }
 }
 
 /// Answers a question.

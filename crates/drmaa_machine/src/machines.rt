@@ -1,14 +1,25 @@
 //! The machine: a history, and the world that it leads to.
-ghost use Rattle.std.specs.Prelude.{◌≡◌, ◌≤◌, [], IfOk, IfErr, OnOk};
+ghost use Rattle.std.specs.Prelude.{◌≡◌, ◌≢◌, ◌+◌, ◌≤◌, ◌↔◌, ◌⊎◌, ℕ, [], IfOk, IfErr, IsOk, OnOk, OnErr, true, None, Some};
 ghost use Rattle.drmaa_types.specs.declared.refusals.Refusal.{Refusal};
+ghost use Rattle.drmaa_model.specs.declared.rows.Row.{Row};
 ghost use Rattle.drmaa_model.specs.Consistent.{IsConsistent};
+ghost use Rattle.drmaa_model.specs.Effects.{nothing, not_yet};
 ghost use Rattle.drmaa_model.specs.History.{IsLegal, now_of};
+ghost use Rattle.drmaa_model.specs.Honoured.{IsOnTime, IsDueInside};
+ghost use Rattle.drmaa_model.specs.Infos.{infos};
+ghost use Rattle.drmaa_model.specs.KeptCalls.{kept};
+ghost use Rattle.drmaa_model.specs.Refusals.{refusal};
+ghost use Rattle.drmaa_model.specs.Steps.{answer, IsStep};
 ghost use Rattle.drmaa_model.specs.Time.{advance};
+ghost use Rattle.drmaa_model.specs.WaitLaws.{HandsOut, SendsOut};
+ghost use Rattle.drmaa_model.specs.World.{counted};
+ghost use Rattle.drmaa_machine.specs.Applying.{served, IsTooLarge, GoesByEdges, IsOver, IsRefusedFor, is_submission, is_foreseen, is_run_report};
 ghost use Rattle.drmaa_machine.specs.Looks.{IsAnswer};
 
-use crate::looks::{look_in, reserve_in};
-use drmaa_model::{Answer, Config, Entry, Question};
-use drmaa_types::{Change, Moment, Refusal};
+use crate::applying::serve;
+use crate::looks::{infos_in, look_in, reserve_in};
+use drmaa_model::{Answer, Call, Config, Entry, NoEntry, Question, Reply};
+use drmaa_types::{CallerId, Change, InfoList, Moment, Refusal};
 use machine_readings::Store;
 use scheduler_core::Core;
 use session_table::SessionTable;
@@ -68,6 +79,60 @@ impl Machine {
         }
     }
 
+    /// Serves a call, as one step and one entry; a refusal is a reply too. The entry has the call as it is kept: a limit whose
+    /// name no journal can print is kept as `OTHER`.
+    ///
+    /// # Errors
+    ///
+    /// `NotYet` exactly where the call waits for what has not come; `Nothing` exactly where there is no job to launch or no signal
+    /// to send; `Journal` with the size that the journal would have, where that is above the greatest; and want of memory. The
+    /// machine is then as it was, its moment too.
+    pub fn apply(&mut self, caller: CallerId, at: Moment, call: Call) -> Result<Reply, NoEntry>
+        // One step of the machine, with exactly one entry.
+        ensures step { IfOk result (λ reply. IsStep (now_of self.old.ledger)
+            (record { caller = caller; at = at; call = kept call; reply = reply }) (now_of self.new.ledger)) }
+        ensures entry { IfOk result (λ reply. self.new.ledger ≡
+            served self.old.ledger (record { caller = caller; at = at; call = kept call; reply = reply })) }
+        ensures legal { IsLegal self.new.ledger.config self.new.ledger.history }
+        ensures consistent { IsConsistent (now_of self.new.ledger) }
+
+        // No entry, no change.
+        ensures err { OnErr result (self.new.ledger ≡ self.old.ledger) }
+        ensures waits { (result ≡ Err NoEntry.NotYet) ↔ (answer (now_of self.old.ledger) at (kept call) ≡ not_yet) }
+        ensures finds_nothing { (result ≡ Err NoEntry.Nothing) ↔ (answer (now_of self.old.ledger) at (kept call) ≡ nothing) }
+        ensures full { (n : ℕ) → result ≡ Err (NoEntry.Journal n) → IsTooLarge (now_of self.old.ledger) at (kept call) n }
+        ensures above { (n : ℕ) → IsTooLarge (now_of self.old.ledger) at (kept call) n →
+            (result ≡ Err (NoEntry.Journal n)) ⊎ ((result ≡ Err NoEntry.OutOfMemory) × (is_submission call ≡ true)) }
+
+        // The first refusal of the table, and no other but a timeout. It changes nothing but time.
+        ensures refuses { (why : Refusal) → refusal (advance (now_of self.old.ledger) at) (kept call) ≡ Some why →
+            IfOk result (λ reply. reply ≡ Reply.Refused why) }
+        ensures over { IsOver (now_of self.old.ledger) at (kept call) → IfOk result (λ reply. reply ≡ Reply.Refused Refusal.Timeout) }
+        ensures refused { (why : Refusal) → result ≡ Ok (Reply.Refused why) →
+            IsRefusedFor (now_of self.old.ledger) at (kept call) why × (now_of self.new.ledger ≡ counted (advance (now_of self.old.ledger) at)) }
+
+        // Each change is an edge of the state model, from the state that the job had.
+        ensures edges { OnOk result (GoesByEdges (now_of self.old.ledger) (now_of self.new.ledger)) }
+
+        // A launch is that of the first job in order that is ready, and a signal that of the first order that is not taken and
+        // whose job is alive.
+        ensures launch { call ≡ Call.TakeLaunch → IfOk result (λ reply.
+            HandsOut (advance (now_of self.old.ledger) at) reply (now_of self.new.ledger)) }
+        ensures signal { call ≡ Call.TakeSignal → IfOk result (λ reply.
+            SendsOut (advance (now_of self.old.ledger) at) reply (now_of self.new.ledger)) }
+
+        // A job whose reservation has the slots that it asks for finds them free.
+        ensures honoured { (row : Row) → call ≡ Call.TakeLaunch → IsOnTime (advance (now_of self.old.ledger) at).plan →
+            IsDueInside (advance (now_of self.old.ledger) at).plan row → result ≢ Err NoEntry.Nothing }
+
+        // What takes no memory that was not taken ahead: a state, a hold or a release of one job; a report of a start or an end.
+        ensures memory { is_foreseen call ≡ true → 1 ≤ self.old.spare → result ≢ Err NoEntry.OutOfMemory }
+        ensures spare { is_foreseen call ≡ true → self.old.spare ≤ self.new.spare + 1 }
+        ensures reports { is_run_report call ≡ true → refusal (advance (now_of self.old.ledger) at) call ≡ None → IsOk result }
+    {
+        serve(&mut self.store, caller, at, call)
+    }
+
     /// Takes the memory for so many further entries and changes.
     ///
     /// # Errors
@@ -86,6 +151,18 @@ impl Machine {
         ensures { IsAnswer (advance (now_of self.now.ledger) at) (now_of self.now.ledger) question result }
     {
         look_in(&self.store, at, question)
+    }
+
+    /// What is told of each kept job, in order of number, as it is now: no time passes.
+    ///
+    /// # Errors
+    ///
+    /// Want of memory.
+    pub fn infos(&self) -> Result<InfoList, Refusal>
+        ensures ok { IfOk result (λ list. list ≡ infos (now_of self.now.ledger)) }
+        ensures err { IfErr result (λ why. why ≡ Refusal.OutOfMemory) }
+    {
+        infos_in(&self.store)
     }
 
     /// What was served, in order.

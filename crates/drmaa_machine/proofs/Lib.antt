@@ -1,0 +1,5 @@
+pub mod Askings
+pub mod Comings
+pub mod KeptOnes
+pub mod Refusing
+pub mod Storing

@@ -1,0 +1,90 @@
+use Rattle.std.proofs.Common.{◌≡◌, ◌+◌, ◌≤◌, true, inl, inr, sym, ◌∙◌, ap, subst}
+use Rattle.std.specs.Prelude.{◌⊎◌, Err}
+use Rattle.drmaa_model.specs.declared.calls.Call.{Call}
+use Rattle.drmaa_model.specs.declared.faults.NoEntry.TheVariants.{OutOfMemory, Journal}
+use Rattle.drmaa_model.specs.History.{Ledger, now_of}
+use Rattle.drmaa_model.specs.KeptCalls.{kept}
+use Rattle.drmaa_model.specs.Refusals.{refusal}
+use Rattle.drmaa_model.specs.Time.{advance}
+use Rattle.drmaa_model.specs.World.{World}
+use Rattle.machine_readings.specs.Stores.{world_of}
+use Rattle.machine_calls.specs.Serving.{spare_of}
+use Rattle.drmaa_machine.specs.Applies.{Applies}
+use Rattle.drmaa_machine.specs.Applying.{is_submission}
+use Rattle.drmaa_machine.specs.Invariant.{ledger_of}
+use Rattle.drmaa_machine.specs.View.{View}
+use Rattle.drmaa_machine.proofs.KeptOnes.{kept-foreseen, kept-report, kept-submits}
+use Rattle.drmaa_machine.proofs.Storing.{now-consistent}
+use Rattle.drmaa_machine.proofs.machines.Machine.apply.Goals as goal
+use Rattle.drmaa_machine.proofs.machines.Machine.apply.Goals.{After-serve}
+
+-- all that is promised, of what contracts see
+fact : (c : After-serve) → Applies c.args.self.now.ledger c.args.caller c.args.at (kept c.args.call) c.serve.result (ledger_of c.serve.new.store)
+fact c =
+    subst (λ (l : Ledger). Applies l c.args.caller c.args.at (kept c.args.call) c.serve.result (ledger_of c.serve.new.store)) (ap (λ (v : View). v.ledger) c.self.view_is) c.serve.ensures.applies
+
+pub returns-clause-step : goal.returns-clause-step
+returns-clause-step c = (fact c).comes.step
+
+pub returns-clause-entry : goal.returns-clause-entry
+returns-clause-entry c = (fact c).entry
+
+pub returns-clause-legal : goal.returns-clause-legal
+returns-clause-legal c = c.serve.ensures.machine.legal
+
+pub returns-clause-consistent : goal.returns-clause-consistent
+returns-clause-consistent c = now-consistent c.serve.new.store c.serve.ensures.machine
+
+pub returns-clause-err : goal.returns-clause-err
+returns-clause-err c = (fact c).err
+
+pub returns-clause-waits : goal.returns-clause-waits
+returns-clause-waits c = (fact c).comes.waits
+
+pub returns-clause-finds_nothing : goal.returns-clause-finds_nothing
+returns-clause-finds_nothing c = (fact c).comes.finds_nothing
+
+pub returns-clause-full : goal.returns-clause-full
+returns-clause-full c = (fact c).comes.full
+
+pub returns-clause-above : goal.returns-clause-above
+returns-clause-above c = λ n large.
+    elim ((fact c).comes.above n large) as (λ _. (c.serve.result ≡ Err (Journal n)) ⊎ ((c.serve.result ≡ Err OutOfMemory) × (is_submission c.args.call ≡ true))) [
+      | inl is ↦ inl is
+      | inr both ↦ inr (both.0, kept-submits c.args.call both.1)
+    ]
+
+pub returns-clause-refuses : goal.returns-clause-refuses
+returns-clause-refuses c = (fact c).comes.refuses
+
+pub returns-clause-over : goal.returns-clause-over
+returns-clause-over c = (fact c).comes.over
+
+pub returns-clause-refused : goal.returns-clause-refused
+returns-clause-refused c = (fact c).comes.refused
+
+pub returns-clause-edges : goal.returns-clause-edges
+returns-clause-edges c = (fact c).comes.edges
+
+pub returns-clause-launch : goal.returns-clause-launch
+returns-clause-launch c = λ is. (fact c).comes.launch (ap kept is)
+
+pub returns-clause-signal : goal.returns-clause-signal
+returns-clause-signal c = λ is. (fact c).comes.signal (ap kept is)
+
+pub returns-clause-honoured : goal.returns-clause-honoured
+returns-clause-honoured c = λ row is time due. (fact c).comes.honoured row (ap kept is) time due
+
+pub returns-clause-memory : goal.returns-clause-memory
+returns-clause-memory c = λ foreseen more. c.serve.ensures.memory (kept-foreseen c.args.call foreseen) (subst (λ (v : View). 1 ≤ v.spare) (sym c.self.view_is) more)
+
+pub returns-clause-spare : goal.returns-clause-spare
+returns-clause-spare c = λ foreseen.
+    subst (λ (v : View). v.spare ≤ spare_of c.serve.new.store + 1) c.self.view_is (c.serve.ensures.spare (kept-foreseen c.args.call foreseen))
+
+pub returns-clause-reports : goal.returns-clause-reports
+returns-clause-reports c = λ reports free.
+    (let known = kept-report c.args.call reports in
+    let now : world_of c.self.inside.store ≡ now_of c.args.self.now.ledger = c.self.invariant.replayed ∙ ap (λ (v : View). now_of v.ledger) c.self.view_is in
+    c.serve.ensures.reports known.1
+    (ap (λ (w : World). refusal (advance w c.args.at) (kept c.args.call)) now ∙ ap (refusal (advance (now_of c.args.self.now.ledger) c.args.at)) (sym known.0) ∙ free))

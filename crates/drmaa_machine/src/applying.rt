@@ -1,0 +1,75 @@
+//! A call is served, and its entry is made.
+ghost use Rattle.std.specs.Prelude.{◌≡◌, ◌≢◌, ◌+◌, ◌≤◌, ◌++◌, [], ◌∷◌, true, None, Err, IsOk, vec_len, vec_capacity};
+ghost use Rattle.drmaa_types.specs.Moments.{greatest};
+ghost use Rattle.drmaa_model.specs.KeptCalls.{kept};
+ghost use Rattle.drmaa_model.specs.Refusals.{refusal};
+ghost use Rattle.machine_readings.specs.Stores.{world_of, world_at};
+ghost use Rattle.machine_calls.specs.Serving.{HasPlace, spare_of};
+ghost use Rattle.drmaa_machine.specs.Applies.{Applies, entry_of};
+ghost use Rattle.drmaa_machine.specs.Applying.{is_foreseen, is_run_report};
+ghost use Rattle.drmaa_machine.specs.Invariant.{IsMachine, ledger_of};
+
+use crate::kept_calls::kept_call;
+use crate::performs::perform;
+use drmaa_model::{Call, Entry, NoEntry, Reply};
+use drmaa_types::{CallerId, Moment};
+use machine_calls::Replies;
+use machine_readings::Store;
+
+/// Serves a call, as one step and one entry.
+pub fn serve(store: &mut Store, caller: CallerId, at: Moment, call: Call) -> Result<Reply, NoEntry>
+    requires machine { IsMachine store.old }
+    ensures machine { IsMachine store.new }
+    ensures applies { Applies (ledger_of store.old) caller at (kept call) result (ledger_of store.new) }
+    ensures memory { is_foreseen (kept call) ≡ true → 1 ≤ spare_of store.old → result ≢ Err NoEntry.OutOfMemory }
+    ensures spare { is_foreseen (kept call) ≡ true → spare_of store.old ≤ spare_of store.new + 1 }
+    ensures reports { is_run_report (kept call) ≡ true → refusal (world_at at store.old) (kept call) ≡ None → IsOk result }
+{
+    a_moment_is_within(at);
+    match kept_call(store.alloc, call) {
+        Ok(kept) => serve_kept(store, caller, at, kept),
+        Err(_) => Err(NoEntry::OutOfMemory),
+    }
+}
+
+/// No moment is after the greatest.
+fn a_moment_is_within(at: Moment)
+    ensures { at ≤ greatest }
+{
+    let _ = at.number();
+}
+
+/// Serves a call that is as an entry keeps it.
+fn serve_kept(store: &mut Store, caller: CallerId, at: Moment, call: Call) -> Result<Reply, NoEntry>
+    requires machine { IsMachine store.old }
+    requires moment { at ≤ greatest }
+    ensures machine { IsMachine store.new }
+    ensures applies { Applies (ledger_of store.old) caller at call result (ledger_of store.new) }
+    ensures memory { is_foreseen call ≡ true → 1 ≤ spare_of store.old → result ≢ Err NoEntry.OutOfMemory }
+    ensures spare { is_foreseen call ≡ true → spare_of store.old ≤ spare_of store.new + 1 }
+    ensures reports { is_run_report call ≡ true → refusal (world_at at store.old) call ≡ None → IsOk result }
+{
+    match perform(store, at, &call) {
+        Ok(replies) => Ok(push(store, caller, at, call, replies)),
+        Err(why) => Err(why),
+    }
+}
+
+/// Makes the entry, whose memory is there.
+fn push(store: &mut Store, caller: CallerId, at: Moment, call: Call, replies: Replies) -> Reply
+    requires place { HasPlace 1 store.old }
+    ensures told { result ≡ replies.told }
+    ensures world { world_of store.new ≡ world_of store.old }
+    ensures core { store.new.core ≡ store.old.core }
+    ensures items { store.new.history.items ≡ store.old.history.items ++ entry_of caller at call replies.kept ∷ [] }
+    ensures len { vec_len store.new.history ≡ vec_len store.old.history + 1 }
+    ensures capacity { vec_capacity store.new.history ≡ vec_capacity store.old.history }
+{
+    store.history.push_reserved(Entry {
+        caller,
+        at,
+        call,
+        reply: replies.kept,
+    });
+    replies.told
+}
