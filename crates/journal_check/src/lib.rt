@@ -1,0 +1,14 @@
+//! Whether a journal is the history of a machine: each entry is replayed, and its reply compared with the machine's.
+#![tactic(auto)]
+
+mod checks;
+mod infos;
+mod laws;
+mod refusals;
+mod replies;
+mod same;
+mod steps;
+mod values;
+
+pub use checks::{Verdict, check};
+pub use laws::{a_fault_is_not_legal, one_first_fault};

@@ -1,0 +1,27 @@
+//! Refusals that are the same.
+use crate::same::Same;
+use drmaa_types::{Attribute, Limit, Refusal, Which};
+
+impl Same for Which {
+    fn is_same(&self, other: &Which) -> bool {
+        *self == *other
+    }
+}
+
+impl Same for Limit {
+    fn is_same(&self, other: &Limit) -> bool {
+        *self == *other
+    }
+}
+
+impl Same for Attribute {
+    fn is_same(&self, other: &Attribute) -> bool {
+        *self == *other
+    }
+}
+
+impl Same for Refusal {
+    fn is_same(&self, other: &Refusal) -> bool {
+        *self == *other
+    }
+}

@@ -1,0 +1,105 @@
+-- What a look at the machine comes to.
+use mathlib.Core.Path.{fun_ext}
+use Rattle.std.proofs.Common.{◌≡◌, ℕ, ◌≤◌, ◌<◌, nat_le, true, false, List, [], ◌∷◌, ◌++◌, Option, Some, None, Result, Err, refl, sym, ap, subst, ◌∙◌, arith}
+use Rattle.std.proofs.lemmas.Bool.Decides.{nat_tests}
+use Rattle.std.proofs.lemmas.List.{map-append}
+use Rattle.drmaa_types.specs.declared.identifiers.CallerId.{CallerId}
+use Rattle.drmaa_model.specs.declared.calls.Call.{Call}
+use Rattle.drmaa_model.specs.declared.entries.Entry.{Entry}
+use Rattle.drmaa_model.specs.declared.replies.Reply.{Reply}
+use Rattle.drmaa_model.specs.Effects.{nothing, not_yet}
+use Rattle.drmaa_model.specs.History.{Ledger, now_of}
+use Rattle.drmaa_model.specs.KeptCalls.{kept}
+use Rattle.drmaa_model.specs.Size.{size}
+use Rattle.drmaa_model.specs.Steps.{IsStep, answer}
+use Rattle.drmaa_model.specs.World.{World}
+use Rattle.drmaa_machine.specs.Applying.{served, IsTooLarge}
+use Rattle.text_codec.specs.Formats.{choose}
+use Rattle.script_lines.specs.declared.lines.Line.{Line}
+use Rattle.script_text.specs.declared.scripts.Script.{Script}
+use Rattle.script_asks.specs.declared.given.Given.{Given}
+use Rattle.script_asks.specs.Asks.{asks}
+use Rattle.script_asks.specs.Attempts.{attempt_in, Notes, Shows, shows_more}
+use Rattle.script_asks.specs.Plays.{Playing, after_answer, entered}
+use Rattle.script_asks.specs.Replies.{names_after}
+use Rattle.script_play.specs.Looks.{IsLook, asks_from}
+use Rattle.script_play.specs.View.{View, playing, replies_of}
+use Rattle.script_play.specs.declared.players.Looked.TheVariants.{Done, NotYet}
+
+-- A line asks the same by the table of attempts and by the replies that it shows.
+pub asks_same : (s : Script) (v : View) (attempts : List (ℕ × ℕ)) (begun : ℕ) (l : Line) → Shows attempts (replies_of v.ledger.history) → asks s v.names (attempt_in attempts) begun l ≡ asks_from s v begun l
+asks_same s v attempts begun l shows = ap (λ f. asks s v.names f begun l) (fun_ext shows)
+
+-- A step that is made.
+within : (p : Playing) (caller : CallerId) (l : Line) (c : Call) (r : Reply) (next : World) → size next ≤ p.world.config.journal
+    → entered p caller l c r next ≡ record p {
+      world = next;
+      names = names_after l r p.names;
+      entries = p.entries ++ record { caller = caller; at = p.moment; call = kept c; reply = r } ∷ [];
+    }
+within p caller l c r next h =
+    let test : nat_le (size next) p.world.config.journal ≡ true = grind (arith, nat_tests) in
+    rw test refl
+
+-- A step that would be too large.
+above : (p : Playing) (caller : CallerId) (l : Line) (c : Call) (r : Reply) (next : World) → p.world.config.journal < size next → entered p caller l c r next ≡ record p { full = Some (size next) }
+above p caller l c r next h =
+    let test : nat_le (size next) p.world.config.journal ≡ false = grind (arith, nat_tests) in
+    rw test refl
+
+pub look_made : (v next : View) (caller : CallerId) (l : Line) (c : Call) (reply : Reply)
+    → IsStep (now_of v.ledger) (record { caller = caller; at = v.moment; call = kept c; reply = reply }) (now_of next.ledger)
+    → next.ledger ≡ served v.ledger (record { caller = caller; at = v.moment; call = kept c; reply = reply })
+    → next.moment ≡ v.moment → next.names ≡ names_after l reply v.names → next.full ≡ v.full → IsLook v caller l c (Done next)
+look_made v next caller l c reply step entry moment names full = record {
+  comes = λ second.
+      ap (λ a. after_answer (playing v) caller l c a second) step.answered
+      ∙ within (playing v) caller l c reply (now_of next.ledger) step.within
+      ∙ ap (λ (es : List Entry). record { world = now_of next.ledger; moment = v.moment; names = names_after l reply v.names; entries = es; full = v.full }) (ap (λ (k : Ledger). k.history) (sym entry))
+      ∙ ap (λ (m : ℕ). record { world = now_of next.ledger; moment = m; names = names_after l reply v.names; entries = next.ledger.history; full = v.full }) (sym moment)
+      ∙ ap (λ (ns : List (List ℕ × Given)). record { world = now_of next.ledger; moment = next.moment; names = ns; entries = next.ledger.history; full = v.full }) (sym names)
+      ∙ ap (λ (f : Option ℕ). record { world = now_of next.ledger; moment = next.moment; names = next.names; entries = next.ledger.history; full = f }) (sym full);
+  config = ap (λ (k : Ledger). k.config) entry;
+}
+
+pub look_full : (v : View) (ledger : Ledger) (caller : CallerId) (l : Line) (c : Call) (n : ℕ) → IsTooLarge (now_of v.ledger) v.moment (kept c) n → ledger ≡ v.ledger
+    → IsLook v caller l c (Done (record v { ledger = ledger; full = Some n }))
+look_full v ledger caller l c n large same = record {
+  comes = λ second.
+      ap (λ a. after_answer (playing v) caller l c a second) large.answered
+      ∙ above (playing v) caller l c large.reply large.after (subst (λ k. (now_of v.ledger).config.journal < k) large.size_is large.above)
+      ∙ ap (λ (k : ℕ). record (playing v) { full = Some k }) (sym large.size_is)
+      ∙ ap (λ (k : Ledger). playing (record v { ledger = k; full = Some n })) (sym same);
+  config = ap (λ (k : Ledger). k.config) same;
+}
+
+pub look_nothing : (v : View) (ledger : Ledger) (caller : CallerId) (l : Line) (c : Call) → answer (now_of v.ledger) v.moment (kept c) ≡ nothing → ledger ≡ v.ledger
+    → IsLook v caller l c (Done (record v { ledger = ledger }))
+look_nothing v ledger caller l c e same = record {
+  comes = λ second. ap (λ a. after_answer (playing v) caller l c a second) e ∙ ap (λ (k : Ledger). playing (record v { ledger = k })) (sym same);
+  config = ap (λ (k : Ledger). k.config) same;
+}
+
+pub look_waits : (v : View) (ledger : Ledger) (caller : CallerId) (l : Line) (c : Call) → answer (now_of v.ledger) v.moment (kept c) ≡ not_yet → ledger ≡ v.ledger
+    → IsLook v caller l c (NotYet (record v { ledger = ledger }))
+look_waits v ledger caller l c e same = record {
+  comes = (ap (λ (k : Ledger). playing (record v { ledger = k })) same, λ second. ap (λ a. after_answer (playing v) caller l c a second) e);
+  config = ap (λ (k : Ledger). k.config) same;
+}
+
+-- The attempts are those of the replies with the one of an entry.
+pub shows_after : (old new : List (ℕ × ℕ)) (ledger next : Ledger) (e : Entry) → Shows old (replies_of ledger.history) → Notes old e.reply new → next ≡ served ledger e → Shows new (replies_of next.history)
+shows_after old new ledger next e shows notes same =
+    let replies : replies_of next.history ≡ replies_of ledger.history ++ e.reply ∷ [] = ap (λ (k : Ledger). replies_of k.history) same ∙ map-append (λ (x : Entry). x.reply) ledger.history (e ∷ []) in
+    subst (Shows new) (sym replies) (shows_more old new (replies_of ledger.history) e.reply shows notes)
+
+-- an error, by what it is
+pub as_err : {A E : Type 0} (x y : E) → x ≡ y → ◌≡◌ {A = Result A E} (Err x) (Err y)
+as_err x y e = ap (λ z. Err z) e
+
+-- choices
+pub chosen_none : {A B : Type 0} (o : Option A) (f : A → B) (other : B) → o ≡ None → choose o f other ≡ other
+chosen_none o f other e = ap (λ x. choose x f other) e
+
+pub chosen_some : {A B : Type 0} (o : Option A) (f : A → B) (other : B) (x : A) → o ≡ Some x → choose o f other ≡ f x
+chosen_some o f other x e = ap (λ y. choose y f other) e

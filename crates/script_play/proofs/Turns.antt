@@ -1,0 +1,27 @@
+-- What a turn at a line does.
+use Rattle.std.proofs.Common.{◌≡◌, true, false, Option, Some, None, is_some, refl, sym, ap, ◌∙◌}
+use Rattle.text_codec.specs.Formats.{choose}
+use Rattle.script_lines.specs.declared.lines.Line.{Line}
+use Rattle.script_text.specs.declared.scripts.Script.{Script}
+use Rattle.script_asks.specs.Plays as plays
+use Rattle.script_play.specs.Crews.{turn_meant}
+use Rattle.script_play.specs.declared.crews.Turn.{Turn}
+
+there : {A B : Type 0} (o : Option A) (x y : B) → is_some o ≡ true → choose o (λ _. x) y ≡ x
+there None x y h = cc
+there (Some a) x y h = refl
+
+not_there : {A B : Type 0} (o : Option A) (x y : B) → is_some o ≡ false → choose o (λ _. x) y ≡ y
+not_there None x y h = refl
+not_there (Some a) x y h = cc
+
+-- a play that was stopped stays as it is
+pub stopped : (s : Script) (crew : plays.Crew) (p : plays.Playing) (l : Line) → is_some p.full ≡ true → p ≡ plays.play_line s crew p l
+stopped s crew p l h = sym (there p.full p (plays.play_turn s crew p l (plays.turn_of l)) h)
+
+-- another goes on by the line's turn
+pub turned : (s : Script) (crew : plays.Crew) (p : plays.Playing) (l : Line) (turn told : Turn) → is_some p.full ≡ false → turn_meant turn ≡ plays.turn_of l → turn ≡ told
+    → plays.play_turn s crew p l (turn_meant told) ≡ plays.play_line s crew p l
+turned s crew p l turn told h meant is =
+    ap (λ t. plays.play_turn s crew p l (turn_meant t)) (sym is) ∙ ap (λ t. plays.play_turn s crew p l t) meant
+    ∙ sym (not_there p.full p (plays.play_turn s crew p l (plays.turn_of l)) h)

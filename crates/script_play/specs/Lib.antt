@@ -1,0 +1,5 @@
+pub mod Crews
+pub mod Looks
+pub mod Names
+pub mod Playable
+pub mod View

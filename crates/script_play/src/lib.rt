@@ -1,0 +1,13 @@
+//! Plays a script on one thread, on the sequential machine.
+#![tactic(auto)]
+
+mod blocks;
+mod crews;
+mod laws;
+mod lines;
+mod names;
+mod players;
+mod serial;
+
+pub use laws::each_script_can_be_played;
+pub use serial::{Played, play};
