@@ -1,121 +1,173 @@
--- What a run of the program comes to: our profile.
-use Rattle.std.specs.Prelude.{◌≡◌, ℕ, List, [], ◌∷◌, ◌++◌, codes, decimal, Option, Result, Ok, Err}
+-- What each command comes to, given all the bytes that it reads: our profile.
+use Rattle.std.specs.Prelude.{◌≡◌, ◌⊎◌, ℕ, List, [], ◌∷◌, ◌++◌, length, codes, decimal, Option, Some, None, Result, Ok, Err}
 use Rattle.std.specs.Io.KnownBytes.{Appends}
 use Rattle.byte_streams.specs.Streams.{AppendsFront}
-use Rattle.first_model.specs.declared.configs.Config.{Config}
-use Rattle.first_model.specs.declared.entries.Entry.{Entry}
-use Rattle.first_journal.specs.Journal.{first_journal}
-use Rattle.first_journal.specs.Writable.{IsWritable}
-use Rattle.first_script.specs.declared.faults.TextFault.{TextFault}
-use Rattle.first_script.specs.declared.faults.TextFault.TheVariants as fault
-use Rattle.first_script.specs.declared.scripts.Script.{Script}
-use Rattle.first_script.specs.Grammar.{IsTextOf, byte_limit}
-use Rattle.first_script.specs.Play.{serial_play}
-use Rattle.first_script.specs.Scripts.{Spells}
+use Rattle.drmaa_model.specs.declared.entries.Entry.{Entry}
+use Rattle.drmaa_model.specs.declared.replies.Reply.{Reply}
+use Rattle.drmaa_model.specs.History.{IsLegal}
+use Rattle.drmaa_model.specs.Infos.{infos}
+use Rattle.journal_text.specs.Journals as journals
+use Rattle.journal_text.specs.Journals.{journal_text}
+use Rattle.journal_text.specs.declared.journals.Journal.{Journal}
+use Rattle.journal_check.specs.Faults.{FirstFault}
+use Rattle.monitor_session.specs.Listings.{listing_text}
+use Rattle.script_asks.specs.Plays.{serial_play}
+use Rattle.script_text.specs.Scripts as scripts
+use Rattle.script_text.specs.declared.scripts.Mode.TheVariants as mode
+use Rattle.script_text.specs.declared.scripts.Script.{Script}
+use Rattle.text_codec.specs.Formats.{choose}
+use Rattle.text_lines.specs.Lines.{IsTextOf, IsFirstBad}
+use Rattle.text_lines.specs.Skipping.{SpellsKept}
+use Rattle.drmaa_script.specs.declared.commands.Command.{Command}
+use Rattle.drmaa_script.specs.declared.commands.Command.TheVariants.{Serial, Table, Check}
+use Rattle.drmaa_script.specs.declared.plays.Output.{Output}
+use Rattle.drmaa_script.specs.declared.plays.Output.TheVariants.{Journal as JournalOutput, Listing}
 use Rattle.drmaa_script.specs.declared.status.Status.{Status}
-use Rattle.drmaa_script.specs.declared.status.Status.TheVariants.{Done, Text, Words, ReadFault, WriteFault, Memory}
+use Rattle.drmaa_script.specs.declared.status.Status.TheVariants.{Done, Text, Words, ReadFault, WriteFault, Memory, JournalFull, NotLegal}
+use Rattle.drmaa_script.specs.Statuses.{IsRefused, IsUnread, ended_as}
 
--- the words of the one command
-abbrev pub serial_words : List (List ℕ)
-serial_words = codes "serial" ∷ []
+-- ---- texts
 
--- the bytes are the whole text of this script
+-- the lines of scripts, some of which are skipped
+abbrev pub SpellsScript : List (List ℕ) → Script → Type 0
+SpellsScript = SpellsKept (scripts.Spells mode.Serial)
+
+-- the bytes are the whole text of this script, and of this journal
 abbrev pub IsScriptText : List ℕ → Script → Type 0
-IsScriptText bytes script = IsTextOf Spells byte_limit bytes script
+IsScriptText bytes script = IsTextOf SpellsScript 16_777_216 bytes script
 
--- the journal of a script's play
+abbrev pub IsJournalText : List ℕ → Journal → Type 0
+IsJournalText bytes journal = IsTextOf journals.Spells 268_435_456 bytes journal
+
+-- the journal of a script's play, and the listing of all jobs of its last world
 abbrev pub journal_of : Script → List ℕ
-journal_of script = first_journal script.config (serial_play script)
+journal_of script = journal_text script.config (serial_play script).entries
 
--- no other writable journal has the text of this script's play
-abbrev pub IsOneJournal : Script → Type 0
-IsOneJournal script =
-    (config : Config) (entries : List Entry) → IsWritable config entries → first_journal config entries ≡ journal_of script →
-    (config ≡ script.config) × (entries ≡ serial_play script)
+abbrev pub listing_of : Script → List ℕ
+listing_of script = listing_text (infos (serial_play script).world)
 
--- The bytes spell a script, and the journal of its play was written. It is writable, and no other writable journal has its text.
-pub record WritesJournal (bytes : List ℕ) (old new : Option (List ℕ)) : Type 0 where
-  pub script : Script
-  pub spelled : IsScriptText bytes script
-  pub written : Appends old new (journal_of script)
-  pub writable : IsWritable script.config (serial_play script)
-  pub one : IsOneJournal script
+-- what is written of a play: the command's own text, or the journal where the play stopped
+abbrev pub play_text : (Script → List ℕ) → Script → List ℕ
+play_text own script = choose (serial_play script).full (λ (size : ℕ). journal_of script) (own script)
 
--- the bytes spell a script, and a front of the journal of its play was written
-pub record WritesFront (bytes : List ℕ) (old new : Option (List ℕ)) : Type 0 where
-  pub script : Script
-  pub spelled : IsScriptText bytes script
-  pub written : AppendsFront old new (journal_of script)
+-- what is written of a legal history
+abbrev pub legal_text : List Entry → List ℕ
+legal_text entries = codes "legal " ++ decimal (length entries) ++ 10 ∷ []
 
--- at this status the sink was not asked
-abbrev pub IsQuiet : Status → Type 0
-IsQuiet Done = ⊥
-IsQuiet (Text line) = Unit {0}
-IsQuiet Words = Unit {0}
-IsQuiet ReadFault = Unit {0}
-IsQuiet WriteFault = ⊥
-IsQuiet Memory = Unit {0}
+-- ---- commands that play a script
 
--- the journal was written, or memory ran out
-abbrev pub IsDone : Status → Type 0
-IsDone Done = Unit {0}
-IsDone (Text line) = ⊥
-IsDone Words = ⊥
-IsDone ReadFault = ⊥
-IsDone WriteFault = ⊥
-IsDone Memory = Unit {0}
+-- For each status: what the bytes are, and what was written of them, by what the sink had before and has then.
+abbrev pub PlayEnds : (Script → List ℕ) → List ℕ → Status → Option (List ℕ) → Option (List ℕ) → Type 0
+PlayEnds own bytes Done old new = (script : Script) × IsScriptText bytes script × ((serial_play script).full ≡ None) × Appends old new (own script)
+PlayEnds own bytes (Text line) old new = IsFirstBad SpellsScript 16_777_216 bytes line
+PlayEnds own bytes Words old new = ⊥
+PlayEnds own bytes ReadFault old new = Unit {0}
+PlayEnds own bytes WriteFault old new = (script : Script) × IsScriptText bytes script × AppendsFront old new (play_text own script)
+PlayEnds own bytes Memory old new = Unit {0}
+PlayEnds own bytes (JournalFull size) old new = (script : Script) × IsScriptText bytes script × ((serial_play script).full ≡ Some size) × Appends old new (journal_of script)
+PlayEnds own bytes (NotLegal entry given machine) old new = ⊥
 
--- a line was refused, or memory ran out
-abbrev pub IsRefused : Status → Type 0
-IsRefused Done = ⊥
-IsRefused (Text line) = Unit {0}
-IsRefused Words = ⊥
-IsRefused ReadFault = ⊥
-IsRefused WriteFault = ⊥
-IsRefused Memory = Unit {0}
+-- Where no read and no write failed: a script is played, and other bytes are refused, unless memory runs out.
+pub record PlayIsWhole (bytes : List ℕ) (status : Status) : Type 0 where
+  pub script : (s : Script) → IsScriptText bytes s → (status ≡ ended_as (serial_play s).full) ⊎ (status ≡ Memory)
+  pub other : ((s : Script) → IsScriptText bytes s → ⊥) → IsRefused status
 
--- the number with which the program ends
-abbrev pub status_number : Status → ℕ
-status_number Done = 0
-status_number (Text line) = 1
-status_number Words = 2
-status_number ReadFault = 3
-status_number WriteFault = 4
-status_number Memory = 5
+-- ---- the check of a journal
 
--- what is said of a status
-abbrev pub status_text : Status → List ℕ
-status_text Done = codes "done"
-status_text (Text line) = codes "line " ++ decimal line ++ codes " is not in the grammar"
-status_text Words = codes "unknown words"
-status_text ReadFault = codes "reading failed"
-status_text WriteFault = codes "writing failed"
-status_text Memory = codes "out of memory"
+abbrev pub CheckEnds : List ℕ → Status → Option (List ℕ) → Option (List ℕ) → Type 0
+CheckEnds bytes Done old new = (j : Journal) × IsJournalText bytes j × IsLegal j.config j.entries × Appends old new (legal_text j.entries)
+CheckEnds bytes (Text line) old new = IsFirstBad journals.Spells 268_435_456 bytes line
+CheckEnds bytes Words old new = ⊥
+CheckEnds bytes ReadFault old new = Unit {0}
+CheckEnds bytes WriteFault old new = (j : Journal) × IsJournalText bytes j × IsLegal j.config j.entries × AppendsFront old new (legal_text j.entries)
+CheckEnds bytes Memory old new = Unit {0}
+CheckEnds bytes (JournalFull size) old new = ⊥
+CheckEnds bytes (NotLegal entry given machine) old new = (j : Journal) × IsJournalText bytes j × FirstFault j.config j.entries entry given machine
 
--- why a script was not read
-abbrev pub IsReadStatus : Status → Type 0
-IsReadStatus Done = ⊥
-IsReadStatus (Text line) = Unit {0}
-IsReadStatus Words = ⊥
-IsReadStatus ReadFault = Unit {0}
-IsReadStatus WriteFault = ⊥
-IsReadStatus Memory = Unit {0}
+-- Where no read and no write failed: a legal history is found legal, and another one not, with its first fault, and other
+-- bytes are refused, unless memory runs out.
+pub record CheckIsWhole (bytes : List ℕ) (status : Status) : Type 0 where
+  pub legal : (j : Journal) → IsJournalText bytes j → IsLegal j.config j.entries → (status ≡ Done) ⊎ (status ≡ Memory)
+  pub fault : (j : Journal) (entry : ℕ) (given : Reply) (machine : Option Reply) → IsJournalText bytes j → FirstFault j.config j.entries entry given machine
+      → (status ≡ NotLegal entry given machine) ⊎ (status ≡ Memory)
+  pub other : ((j : Journal) → IsJournalText bytes j → ⊥) → IsRefused status
 
--- the fault of a text, as a status
-abbrev pub status_of : TextFault → Status
-status_of (fault.Line line) = Text line
-status_of fault.OutOfMemory = Memory
+-- ---- all commands
 
--- no line was refused
-abbrev pub IsNoLine : Status → Type 0
-IsNoLine Done = ⊥
-IsNoLine (Text line) = ⊥
-IsNoLine Words = ⊥
-IsNoLine ReadFault = Unit {0}
-IsNoLine WriteFault = ⊥
-IsNoLine Memory = Unit {0}
+abbrev pub Ends : Command → List ℕ → Status → Option (List ℕ) → Option (List ℕ) → Type 0
+Ends Serial = PlayEnds journal_of
+Ends Table = PlayEnds listing_of
+Ends Check = CheckEnds
 
--- this script was read, unless a read failed or memory ran out
-abbrev pub IsReadAs : Script → Result Script Status → Type 0
-IsReadAs script (Ok found) = found ≡ script
-IsReadAs script (Err status) = IsNoLine status
+abbrev pub IsWhole : Command → List ℕ → Status → Type 0
+IsWhole Serial = PlayIsWhole
+IsWhole Table = PlayIsWhole
+IsWhole Check = CheckIsWhole
+
+-- a journal is written at this status: of a whole play, or of one that stopped
+abbrev pub WritesPlay : Output → Status → Type 0
+WritesPlay JournalOutput Done = Unit {0}
+WritesPlay Listing Done = ⊥
+WritesPlay output (Text line) = ⊥
+WritesPlay output Words = ⊥
+WritesPlay output ReadFault = ⊥
+WritesPlay output WriteFault = ⊥
+WritesPlay output Memory = ⊥
+WritesPlay output (JournalFull size) = Unit {0}
+WritesPlay output (NotLegal entry given machine) = ⊥
+
+abbrev pub WritesJournal : Command → Status → Type 0
+WritesJournal Serial status = WritesPlay JournalOutput status
+WritesJournal Table status = WritesPlay Listing status
+WritesJournal Check status = ⊥
+
+-- ---- readers
+
+-- this was read, or a read failed, or memory ran out
+abbrev pub IsReadAs : {A : Type 0} → A → Result A Status → Type 0
+IsReadAs text (Ok found) = found ≡ text
+IsReadAs text (Err status) = (status ≡ ReadFault) ⊎ (status ≡ Memory)
+
+-- some lines are this script's
+abbrev pub IsSpelled : Script → Type 0
+IsSpelled script = (lines : List (List ℕ)) × scripts.Spells mode.Serial lines script
+
+-- ---- a script that was read
+
+-- what a play's command writes where the play was whole
+abbrev pub own_of : Output → Script → List ℕ
+own_of JournalOutput = journal_of
+own_of Listing = listing_of
+
+-- how the play of a script ends, by what the sink had before and has then
+abbrev pub PlayedEnds : (Script → List ℕ) → Script → Status → Option (List ℕ) → Option (List ℕ) → Type 0
+PlayedEnds own script Done old new = ((serial_play script).full ≡ None) × Appends old new (own script)
+PlayedEnds own script (Text line) old new = ⊥
+PlayedEnds own script Words old new = ⊥
+PlayedEnds own script ReadFault old new = ⊥
+PlayedEnds own script WriteFault old new = AppendsFront old new (play_text own script)
+PlayedEnds own script Memory old new = Unit {0}
+PlayedEnds own script (JournalFull size) old new = ((serial_play script).full ≡ Some size) × Appends old new (journal_of script)
+PlayedEnds own script (NotLegal entry given machine) old new = ⊥
+
+-- a journal is written of such a play
+abbrev pub HasJournal : Output → Option ℕ → Type 0
+HasJournal JournalOutput full = Unit {0}
+HasJournal Listing None = ⊥
+HasJournal Listing (Some size) = Unit {0}
+
+-- the journal of the play can be written and read
+abbrev pub IsWritten : Script → Type 0
+IsWritten script = journals.IsWritable script.config (serial_play script).entries
+
+-- ---- a journal that was read
+
+abbrev pub CheckedEnds : Journal → Status → Option (List ℕ) → Option (List ℕ) → Type 0
+CheckedEnds j Done old new = IsLegal j.config j.entries × Appends old new (legal_text j.entries)
+CheckedEnds j (Text line) old new = ⊥
+CheckedEnds j Words old new = ⊥
+CheckedEnds j ReadFault old new = ⊥
+CheckedEnds j WriteFault old new = IsLegal j.config j.entries × AppendsFront old new (legal_text j.entries)
+CheckedEnds j Memory old new = Unit {0}
+CheckedEnds j (JournalFull size) old new = ⊥
+CheckedEnds j (NotLegal entry given machine) old new = FirstFault j.config j.entries entry given machine

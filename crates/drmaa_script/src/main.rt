@@ -1,4 +1,5 @@
-//! The program `drmaa`: plays a script of clients, and writes the journal of what they were answered.
+//! The program `drmaa`: plays scripts of clients, writes the journal of what they were answered or the listing of their jobs,
+//! and checks journals.
 #![tactic(auto)]
 
 use byte_streams::{StdSink, StdSource};
@@ -7,12 +8,13 @@ use std::alloc::{AllocError, Global};
 use std::process::ExitCode;
 use std::{env, io};
 
+mod checks;
 mod commands;
+mod inputs;
+mod plays;
 mod status;
-#[cfg(test)]
-mod tests;
 
-pub use commands::run;
+pub use commands::{Command, run};
 pub use status::Status;
 
 /// The words behind the program's name.
@@ -42,7 +44,7 @@ fn main(rt: HostRuntime) -> ExitCode {
         }
         Err(error) => word_status(&error),
     };
-    if status != Status::Done {
+    if !matches!(status, Status::Done) {
         // Where standard error takes nothing, the number alone has to tell.
         let _ = eprintln!(rt; "drmaa: {status}");
     }

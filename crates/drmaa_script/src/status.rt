@@ -1,15 +1,20 @@
 //! How a run ends.
 ghost use Rattle.std.specs.Prelude.{◌≡◌};
+ghost use Rattle.drmaa_script.specs.Statuses.{status_of};
 
+use drmaa_model::Reply;
 use std::fmt;
+use text_lines::TextFault;
 
-/// How a run ends. The statuses have the numbers 0 to 5 in this order.
-#[derive(Clone, Copy, Debug, PartialEq, Eq)]
+/// How a run ends. The statuses have the numbers 0 to 7 in this order.
+#[derive(Drop)]
 pub enum Status {
-    /// The journal was written.
+    /// What the command writes was written.
     Done,
     /// The text is not in its grammar: the number, from 1, of the first line after which no text goes on.
-    Text { line: u64 },
+    Text {
+        line: u64,
+    },
     /// The words are no command.
     Words,
     /// A read of the source failed.
@@ -18,14 +23,36 @@ pub enum Status {
     WriteFault,
     /// Memory ran out.
     Memory,
+    /// The play stopped before a step after which the journal would have had this size, which is above the greatest. The
+    /// journal of the entries made was written.
+    JournalFull {
+        size: u64,
+    },
+    /// The journal is not legal: the number, from 1, of its first entry that is no step, the reply that it has, and the
+    /// machine's at its place. None where the machine makes no entry there, or its journal would be too large.
+    NotLegal {
+        entry: u64,
+        given: Reply,
+        machine: Option<Reply>,
+    },
+}
+
+/// Why no text was read, as a status.
+pub fn status_of(fault: TextFault) -> Status
+    ensures { result ≡ status_of fault }
+{
+    match fault {
+        TextFault::Line(line) => Status::Text { line },
+        TextFault::OutOfMemory => Status::Memory,
+    }
 }
 
 impl Status {
-    ghost use Rattle.drmaa_script.specs.Outcomes.{status_number};
+    ghost use Rattle.drmaa_script.specs.Statuses.{status_number};
 
     /// The number with which the program ends.
-    pub fn number(self) -> u8
-        ensures { result ≡ status_number self }
+    pub fn number(&self) -> u8
+        ensures { result ≡ status_number self.now }
     {
         match self {
             Status::Done => 0,
@@ -34,13 +61,15 @@ impl Status {
             Status::ReadFault => 3,
             Status::WriteFault => 4,
             Status::Memory => 5,
+            Status::JournalFull { .. } => 6,
+            Status::NotLegal { .. } => 7,
         }
     }
 }
 
 impl fmt::Display for Status {
     ghost use Rattle.std.specs.Fmt.{WritesOnOk};
-    ghost use Rattle.drmaa_script.specs.Outcomes.{status_text};
+    ghost use Rattle.drmaa_script.specs.Statuses.{status_text};
 
     fn fmt<W: fmt::Write>(&self, f: &mut fmt::Formatter<W>) -> fmt::Result
         ensures { WritesOnOk W.write_str_gives f.old result (status_text self.now) f.new }
@@ -52,6 +81,8 @@ impl fmt::Display for Status {
             Status::ReadFault => write!(f, "reading failed"),
             Status::WriteFault => write!(f, "writing failed"),
             Status::Memory => write!(f, "out of memory"),
+            Status::JournalFull { size } => write!(f, "journal full at {size}"),
+            Status::NotLegal { entry, .. } => write!(f, "entry {entry} is not legal"),
         }
     }
 }

@@ -1,0 +1,34 @@
+use Rattle.std.proofs.Common.{◌≡◌, ℕ, List, Option, Result, Ok, Err, ◌⊎◌, inl, inr, refl, sym, ap, subst, ◌∙◌}
+use Rattle.std.proofs.lemmas.Option.{IfSome_then}
+use Rattle.drmaa_model.specs.History.{IsLegal}
+use Rattle.drmaa_model.specs.declared.replies.Reply.{Reply}
+use Rattle.journal_check.specs.Faults.{FirstFault}
+use Rattle.journal_text.specs.Journals as journals
+use Rattle.journal_text.specs.declared.journals.Journal.{Journal}
+use Rattle.script_asks.specs.Plays.{serial_play}
+use Rattle.script_text.specs.declared.scripts.Script.{Script}
+use Rattle.text_lines.specs.Lines.{IsFirstBad}
+use Rattle.drmaa_script.specs.declared.status.Status.{Status}
+use Rattle.drmaa_script.specs.declared.status.Status.TheVariants.{Text, ReadFault, Memory}
+use Rattle.drmaa_script.specs.Outcomes.{SpellsScript, IsScriptText, IsJournalText, IsReadAs, IsWritten, PlayIsWhole, CheckIsWhole, own_of}
+use Rattle.drmaa_script.specs.Statuses.{ended_as}
+use Rattle.drmaa_script.proofs.Played.{unread_check}
+use Rattle.drmaa_script.proofs.Somes.{some_both, some_all}
+use Rattle.drmaa_script.proofs.checks.run_check.Goals as goal
+
+err_is : (a b : Status) → a ≡ b → ◌≡◌ {A = Result Journal Status} (Err a) (Err b)
+err_is a b e = ap (λ (x : Status). let r : Result Journal Status = Err x in r) e
+
+pub returns-in-Ok-clause-whole : goal.returns-in-Ok-clause-whole
+returns-in-Ok-clause-whole g c = λ calm quiet.
+    some_both (g.R.Source.left c.args.source.now) (λ bytes. IsJournalText bytes c.in-Ok.journal) (λ bytes. (j : Journal) → IsJournalText bytes j → c.in-Ok.journal ≡ j) (λ bytes. CheckIsWhole bytes c.write_check.result) (λ bytes spelled only. record {
+      legal = λ j t legal. c.write_check.ensures.legal quiet (subst (λ (x : Journal). IsLegal x.config x.entries) (sym (only j t)) legal);
+      fault = λ j entry given machine t f. c.write_check.ensures.wrong entry given machine (subst (λ (x : Journal). FirstFault x.config x.entries entry given machine) (sym (only j t)) f);
+      other = λ none. absurd (none c.in-Ok.journal spelled);
+    }) c.in-Ok.ensures.found c.in-Ok.ensures.only
+
+pub returns-in-Err-clause-ends : goal.returns-in-Err-clause-ends
+returns-in-Err-clause-ends g c =
+    let left = g.R.Source.left c.args.source.now in
+    IfSome_then left (some_all left (λ n. ◌≡◌ {A = Result Journal Status} (Err c.in-Err.status) (Err (Text n))) (λ n bytes. IsFirstBad journals.Spells 268_435_456 bytes n) c.in-Err.ensures.line) (λ bytes line.
+    unread_check bytes c.in-Err.status _ _ c.in-Err.ensures.causes (λ n e. line n (err_is c.in-Err.status (Text n) e)))

@@ -1,4 +1,0 @@
-pub mod Lexical
-pub mod Reading
-pub mod Lexemes
-pub mod Names

@@ -1,6 +1,0 @@
-pub mod Pieces
-pub mod Spellings
-pub mod Calls
-pub mod Replies
-pub mod Journal
-pub mod Writable

@@ -1,4 +1,0 @@
-pub mod Priorities
-pub mod RowSteps
-pub mod Serving
-pub mod StepsMade

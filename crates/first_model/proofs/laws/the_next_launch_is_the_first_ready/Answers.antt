@@ -1,8 +1,0 @@
-use Rattle.first_model.specs.OrderLaws.{consistent-first, next_launch-none}
-use Rattle.first_model.proofs.laws.the_next_launch_is_the_first_ready.Goals as goal
-
-pub returns-clause-first : goal.returns-clause-first
-returns-clause-first c = consistent-first
-
-pub returns-clause-none : goal.returns-clause-none
-returns-clause-none c = next_launch-none

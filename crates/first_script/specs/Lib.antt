@@ -1,9 +1,0 @@
-pub mod Forms
-pub mod Scripts
-pub mod Reading
-pub mod Taking
-pub mod Keywords
-pub mod Grammar
-pub mod Automaton
-pub mod Splitting
-pub mod Play
