@@ -80,6 +80,27 @@ fn own_text(
     }
 }
 
+/// What is written of a play: the journal where the play stopped.
+fn text_of(
+    alloc: Global,
+    output: Output,
+    script: &Script,
+    machine: &Machine,
+    full: Option<u64>,
+) -> Result<Bytes, AllocError>
+    requires spelled { IsSpelled script.now }
+    requires played { machine.now.ledger ≡ record { config = script.now.config; history = (serial_play script.now).entries } }
+    requires world { now_of machine.now.ledger ≡ (serial_play script.now).world }
+    requires full { full ≡ (serial_play script.now).full }
+    ensures text { IfOk result (λ bytes. bytes ≡ play_text (own_of output) script.now) }
+    ensures writable { HasJournal output (serial_play script.now).full → OnOk result (IsWritten script.now) }
+{
+    match full {
+        Some(_) => journal_of(alloc, script, machine),
+        None => own_text(alloc, output, script, machine),
+    }
+}
+
 /// Plays a script, and gives what is written of the play.
 fn played_text(alloc: Global, output: Output, script: &Script) -> Result<PlayText, AllocError>
     requires { IsSpelled script.now }
@@ -89,10 +110,7 @@ fn played_text(alloc: Global, output: Output, script: &Script) -> Result<PlayTex
 {
     each_script_can_be_played();
     let Played { machine, full } = play(alloc, script)?;
-    let bytes = match full {
-        Some(_) => journal_of(alloc, script, &machine)?,
-        None => own_text(alloc, output, script, &machine)?,
-    };
+    let bytes = text_of(alloc, output, script, &machine, full)?;
     Ok(PlayText { bytes, full })
 }
 
