@@ -1,35 +1,31 @@
 -- What a call comes to in a world, from what the function that serves it promises.
-use Rattle.std.proofs.Common.{◌≡◌, ℕ, ◌<◌, ◌≤◌, true, inl, inr, Some, None, refl, sym, ◌∙◌, ap, subst, arith}
+use Rattle.std.proofs.Common.{◌≡◌, ℕ, ◌<◌, ◌≤◌, true, inl, inr, None, refl, sym, ◌∙◌, ap, subst, arith}
 use Rattle.std.specs.Prelude.{◌⊎◌, max, Result, Ok, Err, IsSome}
 use Rattle.drmaa_types.specs.Moments.{greatest}
 use Rattle.drmaa_types.specs.declared.identifiers.CallerId.{CallerId}
 use Rattle.drmaa_types.specs.declared.refusals.Refusal.{Refusal}
 use Rattle.drmaa_types.specs.declared.refusals.Refusal.TheVariants as why
 use Rattle.drmaa_model.specs.declared.calls.Call.{Call}
-use Rattle.drmaa_model.specs.declared.calls.Call.TheVariants as call
-use Rattle.drmaa_model.specs.declared.entries.Entry.{Entry}
 use Rattle.drmaa_model.specs.declared.faults.NoEntry.{NoEntry}
 use Rattle.drmaa_model.specs.declared.faults.NoEntry.TheVariants as fault
 use Rattle.drmaa_model.specs.declared.replies.Reply.{Reply}
 use Rattle.drmaa_model.specs.declared.replies.Reply.TheVariants as reply
-use Rattle.drmaa_model.specs.declared.rows.Row.{Row}
 use Rattle.drmaa_model.specs.AnswerLaws.{refused-gives}
 use Rattle.drmaa_model.specs.Consistent.{IsConsistent}
 use Rattle.drmaa_model.specs.Effects.{StepAnswer, gives, nothing, not_yet}
-use Rattle.drmaa_model.specs.Honoured.{IsOnTime, IsDueInside, reservations-honoured}
+use Rattle.drmaa_model.specs.Honoured.{reservations-honoured}
 use Rattle.drmaa_model.specs.Order.{next_launch}
-use Rattle.drmaa_model.specs.Refusals.{refusal}
 use Rattle.drmaa_model.specs.Size.{size}
 use Rattle.drmaa_model.specs.StepLaws.{advance-consistent, step-edges}
 use Rattle.drmaa_model.specs.Steps.{answer, IsStep}
 use Rattle.drmaa_model.specs.Time.{advance}
-use Rattle.drmaa_model.specs.WaitLaws.{HandsOut, SendsOut, launch-hands_out, launch-nothing, signal-sends_out}
+use Rattle.drmaa_model.specs.WaitLaws.{launch-hands_out, launch-nothing, signal-sends_out}
 use Rattle.drmaa_model.specs.World.{World, counted}
 use Rattle.machine_calls.specs.declared.replies.Replies.{Replies}
 use Rattle.machine_calls.specs.Serving.{Comes, is_sized_first}
 use Rattle.machine_calls.specs.Serving.Comes.{answers, is_full, finds_none, waits, is_short}
 use Rattle.drmaa_machine.specs.Applies.{ComesTo, entry_of}
-use Rattle.drmaa_machine.specs.Applying.{IsTooLarge, IsOver, IsRefusedFor, is_submission}
+use Rattle.drmaa_machine.specs.Applying.{IsTooLarge, is_submission}
 use Rattle.drmaa_machine.proofs.KeptOnes.{sized-or}
 use Rattle.drmaa_machine.proofs.Refusing.{given-reply, given-world, refused-for, over-answer}
 

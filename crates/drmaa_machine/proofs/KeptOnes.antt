@@ -1,15 +1,13 @@
 -- The call that an entry keeps is the call itself, but where jobs are submitted.
 use Rattle.std.proofs.Common.{◌≡◌, ℕ, true, false, inl, inr, Some, None, refl, sym, ◌∙◌, ap}
 use Rattle.std.specs.Prelude.{◌⊎◌, Err}
-use Rattle.std.specs.Option.{option_map_or}
-use Rattle.drmaa_types.specs.declared.refusals.Refusal.{Refusal}
 use Rattle.drmaa_model.specs.declared.calls.Call.{Call}
 use Rattle.drmaa_model.specs.declared.calls.Call.TheVariants as call
 use Rattle.drmaa_model.specs.declared.faults.NoEntry.TheVariants as fault
 use Rattle.drmaa_model.specs.declared.replies.Reply.{Reply}
 use Rattle.drmaa_model.specs.declared.replies.Reply.TheVariants as reply
 use Rattle.drmaa_model.specs.AnswerLaws.{refused-gives, served-gives}
-use Rattle.drmaa_model.specs.Effects.{gives, makes, effect}
+use Rattle.drmaa_model.specs.Effects.{gives, effect}
 use Rattle.drmaa_model.specs.KeptCalls.{kept}
 use Rattle.drmaa_model.specs.Refusals.{refusal}
 use Rattle.drmaa_model.specs.Steps.{answer}
@@ -17,12 +15,13 @@ use Rattle.drmaa_model.specs.Time.{advance}
 use Rattle.drmaa_model.specs.World.{World, counted}
 use Rattle.machine_calls.specs.Serving.{Comes, is_sized_first}
 use Rattle.machine_calls.specs.Serving.Comes.{is_short}
-use Rattle.drmaa_machine.specs.Applying.{is_submission, is_foreseen, is_run_report}
+use Rattle.drmaa_machine.specs.Applying.{is_submission, is_foreseen, is_frugal, is_run_report}
 
 -- what is known of a call that submits jobs
 pub record IsSubmitting (c : Call) : Type 0 where
   pub asked : is_submission c ≡ true
   pub unforeseen : is_foreseen c ≡ false
+  pub lavish : is_frugal c ≡ false
   pub no_report : is_run_report c ≡ false
   pub kept_so : is_submission (kept c) ≡ true
   pub kept_unsized : is_sized_first (kept c) ≡ false
@@ -40,8 +39,8 @@ kept-or call.JobSessionNames = inl refl
 kept-or call.ReservationSessionNames = inl refl
 kept-or call.OpenMonitoring = inl refl
 kept-or (call.CloseSession session) = inl refl
-kept-or (call.RunJob session t) = inr record { asked = refl; unforeseen = refl; no_report = refl; kept_so = refl; kept_unsized = refl; kept_unforeseen = refl; kept_no_report = refl }
-kept-or (call.RunBulk session t indices) = inr record { asked = refl; unforeseen = refl; no_report = refl; kept_so = refl; kept_unsized = refl; kept_unforeseen = refl; kept_no_report = refl }
+kept-or (call.RunJob session t) = inr record { asked = refl; unforeseen = refl; lavish = refl; no_report = refl; kept_so = refl; kept_unsized = refl; kept_unforeseen = refl; kept_no_report = refl }
+kept-or (call.RunBulk session t indices) = inr record { asked = refl; unforeseen = refl; lavish = refl; no_report = refl; kept_so = refl; kept_unsized = refl; kept_unforeseen = refl; kept_no_report = refl }
 kept-or (call.GetJobs session filter) = inl refl
 kept-or (call.GetJobArray session array) = inl refl
 kept-or (call.Control session meant what) = inl refl
@@ -82,8 +81,8 @@ submits call.JobSessionNames is = absurd (cc)
 submits call.ReservationSessionNames is = absurd (cc)
 submits call.OpenMonitoring is = absurd (cc)
 submits (call.CloseSession session) is = absurd (cc)
-submits (call.RunJob session t) is = record { asked = refl; unforeseen = refl; no_report = refl; kept_so = refl; kept_unsized = refl; kept_unforeseen = refl; kept_no_report = refl }
-submits (call.RunBulk session t indices) is = record { asked = refl; unforeseen = refl; no_report = refl; kept_so = refl; kept_unsized = refl; kept_unforeseen = refl; kept_no_report = refl }
+submits (call.RunJob session t) is = record { asked = refl; unforeseen = refl; lavish = refl; no_report = refl; kept_so = refl; kept_unsized = refl; kept_unforeseen = refl; kept_no_report = refl }
+submits (call.RunBulk session t indices) is = record { asked = refl; unforeseen = refl; lavish = refl; no_report = refl; kept_so = refl; kept_unsized = refl; kept_unforeseen = refl; kept_no_report = refl }
 submits (call.GetJobs session filter) is = absurd (cc)
 submits (call.GetJobArray session array) is = absurd (cc)
 submits (call.Control session meant what) is = absurd (cc)
@@ -213,6 +212,13 @@ kept-foreseen c is =
     elim (kept-or c) as (λ _. is_foreseen (kept c) ≡ true) [
       | inl same ↦ ap is_foreseen (sym same) ∙ is
       | inr known ↦ (let never = known.unforeseen in absurd (cc))
+    ]
+
+pub kept-frugal : (c : Call) → is_frugal c ≡ true → is_frugal (kept c) ≡ true
+kept-frugal c is =
+    elim (kept-or c) as (λ _. is_frugal (kept c) ≡ true) [
+      | inl same ↦ ap is_frugal (sym same) ∙ is
+      | inr known ↦ (let never = known.lavish in absurd (cc))
     ]
 
 pub kept-report : (c : Call) → is_run_report c ≡ true → (c ≡ kept c) × (is_run_report (kept c) ≡ true)

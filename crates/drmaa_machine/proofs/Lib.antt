@@ -3,3 +3,4 @@ pub mod Comings
 pub mod KeptOnes
 pub mod Refusing
 pub mod Storing
+pub mod Tellings

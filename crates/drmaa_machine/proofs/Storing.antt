@@ -1,5 +1,5 @@
 -- What every machine keeps, through a call that makes no entry and through one that does.
-use Rattle.std.proofs.Common.{◌≡◌, ℕ, ◌+◌, ◌≤◌, List, [], ◌∷◌, ◌++◌, refl, sym, ◌∙◌, ap, subst, arith}
+use Rattle.std.proofs.Common.{◌≡◌, ℕ, ◌+◌, ◌≤◌, List, [], ◌∷◌, ◌++◌, refl, sym, ◌∙◌, ap, subst, arith, length}
 use Rattle.std.specs.Prelude.{max, Ok, Err, vec_len, vec_capacity}
 use Rattle.drmaa_types.specs.Moments.{greatest}
 use Rattle.drmaa_types.specs.declared.identifiers.CallerId.{CallerId}
@@ -8,18 +8,22 @@ use Rattle.drmaa_model.specs.declared.configs.Config.{Config}
 use Rattle.drmaa_model.specs.declared.entries.Entry.{Entry}
 use Rattle.drmaa_model.specs.declared.faults.NoEntry.{NoEntry}
 use Rattle.drmaa_model.specs.declared.replies.Reply.{Reply}
+use Rattle.drmaa_model.specs.declared.rows.Row.{Row}
 use Rattle.drmaa_model.specs.Consistent.{IsConsistent}
 use Rattle.drmaa_model.specs.Effects.{gives}
-use Rattle.drmaa_model.specs.History.{Ledger, IsLegal, replay, now_of}
+use Rattle.drmaa_model.specs.History.{Ledger, IsLegal, now_of}
 use Rattle.drmaa_model.specs.HistoryLaws.{legal-push, replay-step}
+use Rattle.drmaa_model.specs.Honoured.{IsOnTime, IsDueInside, honoured-slots}
+use Rattle.drmaa_model.specs.Order.{held}
 use Rattle.drmaa_model.specs.Size.{size}
-use Rattle.drmaa_model.specs.StepLaws.{step-consistent, step-moment}
+use Rattle.drmaa_model.specs.SizeLaws.{legal-length}
+use Rattle.drmaa_model.specs.StepLaws.{advance-consistent, step-consistent, step-moment}
 use Rattle.drmaa_model.specs.Steps.{answer, IsStep}
 use Rattle.drmaa_model.specs.World.{World}
 use Rattle.scheduler_core.specs.Facts.{reports_to_come}
 use Rattle.scheduler_core.specs.View.{View}
 use Rattle.machine_readings.specs.declared.store.Store.{Store}
-use Rattle.machine_readings.specs.Stores.{world_of, IsKept}
+use Rattle.machine_readings.specs.Stores.{world_of, world_at}
 use Rattle.machine_calls.specs.declared.replies.Replies.{Replies}
 use Rattle.machine_calls.specs.Serving.{Comes, Keeps, HasPlace, left_of, spare_of}
 use Rattle.drmaa_machine.specs.Applies.{Applies, ComesTo, entry_of}
@@ -37,6 +41,14 @@ module _ (s : Store) (m : IsMachine s) where
 
   pub now-moment : (now_of (ledger_of s)).plan.moment ≤ greatest
   now-moment = subst (λ (w : World). w.plan.moment ≤ greatest) m.replayed m.moment
+
+  -- the slots of a job whose reservation has them are free
+  pub slots-free : (at : ℕ) → at ≤ greatest → (row : Row) → IsOnTime (world_at at s).plan → IsDueInside (world_at at s).plan row
+      → held (world_at at s).plan.rows + row.wants.min ≤ (world_at at s).plan.total
+  slots-free at coming row time due =
+      let now = m.moment in
+      let low : max s.core.plan.moment at ≤ greatest = omega (arith, now, coming) in
+      honoured-slots (world_at at s).plan row low (advance-consistent (world_of s) at m.kept.consistent).fit time due
 
   -- nothing but memory has changed
   pub machine-same : (t : Store) → Keeps s t → world_of t ≡ world_of s → IsMachine t × (ledger_of t ≡ ledger_of s)
@@ -143,3 +155,7 @@ left-pushed mid t core len capacity =
 
 pub left-spare : (t : Store) → left_of t ≤ spare_of t
 left-spare t = omega arith
+
+-- a machine has no more entries than the greatest journal
+pub few-entries : (s : Store) → IsMachine s → length s.history.items ≤ 4000000
+few-entries s m = let within = legal-length s.config s.history.items m.legal in let most = m.kept.journal in omega (arith, within, most)

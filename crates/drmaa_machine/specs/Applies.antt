@@ -1,6 +1,6 @@
 -- What a call comes to that a machine serves: the clauses of `Machine::apply`, over what it has served. The call is as an
 -- entry keeps it.
-use Rattle.std.specs.Prelude.{◌≡◌, ◌≢◌, ◌↔◌, ◌⊎◌, ℕ, true, None, Some, Result, Ok, Err, IfOk, OnOk, OnErr}
+use Rattle.std.specs.Prelude.{◌≡◌, ◌≢◌, ◌↔◌, ◌⊎◌, ℕ, true, Some, Result, Ok, Err, IfOk, OnOk, OnErr}
 use Rattle.drmaa_types.specs.declared.identifiers.CallerId.{CallerId}
 use Rattle.drmaa_types.specs.declared.refusals.Refusal.{Refusal}
 use Rattle.drmaa_types.specs.declared.refusals.Refusal.TheVariants as why

@@ -130,6 +130,45 @@ is_foreseen call.TakeSignal = false
 is_foreseen (call.SignalDone job attempt kind) = false
 is_foreseen (call.SignalFailed job attempt kind) = false
 
+-- the call uses one entry, and one change at most: it neither submits nor launches a job, and holds or releases one at most
+abbrev pub is_frugal : Call → Bool
+is_frugal (call.CreateJobSession name) = true
+is_frugal (call.CreateReservationSession name) = true
+is_frugal (call.OpenJobSession name) = true
+is_frugal (call.OpenReservationSession name) = true
+is_frugal (call.DestroyJobSession name) = true
+is_frugal (call.DestroyReservationSession name) = true
+is_frugal call.JobSessionNames = true
+is_frugal call.ReservationSessionNames = true
+is_frugal call.OpenMonitoring = true
+is_frugal (call.CloseSession session) = true
+is_frugal (call.RunJob session t) = false
+is_frugal (call.RunBulk session t indices) = false
+is_frugal (call.GetJobs session filter) = true
+is_frugal (call.GetJobArray session array) = true
+is_frugal (call.Control session meant what) = is_one_quiet meant what
+is_frugal (call.Reap session meant) = true
+is_frugal (call.GetState session job) = true
+is_frugal (call.GetInfo session job) = true
+is_frugal (call.Wait session listed kind begun timeout) = true
+is_frugal (call.RequestReservation session t) = true
+is_frugal (call.GetReservation session number) = true
+is_frugal (call.GetReservations session) = true
+is_frugal (call.EndReservation session number) = true
+is_frugal (call.AllJobs session filter) = true
+is_frugal (call.AllReservations session) = true
+is_frugal (call.AllQueues session) = true
+is_frugal (call.AllMachines session) = true
+is_frugal call.Register = true
+is_frugal call.TakeLaunch = false
+is_frugal (call.Started job attempt) = true
+is_frugal (call.StartFailed job attempt) = true
+is_frugal (call.Exited job attempt exit) = true
+is_frugal (call.ExitUnknown job attempt) = true
+is_frugal call.TakeSignal = true
+is_frugal (call.SignalDone job attempt kind) = true
+is_frugal (call.SignalFailed job attempt kind) = true
+
 -- the memory for the call is taken when the job is handed out: it reports a start or an end
 abbrev pub is_run_report : Call → Bool
 is_run_report (call.CreateJobSession name) = false

@@ -1,6 +1,9 @@
 pub mod Applies
 pub mod Applying
+pub mod ChronicleLaws
+pub mod Chronicles
 pub mod Invariant
 pub mod Looks
 pub mod Sparing
 pub mod View
+pub mod Waits

@@ -1,12 +1,15 @@
 //! A call is served, and its entry is made.
-ghost use Rattle.std.specs.Prelude.{◌≡◌, ◌≢◌, ◌+◌, ◌≤◌, ◌++◌, [], ◌∷◌, true, None, Err, IsOk, vec_len, vec_capacity};
+ghost use Rattle.std.specs.Prelude.{◌≡◌, ◌≢◌, ◌+◌, ◌≤◌, ◌++◌, [], ◌∷◌, true, None, Err, IsOk, OnErr, vec_len, vec_capacity};
 ghost use Rattle.drmaa_types.specs.Moments.{greatest};
+ghost use Rattle.drmaa_model.specs.declared.rows.Row.{Row};
+ghost use Rattle.drmaa_model.specs.Honoured.{IsOnTime, IsDueInside};
 ghost use Rattle.drmaa_model.specs.KeptCalls.{kept};
+ghost use Rattle.drmaa_model.specs.Order.{held};
 ghost use Rattle.drmaa_model.specs.Refusals.{refusal};
 ghost use Rattle.machine_readings.specs.Stores.{world_of, world_at};
 ghost use Rattle.machine_calls.specs.Serving.{HasPlace, spare_of};
 ghost use Rattle.drmaa_machine.specs.Applies.{Applies, entry_of};
-ghost use Rattle.drmaa_machine.specs.Applying.{is_foreseen, is_run_report};
+ghost use Rattle.drmaa_machine.specs.Applying.{is_foreseen, is_frugal, is_run_report};
 ghost use Rattle.drmaa_machine.specs.Invariant.{IsMachine, ledger_of};
 
 use crate::kept_calls::kept_call;
@@ -22,8 +25,12 @@ pub fn serve(store: &mut Store, caller: CallerId, at: Moment, call: Call) -> Res
     ensures machine { IsMachine store.new }
     ensures applies { Applies (ledger_of store.old) caller at (kept call) result (ledger_of store.new) }
     ensures memory { is_foreseen (kept call) ≡ true → 1 ≤ spare_of store.old → result ≢ Err NoEntry.OutOfMemory }
-    ensures spare { is_foreseen (kept call) ≡ true → spare_of store.old ≤ spare_of store.new + 1 }
+    ensures spare { is_frugal (kept call) ≡ true → spare_of store.old ≤ spare_of store.new + 1 }
     ensures reports { is_run_report (kept call) ≡ true → refusal (world_at at store.old) (kept call) ≡ None → IsOk result }
+    ensures promised { is_run_report (kept call) ≡ true → refusal (world_at at store.old) (kept call) ≡ None → spare_of store.old ≤ spare_of store.new }
+    ensures unspent { OnErr result (spare_of store.old ≤ spare_of store.new) }
+    ensures honoured_slots { (row : Row) → IsOnTime (world_at at store.old).plan → IsDueInside (world_at at store.old).plan row
+        → held (world_at at store.old).plan.rows + row.wants.min ≤ (world_at at store.old).plan.total }
 {
     a_moment_is_within(at);
     match kept_call(store.alloc, call) {
@@ -46,8 +53,10 @@ fn serve_kept(store: &mut Store, caller: CallerId, at: Moment, call: Call) -> Re
     ensures machine { IsMachine store.new }
     ensures applies { Applies (ledger_of store.old) caller at call result (ledger_of store.new) }
     ensures memory { is_foreseen call ≡ true → 1 ≤ spare_of store.old → result ≢ Err NoEntry.OutOfMemory }
-    ensures spare { is_foreseen call ≡ true → spare_of store.old ≤ spare_of store.new + 1 }
+    ensures spare { is_frugal call ≡ true → spare_of store.old ≤ spare_of store.new + 1 }
     ensures reports { is_run_report call ≡ true → refusal (world_at at store.old) call ≡ None → IsOk result }
+    ensures promised { is_run_report call ≡ true → refusal (world_at at store.old) call ≡ None → spare_of store.old ≤ spare_of store.new }
+    ensures unspent { OnErr result (spare_of store.old ≤ spare_of store.new) }
 {
     match perform(store, at, &call) {
         Ok(replies) => Ok(push(store, caller, at, call, replies)),

@@ -2,10 +2,14 @@
 #![tactic(auto)]
 
 mod applying;
+mod chronicles;
 mod kept_calls;
 mod looks;
 mod machines;
 mod performs;
+mod waits;
 
+pub use chronicles::Ask;
 pub use drmaa_model::{Answer, Call, Config, Entry, NoEntry, Question, Reply};
 pub use machines::Machine;
+pub use waits::Awaited;

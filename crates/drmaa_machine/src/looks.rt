@@ -1,13 +1,17 @@
 //! Questions that make no entry, and memory that is taken ahead.
-ghost use Rattle.std.specs.Prelude.{◌≡◌, ◌≤◌, OnOk, IfErr, take, drop, IfOk};
+ghost use Rattle.std.specs.Prelude.{◌≡◌, ◌≤◌, ◌↔◌, OnOk, IfErr, IsTrue, take, drop, IfOk};
 ghost use Rattle.drmaa_model.specs.Infos.{infos};
+ghost use Rattle.drmaa_model.specs.Effects.{not_yet};
+ghost use Rattle.drmaa_model.specs.Steps.{answer};
 ghost use Rattle.machine_readings.specs.Stores.{world_of, world_at, IsKept};
 ghost use Rattle.drmaa_machine.specs.Looks.{IsAnswer};
+ghost use Rattle.drmaa_machine.specs.Waits.{call_of};
 ghost use Rattle.machine_calls.specs.Serving.{Keeps, spare_of};
 
+use crate::waits::Awaited;
 use drmaa_model::{Answer, Question};
 use drmaa_types::{Change, ChangeBatch, InfoList, Moment, Refusal};
-use machine_readings::Store;
+use machine_readings::{Store, is_timed_out};
 
 /// The most changes of one answer.
 const MOST_CHANGES: usize = 64;
@@ -19,6 +23,7 @@ pub fn reserve_in(store: &mut Store, n: u32) -> Result<(), Refusal>
     ensures kept { IsKept store.new }
     ensures keeps { Keeps store.old store.new }
     ensures spare { OnOk result (n ≤ spare_of store.new) }
+    ensures more { spare_of store.old ≤ spare_of store.new }
     ensures err { IfErr result (λ why. why ≡ Refusal.OutOfMemory) }
 {
     let wanted = store.core.reports_to_come() as usize + n as usize;
@@ -26,6 +31,20 @@ pub fn reserve_in(store: &mut Store, n: u32) -> Result<(), Refusal>
         return Err(Refusal::OutOfMemory);
     }
     store.core.reserve(n)
+}
+
+/// Whether a wait has no answer yet at a moment.
+pub fn must_wait_in(store: &Store, at: Moment, awaited: &Awaited) -> bool
+    requires { IsKept store.now }
+    ensures { IsTrue result ↔ (answer (world_of store.now) at (call_of awaited.now) ≡ not_yet) }
+{
+    store
+        .wait_refusal(at, awaited.session, &awaited.jobs)
+        .is_none()
+        && store
+            .first_reached(at, awaited.kind, &awaited.jobs)
+            .is_none()
+        && !is_timed_out(at, awaited.begun, awaited.timeout)
 }
 
 /// What is told of each kept job, as it is now.

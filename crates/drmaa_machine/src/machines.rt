@@ -1,5 +1,5 @@
 //! The machine: a history, and the world that it leads to.
-ghost use Rattle.std.specs.Prelude.{◌≡◌, ◌≢◌, ◌+◌, ◌≤◌, ◌↔◌, ◌⊎◌, ℕ, [], IfOk, IfErr, IsOk, OnOk, OnErr, true, None, Some};
+ghost use Rattle.std.specs.Prelude.{◌≡◌, ◌≢◌, ◌+◌, ◌≤◌, ◌↔◌, ◌⊎◌, ℕ, [], IfOk, IfErr, IsOk, OnOk, OnErr, IsTrue, true, None, Some, length};
 ghost use Rattle.drmaa_types.specs.declared.refusals.Refusal.{Refusal};
 ghost use Rattle.drmaa_model.specs.declared.rows.Row.{Row};
 ghost use Rattle.drmaa_model.specs.Consistent.{IsConsistent};
@@ -8,16 +8,19 @@ ghost use Rattle.drmaa_model.specs.History.{IsLegal, now_of};
 ghost use Rattle.drmaa_model.specs.Honoured.{IsOnTime, IsDueInside};
 ghost use Rattle.drmaa_model.specs.Infos.{infos};
 ghost use Rattle.drmaa_model.specs.KeptCalls.{kept};
+ghost use Rattle.drmaa_model.specs.Order.{held};
 ghost use Rattle.drmaa_model.specs.Refusals.{refusal};
 ghost use Rattle.drmaa_model.specs.Steps.{answer, IsStep};
 ghost use Rattle.drmaa_model.specs.Time.{advance};
 ghost use Rattle.drmaa_model.specs.WaitLaws.{HandsOut, SendsOut};
 ghost use Rattle.drmaa_model.specs.World.{counted};
-ghost use Rattle.drmaa_machine.specs.Applying.{served, IsTooLarge, GoesByEdges, IsOver, IsRefusedFor, is_submission, is_foreseen, is_run_report};
+ghost use Rattle.drmaa_machine.specs.Applying.{served, IsTooLarge, GoesByEdges, IsOver, IsRefusedFor, is_submission, is_foreseen, is_frugal, is_run_report};
 ghost use Rattle.drmaa_machine.specs.Looks.{IsAnswer};
+ghost use Rattle.drmaa_machine.specs.Waits.{call_of};
 
 use crate::applying::serve;
-use crate::looks::{infos_in, look_in, reserve_in};
+use crate::looks::{infos_in, look_in, must_wait_in, reserve_in};
+use crate::waits::Awaited;
 use drmaa_model::{Answer, Call, Config, Entry, NoEntry, Question, Reply};
 use drmaa_types::{CallerId, Change, InfoList, Moment, Refusal};
 use machine_readings::Store;
@@ -86,7 +89,7 @@ impl Machine {
     ///
     /// `NotYet` exactly where the call waits for what has not come; `Nothing` exactly where there is no job to launch or no signal
     /// to send; `Journal` with the size that the journal would have, where that is above the greatest; and want of memory. The
-    /// machine is then as it was, its moment too.
+    /// machine is then as it was, its moment too, and nothing that was reserved is lost.
     pub fn apply(&mut self, caller: CallerId, at: Moment, call: Call) -> Result<Reply, NoEntry>
         // One step of the machine, with exactly one entry.
         ensures step { IfOk result (λ reply. IsStep (now_of self.old.ledger)
@@ -121,14 +124,19 @@ impl Machine {
         ensures signal { call ≡ Call.TakeSignal → IfOk result (λ reply.
             SendsOut (advance (now_of self.old.ledger) at) reply (now_of self.new.ledger)) }
 
-        // A job whose reservation has the slots that it asks for finds them free.
+        // A job whose reservation has the slots that it asks for finds them free, and can be launched.
+        ensures honoured_slots { (row : Row) → IsOnTime (advance (now_of self.old.ledger) at).plan → IsDueInside (advance (now_of self.old.ledger) at).plan row →
+            held (advance (now_of self.old.ledger) at).plan.rows + row.wants.min ≤ (advance (now_of self.old.ledger) at).plan.total }
         ensures honoured { (row : Row) → call ≡ Call.TakeLaunch → IsOnTime (advance (now_of self.old.ledger) at).plan →
             IsDueInside (advance (now_of self.old.ledger) at).plan row → result ≢ Err NoEntry.Nothing }
 
-        // What takes no memory that was not taken ahead: a state, a hold or a release of one job; a report of a start or an end.
+        // What takes no memory that was not taken ahead: a state, a hold or a release of one job; a report of a start or an end,
+        // which leaves all that is spare. Most calls use one of what is spare at most, and one that makes no entry uses none.
         ensures memory { is_foreseen call ≡ true → 1 ≤ self.old.spare → result ≢ Err NoEntry.OutOfMemory }
-        ensures spare { is_foreseen call ≡ true → self.old.spare ≤ self.new.spare + 1 }
+        ensures spare { is_frugal call ≡ true → self.old.spare ≤ self.new.spare + 1 }
         ensures reports { is_run_report call ≡ true → refusal (advance (now_of self.old.ledger) at) call ≡ None → IsOk result }
+        ensures promised { is_run_report call ≡ true → refusal (advance (now_of self.old.ledger) at) call ≡ None → self.old.spare ≤ self.new.spare }
+        ensures unspent { OnErr result (self.old.spare ≤ self.new.spare) }
     {
         serve(&mut self.store, caller, at, call)
     }
@@ -137,10 +145,11 @@ impl Machine {
     ///
     /// # Errors
     ///
-    /// Want of memory; nothing has changed then.
+    /// Want of memory; nothing has changed then, and no less is spare.
     pub fn reserve(&mut self, n: u32) -> Result<(), Refusal>
         ensures ledger { self.new.ledger ≡ self.old.ledger }
         ensures spare { OnOk result (n ≤ self.new.spare) }
+        ensures more { self.old.spare ≤ self.new.spare }
         ensures err { IfErr result (λ why. why ≡ Refusal.OutOfMemory) }
     {
         reserve_in(&mut self.store, n)
@@ -151,6 +160,13 @@ impl Machine {
         ensures { IsAnswer (advance (now_of self.now.ledger) at) (now_of self.now.ledger) question result }
     {
         look_in(&self.store, at, question)
+    }
+
+    /// Whether a wait that is made at this moment has no answer yet. It takes no memory and makes no entry.
+    pub fn must_wait(&self, at: Moment, awaited: &Awaited) -> bool
+        ensures { IsTrue result ↔ (answer (now_of self.now.ledger) at (call_of awaited.now) ≡ not_yet) }
+    {
+        must_wait_in(&self.store, at, awaited)
     }
 
     /// What is told of each kept job, in order of number, as it is now: no time passes.
@@ -170,6 +186,7 @@ impl Machine {
         ensures entries { result.now ≡ self.now.ledger.history }
         ensures legal { IsLegal self.now.ledger.config self.now.ledger.history }
         ensures consistent { IsConsistent (now_of self.now.ledger) }
+        ensures few { length self.now.ledger.history ≤ 4_000_000 }
     {
         self.store.history.as_slice()
     }

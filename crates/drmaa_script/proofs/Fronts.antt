@@ -1,7 +1,9 @@
 -- What was read of a source is the front of a text.
-use Rattle.std.proofs.Common.{◌≡◌, ℕ, ◌<◌, ◌≤◌, nat_le, Bool, true, false, List, length, take, Result, Ok, Err, ◌⊎◌, inl, inr, refl, sym, ap, subst, ◌∙◌, arith}
+use Rattle.std.proofs.Common.{◌≡◌, ℕ, ◌<◌, ◌≤◌, nat_le, Bool, true, false, List, length, take, Option, Some, None, Result, Ok, Err, ◌⊎◌, inl, inr, refl, sym, ap, subst, ◌∙◌, arith}
 use Rattle.std.proofs.lemmas.Bool.Decides.{nat_tests}
 use Rattle.std.proofs.lemmas.List.{take_all}
+use Rattle.std.specs.Io.KnownBytes.{IsAtEnd}
+use Rattle.std.specs.Prelude.{IfSome, IsTrue}
 use Rattle.byte_streams.specs.Streams.{ReadsUpTo}
 use Rattle.text_lines.specs.declared.reading.TextFault.{TextFault}
 use Rattle.text_lines.specs.declared.reading.TextFault.TheVariants as fault
@@ -9,7 +11,7 @@ use Rattle.text_lines.specs.Lines.{IsFront}
 use Rattle.drmaa_script.specs.declared.status.Status.{Status}
 use Rattle.drmaa_script.specs.declared.status.Status.TheVariants.{Text, ReadFault, Memory}
 use Rattle.drmaa_script.specs.Statuses.{status_of}
-use Rattle.drmaa_script.specs.Outcomes.{IsReadAs}
+use Rattle.drmaa_script.specs.Outcomes.{IsReadAs, IsReadOut}
 
 is_within : (n limit : ℕ) → n ≤ limit → true ≡ nat_le n limit
 is_within n limit h = grind (arith, nat_tests)
@@ -42,3 +44,9 @@ text_line fault.OutOfMemory n e = absurd (cc)
 
 pub refused_at : {A : Type 0} (f : TextFault) (status : Status) (n : ℕ) → status ≡ status_of f → ◌≡◌ {A = Result A Status} (Err status) (Err (Text n)) → ◌≡◌ {A = Result A TextFault} (Err f) (Err (fault.Line n))
 refused_at f status n e h = let same : status ≡ Text n = cc in ap (λ (k : TextFault). Err k) (text_line f n (sym e ∙ same))
+
+-- the source of what was read is at its end, or had more bytes than the limit
+pub read_out : (limit : ℕ) (old new : Option (List ℕ)) (bytes : List ℕ) (whole : Bool) → IfSome old (λ all. ReadsUpTo limit all bytes whole) → (IsTrue whole → IsAtEnd new) → IsReadOut limit old new
+read_out limit old new bytes true reads end = inl (end refl)
+read_out limit None new bytes false reads end = inr tt
+read_out limit (Some all) new bytes false reads end = inr reads.1

@@ -1,6 +1,6 @@
 -- What each command comes to, given all the bytes that it reads: our profile.
-use Rattle.std.specs.Prelude.{◌≡◌, ◌⊎◌, ℕ, List, [], ◌∷◌, ◌++◌, length, codes, decimal, Option, Some, None, Result, Ok, Err}
-use Rattle.std.specs.Io.KnownBytes.{Appends}
+use Rattle.std.specs.Prelude.{◌≡◌, ◌<◌, ◌⊎◌, ℕ, List, [], ◌∷◌, ◌++◌, length, codes, decimal, Option, Some, None, IfSome, Result, Ok, Err}
+use Rattle.std.specs.Io.KnownBytes.{Appends, IsAtEnd}
 use Rattle.byte_streams.specs.Streams.{AppendsFront}
 use Rattle.drmaa_model.specs.declared.entries.Entry.{Entry}
 use Rattle.drmaa_model.specs.declared.replies.Reply.{Reply}
@@ -123,6 +123,16 @@ WritesJournal Check status = ⊥
 
 -- ---- readers
 
+-- the greatest number of bytes of a command's text
+abbrev pub limit_of : Command → ℕ
+limit_of Serial = 16_777_216
+limit_of Table = 16_777_216
+limit_of Check = 268_435_456
+
+-- The source was read to its end, or it had more bytes than the limit, where it tells them.
+abbrev pub IsReadOut : ℕ → Option (List ℕ) → Option (List ℕ) → Type 0
+IsReadOut limit old new = IsAtEnd new ⊎ IfSome old (λ all. limit < length all)
+
 -- this was read, or a read failed, or memory ran out
 abbrev pub IsReadAs : {A : Type 0} → A → Result A Status → Type 0
 IsReadAs text (Ok found) = found ≡ text
@@ -156,9 +166,9 @@ HasJournal JournalOutput full = Unit {0}
 HasJournal Listing None = ⊥
 HasJournal Listing (Some size) = Unit {0}
 
--- the journal of the play can be written and read
+-- the journal of the play can be written and read, and is legal
 abbrev pub IsWritten : Script → Type 0
-IsWritten script = journals.IsWritable script.config (serial_play script).entries
+IsWritten script = journals.IsWritable script.config (serial_play script).entries × IsLegal script.config (serial_play script).entries
 
 -- ---- a journal that was read
 

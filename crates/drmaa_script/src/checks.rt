@@ -6,7 +6,7 @@ ghost use Rattle.drmaa_model.specs.History.{IsLegal};
 ghost use Rattle.drmaa_model.specs.declared.replies.Reply.{Reply};
 ghost use Rattle.journal_check.specs.Faults.{FirstFault};
 ghost use Rattle.journal_text.specs.Journals.{IsWritable};
-ghost use Rattle.drmaa_script.specs.Outcomes.{CheckEnds, CheckIsWhole, CheckedEnds};
+ghost use Rattle.drmaa_script.specs.Outcomes.{CheckEnds, CheckIsWhole, CheckedEnds, IsReadOut};
 ghost use Rattle.drmaa_script.specs.Statuses.{IsQuiet, HasRead, HasWritten};
 
 use crate::inputs::read_journal;
@@ -62,6 +62,7 @@ pub fn run_check<R: Source, W: Sink>(alloc: Global, source: &mut R, sink: &mut W
     ensures words { result ≢ Status.Words }
     ensures full { (size : ℕ) → result ≢ Status.JournalFull size }
     ensures read_whole { HasRead result → IsAtEnd (R.left source.new) }
+    ensures read_out { (line : ℕ) → result ≡ Status.Text line → IsReadOut 268_435_456 (R.left source.old) (R.left source.new) }
     ensures finished { HasWritten result → W.finished sink.new }
     ensures read_fault { result ≡ Status.ReadFault → Rose (R.faults source.old) (R.faults source.new) }
     ensures write_fault { result ≡ Status.WriteFault → Rose (W.faults sink.old) (W.faults sink.new) }

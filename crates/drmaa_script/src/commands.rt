@@ -1,10 +1,10 @@
 //! The commands of the program.
-ghost use Rattle.std.specs.Prelude.{◌≡◌, ◌≢◌, ◌↔◌, IfSome, IsTrue, MatchOption, codes};
+ghost use Rattle.std.specs.Prelude.{◌≡◌, ◌≢◌, ◌↔◌, ℕ, IfSome, IsTrue, MatchOption, codes};
 ghost use Rattle.std.specs.Io.KnownBytes.{IsAtEnd};
 ghost use Rattle.drmaa_types.specs.Counts.{Rose};
 ghost use Rattle.script_text.specs.declared.scripts.Script.{Script};
 ghost use Rattle.drmaa_script.specs.Commands.{words_of, word_of, NamesNone};
-ghost use Rattle.drmaa_script.specs.Outcomes.{Ends, IsWhole, WritesJournal, IsScriptText, IsWritten};
+ghost use Rattle.drmaa_script.specs.Outcomes.{Ends, IsWhole, IsReadOut, limit_of, WritesJournal, IsScriptText, IsWritten};
 ghost use Rattle.drmaa_script.specs.Statuses.{IsQuiet, HasRead, HasWritten};
 
 use crate::checks::run_check;
@@ -57,6 +57,7 @@ fn run_command<R: Source, W: Sink>(
     ensures ends { IfSome (R.left source.old) (λ bytes. Ends command bytes result (W.written sink.old) (W.written sink.new)) }
     ensures words { result ≢ Status.Words }
     ensures read_whole { HasRead result → IsAtEnd (R.left source.new) }
+    ensures read_out { (line : ℕ) → result ≡ Status.Text line → IsReadOut (limit_of command) (R.left source.old) (R.left source.new) }
     ensures finished { HasWritten result → W.finished sink.new }
     ensures read_fault { result ≡ Status.ReadFault → Rose (R.faults source.old) (R.faults source.new) }
     ensures write_fault { result ≡ Status.WriteFault → Rose (W.faults sink.old) (W.faults sink.new) }
@@ -87,6 +88,8 @@ pub fn run<R: Source, W: Sink>(
     ensures ends { (command : Command) → words.now ≡ words_of command
         → IfSome (R.left source.old) (λ bytes. Ends command bytes result (W.written sink.old) (W.written sink.new)) }
     ensures read_whole { HasRead result → IsAtEnd (R.left source.new) }
+    ensures read_out { (command : Command) (line : ℕ) → words.now ≡ words_of command → result ≡ Status.Text line
+        → IsReadOut (limit_of command) (R.left source.old) (R.left source.new) }
     ensures finished { HasWritten result → W.finished sink.new }
     ensures untouched { IsQuiet result → sink.new ≡ sink.old }
 
@@ -103,7 +106,7 @@ pub fn run<R: Source, W: Sink>(
         → (Rose (R.faults source.old) (R.faults source.new) → ⊥) → (Rose (W.faults sink.old) (W.faults sink.new) → ⊥)
         → IfSome (R.left source.old) (λ bytes. IsWhole command bytes result) }
 
-    // A journal that is written can be read again, as no other.
+    // A journal that is written is legal, and can be read again, as no other.
     ensures writable { (command : Command) → words.now ≡ words_of command → WritesJournal command result
         → IfSome (R.left source.old) (λ bytes. (script : Script) → IsScriptText bytes script → IsWritten script) }
 {

@@ -7,7 +7,7 @@ ghost use Rattle.journal_text.specs.declared.journals.Journal.{Journal};
 ghost use Rattle.script_text.specs.declared.scripts.Script.{Script};
 ghost use Rattle.text_lines.specs.Lines.{IsFront, IsTextOf, IsFirstBad};
 ghost use Rattle.text_lines.specs.declared.reading.TextFault.{TextFault};
-ghost use Rattle.drmaa_script.specs.Outcomes.{SpellsScript, IsScriptText, IsJournalText, IsReadAs, IsSpelled};
+ghost use Rattle.drmaa_script.specs.Outcomes.{SpellsScript, IsScriptText, IsJournalText, IsReadAs, IsReadOut, IsSpelled};
 ghost use Rattle.drmaa_script.specs.Statuses.{IsUnread};
 
 use crate::status::{Status, status_of};
@@ -41,6 +41,7 @@ pub fn read_script<R: Source>(alloc: Global, source: &mut R) -> Result<Script, S
     ensures end { OnOk result (IsAtEnd (R.left source.new)) }
     ensures only { IfSome (R.left source.old) (λ bytes. (script : Script) → IsScriptText bytes script → IsReadAs script result) }
     ensures line { (n : ℕ) → result ≡ Err (Status.Text n) → IfSome (R.left source.old) (λ bytes. IsFirstBad SpellsScript 16_777_216 bytes n) }
+    ensures read_out { (n : ℕ) → result ≡ Err (Status.Text n) → IsReadOut 16_777_216 (R.left source.old) (R.left source.new) }
     ensures causes { IfErr result IsUnread }
     ensures fault { result ≡ Err Status.ReadFault → Rose (R.faults source.old) (R.faults source.new) }
 {
@@ -73,6 +74,7 @@ pub fn read_journal<R: Source>(alloc: Global, source: &mut R) -> Result<Journal,
     ensures end { OnOk result (IsAtEnd (R.left source.new)) }
     ensures only { IfSome (R.left source.old) (λ bytes. (j : Journal) → IsJournalText bytes j → IsReadAs j result) }
     ensures line { (n : ℕ) → result ≡ Err (Status.Text n) → IfSome (R.left source.old) (λ bytes. IsFirstBad journals.Spells 268_435_456 bytes n) }
+    ensures read_out { (n : ℕ) → result ≡ Err (Status.Text n) → IsReadOut 268_435_456 (R.left source.old) (R.left source.new) }
     ensures causes { IfErr result IsUnread }
     ensures fault { result ≡ Err Status.ReadFault → Rose (R.faults source.old) (R.faults source.new) }
 {

@@ -13,6 +13,8 @@ mod commands;
 mod inputs;
 mod plays;
 mod status;
+#[cfg(test)]
+mod tests;
 
 pub use commands::{Command, run};
 pub use status::Status;

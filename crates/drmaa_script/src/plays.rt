@@ -1,5 +1,5 @@
 //! The commands that play a script.
-ghost use Rattle.std.specs.Prelude.{◌≡◌, ◌≢◌, ◌⊎◌, IfSome, IfOk, OnOk};
+ghost use Rattle.std.specs.Prelude.{◌≡◌, ◌≢◌, ◌⊎◌, ℕ, IfSome, IfOk, OnOk};
 ghost use Rattle.std.specs.Io.KnownBytes.{IsAtEnd};
 ghost use Rattle.drmaa_types.specs.Counts.{Rose};
 ghost use Rattle.drmaa_model.specs.History.{now_of};
@@ -7,7 +7,7 @@ ghost use Rattle.drmaa_model.specs.Infos.{infos};
 ghost use Rattle.monitor_session.specs.Listings.{listing_text};
 ghost use Rattle.script_asks.specs.Plays.{serial_play};
 ghost use Rattle.script_text.specs.declared.scripts.Script.{Script};
-ghost use Rattle.drmaa_script.specs.Outcomes.{IsSpelled, IsScriptText, IsWritten, HasJournal, WritesPlay, PlayEnds, PlayIsWhole, PlayedEnds, own_of, journal_of, play_text};
+ghost use Rattle.drmaa_script.specs.Outcomes.{IsSpelled, IsScriptText, IsReadOut, IsWritten, HasJournal, WritesPlay, PlayEnds, PlayIsWhole, PlayedEnds, own_of, journal_of, play_text};
 ghost use Rattle.drmaa_script.specs.Statuses.{IsQuiet, HasRead, HasWritten, ended_as};
 
 use crate::inputs::read_script;
@@ -37,7 +37,7 @@ struct PlayText {
     full: Option<u64>,
 }
 
-/// The journal of a script's play. It is writable.
+/// The journal of a script's play. It is writable and legal.
 fn journal_of(alloc: Global, script: &Script, machine: &Machine) -> Result<Bytes, AllocError>
     requires spelled { IsSpelled script.now }
     requires played { machine.now.ledger ≡ record { config = script.now.config; history = (serial_play script.now).entries } }
@@ -154,6 +154,7 @@ pub fn run_play<R: Source, W: Sink>(
     ensures ends { IfSome (R.left source.old) (λ bytes. PlayEnds (own_of output) bytes result (W.written sink.old) (W.written sink.new)) }
     ensures words { result ≢ Status.Words }
     ensures read_whole { HasRead result → IsAtEnd (R.left source.new) }
+    ensures read_out { (line : ℕ) → result ≡ Status.Text line → IsReadOut 16_777_216 (R.left source.old) (R.left source.new) }
     ensures finished { HasWritten result → W.finished sink.new }
     ensures read_fault { result ≡ Status.ReadFault → Rose (R.faults source.old) (R.faults source.new) }
     ensures write_fault { result ≡ Status.WriteFault → Rose (W.faults sink.old) (W.faults sink.new) }

@@ -12,8 +12,8 @@ use Rattle.text_codec.specs.Fields.{Fields, joined}
 use Rattle.text_codec.specs.Quotes.{text}
 use Rattle.text_words.specs.Numbers.{caller_id}
 use Rattle.text_lines.specs.Lines.{ended}
-use Rattle.journal_text.specs.Calls.{calls}
-use Rattle.journal_text.specs.Replies.{replies}
+use Rattle.journal_forms.specs.Calls.{calls}
+use Rattle.journal_forms.specs.Replies.{replies}
 use Rattle.journal_text.specs.declared.journals.Journal.{Journal}
 use Rattle.journal_text.specs.declared.titles.TheConstants.{SUSPENDS}
 

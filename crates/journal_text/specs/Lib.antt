@@ -1,7 +1,3 @@
-pub mod Calls
-pub mod CallLaws
-pub mod Replies
-pub mod ReplyLaws
 pub mod Journals
 pub mod LineLaws
 pub mod Reading

@@ -12,10 +12,10 @@ use Rattle.text_codec.specs.BaseLaws.{text_laws, moment_laws, one_of_laws, numbe
 use Rattle.text_codec.specs.Quotes.{text}
 use Rattle.text_words.specs.Numbers.{caller_id}
 use Rattle.text_words.specs.NumberLaws.{caller_id_laws}
-use Rattle.journal_text.specs.Calls.{calls, calls_with}
-use Rattle.journal_text.specs.CallLaws.{calls_laws}
-use Rattle.journal_text.specs.Replies.{replies}
-use Rattle.journal_text.specs.ReplyLaws.{replies_laws}
+use Rattle.journal_forms.specs.Calls.{calls, calls_with}
+use Rattle.journal_forms.specs.CallLaws.{calls_laws}
+use Rattle.journal_forms.specs.Replies.{replies}
+use Rattle.journal_forms.specs.ReplyLaws.{replies_laws}
 use Rattle.journal_text.specs.declared.titles.TheConstants.{SUSPENDS}
 use Rattle.journal_text.specs.Journals.{journal_size, suspend_text, suspend, is_machine, title, config_of, machine_of, header, stamp, answered, make_entry, entry_parts, entry_with, entry, closing, IsEntry}
 

@@ -17,8 +17,8 @@ use Rattle.text_codec.specs.Words.{capitals}
 use Rattle.text_words.specs.TemplateParts.{resource_limit}
 use Rattle.text_forms.specs.Templates.{any_template, template, any_frame, frame, early_fields, path_fields, placed_fields, late_fields, early_parts, path_parts, placed_parts, late_parts}
 use Rattle.text_lines.specs.Lines.{ended}
-use Rattle.journal_text.specs.Calls.{call_form, calls_with, calls, running, bulk, requested, has_others}
-use Rattle.journal_text.specs.Replies.{reply_form, reply_sum, replies, may_answer}
+use Rattle.journal_forms.specs.Calls.{call_form, calls_with, calls, running, bulk, requested, has_others}
+use Rattle.journal_forms.specs.Replies.{reply_form, reply_sum, replies, may_answer}
 use Rattle.journal_text.specs.declared.titles.TheConstants.{SUSPENDS}
 use Rattle.journal_text.specs.Journals.{suspend_text, header, title, machine_of, is_machine, journal_size, entry_with, answered, stamp, entry, closing, entry_lines, journal_text, IsEntry, IsWritable, kept_entry}
 use Rattle.journal_text.specs.Printing.{any_entry, IsRanged, MayStand, IsPrintable}

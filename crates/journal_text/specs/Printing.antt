@@ -7,8 +7,8 @@ use Rattle.drmaa_model.specs.KeptCalls.{kept}
 use Rattle.text_codec.specs.Formats.{Format, moment}
 use Rattle.text_words.specs.Numbers.{caller_id}
 use Rattle.text_forms.specs.Templates.{any_template, any_frame}
-use Rattle.journal_text.specs.Calls.{call_form, calls_with, has_others}
-use Rattle.journal_text.specs.Replies.{reply_form, may_answer}
+use Rattle.journal_forms.specs.Calls.{call_form, calls_with, has_others}
+use Rattle.journal_forms.specs.Replies.{reply_form, may_answer}
 use Rattle.journal_text.specs.Journals.{is_machine, machine_of, journal_size, entry_with}
 
 -- an entry, whatever attributes its template has under `other`

@@ -31,10 +31,10 @@ use Rattle.text_forms.specs.Refusals.{refusals, refusal_sum, may_stand}
 use Rattle.text_forms.specs.Templates.{any_template, any_frame}
 use Rattle.text_forms.specs.TemplateLaws.{any_template_laws, any_frame_laws}
 use Rattle.text_lines.specs.LineLaws.{ended_utf8}
-use Rattle.journal_text.specs.Calls.{indices, running, bulk, requested, call_form, call_arms, barred, calls_with, calls}
-use Rattle.journal_text.specs.CallLaws.{indices_laws, calls_laws}
-use Rattle.journal_text.specs.Replies.{reply_form, reply_sum, replies, may_answer}
-use Rattle.journal_text.specs.ReplyLaws.{replies_laws}
+use Rattle.journal_forms.specs.Calls.{indices, running, bulk, requested, call_form, call_arms, barred, calls_with, calls}
+use Rattle.journal_forms.specs.CallLaws.{indices_laws, calls_laws}
+use Rattle.journal_forms.specs.Replies.{reply_form, reply_sum, replies, may_answer}
+use Rattle.journal_forms.specs.ReplyLaws.{replies_laws}
 use Rattle.journal_text.specs.Journals.{suspend, title, machine_of, header, stamp, answered, entry_with, entry, closing, entry_lines, journal_lines, journal_text}
 use Rattle.journal_text.specs.LineLaws.{suspend_laws, stamp_laws}
 use Rattle.journal_text.specs.JournalLaws.{both_clean, closing_is_clean}

@@ -6,16 +6,15 @@ ghost use Rattle.drmaa_model.specs.KeptCalls.{kept};
 ghost use Rattle.text_codec.specs.Formats.{Answers, Says, number, read_line};
 ghost use Rattle.text_forms.specs.Templates.{any_template, any_frame};
 ghost use Rattle.text_lines.specs.Lines.{ended};
-ghost use Rattle.journal_text.specs.Calls.{calls, call_form};
-ghost use Rattle.journal_text.specs.Replies.{reply_form, may_answer};
+ghost use Rattle.journal_forms.specs.Calls.{calls, call_form};
+ghost use Rattle.journal_forms.specs.Replies.{reply_form, may_answer};
 ghost use Rattle.journal_text.specs.Journals as journals;
 ghost use Rattle.journal_text.specs.Journals.{kept_entry};
 ghost use Rattle.journal_text.specs.Printing.{any_entry, IsRanged};
 
-use crate::fields::push_feed;
-use crate::{push_call, push_reply, read_call, read_reply};
 use drmaa_model::{Call, Entry, Reply};
 use drmaa_types::{CallerId, Moment};
+use journal_forms::{push_call, push_reply, read_call, read_reply};
 use std::alloc::{AllocError, Global};
 use text_codec::{Cursor, Unread, push_number};
 use text_words::{PrintForm, ReadForm, push_behind};
@@ -93,7 +92,7 @@ fn push_stamp(out: &mut Vec<u8>, number: u64, entry: &Entry) -> Result<(), Alloc
 }
 
 /// Prints an entry with its number, its call as a journal keeps it.
-#[tactic(auto, unfolding(crate::specs::Printing::any_entry, crate::specs::Journals::entry_with, crate::specs::Journals::answered, crate::specs::Calls::calls_with, crate::specs::Replies::replies, crate::specs::Replies::reply_sum, text_codec::specs::Formats::mapped, text_codec::specs::Formats::pair, text_codec::specs::Fields::joined, text_codec::specs::Sums::sum_of))]
+#[tactic(auto, unfolding(crate::specs::Printing::any_entry, crate::specs::Journals::entry_with, crate::specs::Journals::answered, journal_forms::specs::Calls::calls_with, journal_forms::specs::Replies::replies, journal_forms::specs::Replies::reply_sum, text_codec::specs::Formats::mapped, text_codec::specs::Formats::pair, text_codec::specs::Fields::joined, text_codec::specs::Sums::sum_of))]
 fn push_entry(out: &mut Vec<u8>, number: u64, entry: &Entry) -> Result<(), AllocError>
     ensures text { OnOk result (out.new.items ≡ out.old.items ++ any_entry.spell (number, kept_entry entry.now)) }
     ensures stamp { OnOk result (journals.stamp.valid (number, (entry.now.caller, entry.now.at))) }
@@ -105,6 +104,13 @@ fn push_entry(out: &mut Vec<u8>, number: u64, entry: &Entry) -> Result<(), Alloc
     push_call(out, &entry.call)?;
     out.extend_from_slice(b" = ")?;
     push_reply(out, &entry.reply)
+}
+
+/// Prints a line feed.
+fn push_feed(out: &mut Vec<u8>) -> Result<(), AllocError>
+    ensures { OnOk result (out.new.items ≡ out.old.items ++ 10 ∷ []) }
+{
+    out.extend_from_slice(b"\n")
 }
 
 /// Prints the line of an entry.

@@ -10,7 +10,7 @@ ghost use Rattle.drmaa_model.specs.Size.{weight};
 ghost use Rattle.drmaa_model.specs.Time.{advance};
 ghost use Rattle.drmaa_model.specs.World.{counted};
 ghost use Rattle.machine_readings.specs.Stores.{world_of, world_at, IsKept};
-ghost use Rattle.machine_calls.specs.Serving.{AreBoth, Comes, Keeps, HasPlace};
+ghost use Rattle.machine_calls.specs.Serving.{AreBoth, Comes, Keeps, HasPlace, spare_of};
 
 use crate::places::{make_place, within};
 use crate::replies::Replies;
@@ -26,6 +26,7 @@ pub fn close(store: &mut Store, at: Moment, session: SessionId) -> Result<Replie
     ensures comes { Comes (world_of store.old) at (Call.CloseSession session) result (world_of store.new) }
     ensures keeps { Keeps store.old store.new }
     ensures place { OnOk result (HasPlace 1 store.new) }
+    ensures spare { spare_of store.old ≤ spare_of store.new }
 {
     match within(store) {
         Ok(()) => close_within(store, at, session),
@@ -39,6 +40,7 @@ fn close_within(store: &mut Store, at: Moment, session: SessionId) -> Result<Rep
     ensures comes { Comes (world_of store.old) at (Call.CloseSession session) result (world_of store.new) }
     ensures keeps { Keeps store.old store.new }
     ensures place { OnOk result (HasPlace 1 store.new) }
+    ensures spare { spare_of store.old ≤ spare_of store.new }
 {
     match store.number_refusal(at, session) {
         Some(why) => pass(store, at, Replies::refused(&why)),
@@ -53,6 +55,7 @@ fn close_valid(store: &mut Store, at: Moment, session: SessionId) -> Result<Repl
     ensures comes { Comes (world_of store.old) at (Call.CloseSession session) result (world_of store.new) }
     ensures keeps { Keeps store.old store.new }
     ensures place { OnOk result (HasPlace 1 store.new) }
+    ensures spare { spare_of store.old ≤ spare_of store.new }
 {
     match make_place(store, 0) {
         Ok(()) => Ok(close_now(store, at, session)),
@@ -68,6 +71,7 @@ fn close_now(store: &mut Store, at: Moment, session: SessionId) -> Replies
     ensures unit { AreBoth result Reply.Unit }
     ensures keeps { Keeps store.old store.new }
     ensures place { HasPlace 1 store.new }
+    ensures spare { spare_of store.old ≤ spare_of store.new }
 {
     let _ = store.sessions.close(session);
     go_on(store, at, Replies::unit())

@@ -7,7 +7,7 @@ ghost use Rattle.drmaa_model.specs.Effects.{gives};
 ghost use Rattle.drmaa_model.specs.Steps.{answer};
 ghost use Rattle.machine_readings.specs.Stores.{world_of, IsKept};
 ghost use Rattle.machine_calls.specs.Opening.{destroy_call};
-ghost use Rattle.machine_calls.specs.Serving.{Comes, Keeps, HasPlace};
+ghost use Rattle.machine_calls.specs.Serving.{Comes, Keeps, HasPlace, spare_of};
 
 use crate::places::{make_place, within};
 use crate::replies::Replies;
@@ -32,6 +32,7 @@ pub fn destroy(
     ensures comes { Comes (world_of store.old) at (destroy_call kind name.now) result (world_of store.new) }
     ensures keeps { Keeps store.old store.new }
     ensures place { OnOk result (HasPlace 1 store.new) }
+    ensures spare { spare_of store.old ≤ spare_of store.new }
 {
     match within(store) {
         Ok(()) => destroy_within(store, at, kind, name),
@@ -51,6 +52,7 @@ fn destroy_within(
     ensures comes { Comes (world_of store.old) at (destroy_call kind name.now) result (world_of store.new) }
     ensures keeps { Keeps store.old store.new }
     ensures place { OnOk result (HasPlace 1 store.new) }
+    ensures spare { spare_of store.old ≤ spare_of store.new }
 {
     match make_place(store, 0) {
         Ok(()) => Ok(destroy_now(store, at, kind, name)),
@@ -67,6 +69,7 @@ fn destroy_now(store: &mut Store, at: Moment, kind: SessionKind, name: &Text) ->
     ensures size { size (world_of store.new) ≡ store.old.entries + 1 + weight store.old.core.plan }
     ensures keeps { Keeps store.old store.new }
     ensures place { HasPlace 1 store.new }
+    ensures spare { spare_of store.old ≤ spare_of store.new }
 {
     match store.sessions.destroy(kind, name) {
         Ok(home) => {
@@ -85,6 +88,7 @@ pub fn register(store: &mut Store, at: Moment) -> Result<Replies, NoEntry>
     ensures comes { Comes (world_of store.old) at Call.Register result (world_of store.new) }
     ensures keeps { Keeps store.old store.new }
     ensures place { OnOk result (HasPlace 1 store.new) }
+    ensures spare { spare_of store.old ≤ spare_of store.new }
 {
     match within(store) {
         Ok(()) => register_within(store, at),
@@ -98,6 +102,7 @@ fn register_within(store: &mut Store, at: Moment) -> Result<Replies, NoEntry>
     ensures comes { Comes (world_of store.old) at Call.Register result (world_of store.new) }
     ensures keeps { Keeps store.old store.new }
     ensures place { OnOk result (HasPlace 1 store.new) }
+    ensures spare { spare_of store.old ≤ spare_of store.new }
 {
     if store.registrations >= MOST_CALLBACKS {
         return pass(
@@ -116,6 +121,7 @@ fn register_more(store: &mut Store, at: Moment) -> Result<Replies, NoEntry>
     ensures comes { Comes (world_of store.old) at Call.Register result (world_of store.new) }
     ensures keeps { Keeps store.old store.new }
     ensures place { OnOk result (HasPlace 1 store.new) }
+    ensures spare { spare_of store.old ≤ spare_of store.new }
 {
     match make_place(store, 0) {
         Ok(()) => {

@@ -1,5 +1,5 @@
 //! Calls that an operation of the core serves.
-ghost use Rattle.std.specs.Prelude.{◌≡◌, ◌≢◌, ◌&&◌, ◌+◌, ◌≤◌, not, true, [], ◌∷◌, OnOk, Err, None};
+ghost use Rattle.std.specs.Prelude.{◌≡◌, ◌≢◌, ◌&&◌, ◌+◌, ◌≤◌, not, true, [], ◌∷◌, OnOk, OnErr, Err, None};
 ghost use Rattle.drmaa_types.specs.Refusals.{first_refusal};
 ghost use Rattle.drmaa_types.specs.declared.sessions.SessionKind.{SessionKind};
 ghost use Rattle.drmaa_model.specs.declared.calls.Call.{Call};
@@ -28,6 +28,7 @@ pub fn reap(
     ensures comes { Comes (world_of store.old) at (Call.Reap session target) result (world_of store.new) }
     ensures keeps { Keeps store.old store.new }
     ensures place { OnOk result (HasPlace 1 store.new) }
+    ensures spare { spare_of store.old ≤ spare_of store.new }
 {
     match store.reap_refusal(at, session, &target) {
         Some(why) => refuse(store, at, &why),
@@ -46,6 +47,7 @@ fn reap_own(
     ensures comes { Comes (world_of store.old) at (Call.Reap session target) result (world_of store.new) }
     ensures keeps { Keeps store.old store.new }
     ensures place { OnOk result (HasPlace 1 store.new) }
+    ensures spare { spare_of store.old ≤ spare_of store.new }
 {
     let _ = session;
     let limit = limit_for(store);
@@ -69,6 +71,7 @@ pub fn control(
     ensures place { OnOk result (HasPlace 1 store.new) }
     ensures memory { is_one_quiet target what ≡ true → 1 ≤ spare_of store.old → result ≢ Err NoEntry.OutOfMemory }
     ensures spare { is_one_quiet target what ≡ true → spare_of store.old ≤ left_of store.new + 1 }
+    ensures unspent { OnErr result (spare_of store.old ≤ spare_of store.new) }
 {
     match store.control_refusal(at, session, &target, what) {
         Some(why) => refuse(store, at, &why),
@@ -91,6 +94,7 @@ fn control_own(
     ensures place { OnOk result (HasPlace 1 store.new) }
     ensures memory { is_one_quiet target what ≡ true → 1 ≤ spare_of store.old → result ≢ Err NoEntry.OutOfMemory }
     ensures spare { is_one_quiet target what ≡ true → spare_of store.old ≤ left_of store.new + 1 }
+    ensures unspent { OnErr result (spare_of store.old ≤ spare_of store.new) }
 {
     let _ = session;
     let limit = limit_for(store);
@@ -110,6 +114,7 @@ pub fn end_reservation(
     ensures comes { Comes (world_of store.old) at (Call.EndReservation session number) result (world_of store.new) }
     ensures keeps { Keeps store.old store.new }
     ensures place { OnOk result (HasPlace 1 store.new) }
+    ensures spare { spare_of store.old ≤ spare_of store.new }
 {
     match store.reservation_refusal(at, session, number) {
         Some(why) => refuse(store, at, &why),
@@ -128,6 +133,7 @@ fn end_own(
     ensures comes { Comes (world_of store.old) at (Call.EndReservation session number) result (world_of store.new) }
     ensures keeps { Keeps store.old store.new }
     ensures place { OnOk result (HasPlace 1 store.new) }
+    ensures spare { spare_of store.old ≤ spare_of store.new }
 {
     let _ = session;
     let limit = limit_for(store);

@@ -2,7 +2,7 @@
 ghost use Rattle.std.specs.Prelude.{◌≡◌, ◌+◌, ◌<◌, ◌≤◌, OnOk, OnErr, IsOk, IfErr};
 ghost use Rattle.drmaa_model.specs.Size.{weight};
 ghost use Rattle.machine_readings.specs.Stores.{world_of, IsKept};
-ghost use Rattle.machine_calls.specs.Serving.{Keeps, HasPlace, places, Sorts};
+ghost use Rattle.machine_calls.specs.Serving.{Keeps, HasPlace, places, spare_of, Sorts};
 
 use crate::replies::Replies;
 use drmaa_model::NoEntry;
@@ -16,6 +16,7 @@ pub fn make_place(store: &mut Store, more: u32) -> Result<(), AllocError>
     ensures world { world_of store.new ≡ world_of store.old }
     ensures core { store.new.core ≡ store.old.core }
     ensures keeps { Keeps store.old store.new }
+    ensures spare { spare_of store.old ≤ spare_of store.new }
     ensures place { OnOk result (HasPlace (1 + more) store.new) }
     ensures succeeds { 1 + more ≤ places store.old → IsOk result }
 {
@@ -30,6 +31,7 @@ pub fn limit_for(store: &mut Store) -> u64
     ensures world { world_of store.new ≡ world_of store.old }
     ensures core { store.new.core ≡ store.old.core }
     ensures keeps { Keeps store.old store.new }
+    ensures spare { spare_of store.old ≤ spare_of store.new }
     ensures placed { 0 < result → result ≡ store.old.config.journal }
     ensures place { 0 < result → HasPlace 1 store.new }
     ensures small { result ≤ 4_000_000 }

@@ -17,7 +17,7 @@ use machine_readings::Store;
 use scheduler_core::RowFacts;
 
 /// Takes a report of launcher or reaper. One of a start or of an end that may come of its job always makes its entry: the room
-/// in the journal, and the memory, were taken with the launch.
+/// in the journal, and the memory, were taken with the launch, and nothing that is spare is used.
 pub fn report(store: &mut Store, at: Moment, report: Report) -> Result<Replies, NoEntry>
     requires kept { IsKept store.old }
     ensures comes { Comes (world_of store.old) at (call_of report) result (world_of store.new) }
@@ -25,7 +25,8 @@ pub fn report(store: &mut Store, at: Moment, report: Report) -> Result<Replies, 
     ensures place { OnOk result (HasPlace 1 store.new) }
     ensures taken { is_of_run report ≡ true → refusal (world_at at store.old) (call_of report) ≡ None → IsOk result }
     ensures memory { is_of_run report ≡ true → refusal (world_at at store.old) (call_of report) ≡ None → result ≢ Err NoEntry.OutOfMemory }
-    ensures spare { spare_of store.old ≤ left_of store.new + 1 }
+    ensures spare { spare_of store.old ≤ spare_of store.new }
+    ensures promised { is_of_run report ≡ true → refusal (world_at at store.old) (call_of report) ≡ None → spare_of store.old ≤ left_of store.new }
 {
     if is_promised(store, at, report) {
         take_promised(store, at, report)
@@ -54,7 +55,7 @@ fn take_other(store: &mut Store, at: Moment, report: Report) -> Result<Replies, 
     ensures comes { Comes (world_of store.old) at (call_of report) result (world_of store.new) }
     ensures keeps { Keeps store.old store.new }
     ensures place { OnOk result (HasPlace 1 store.new) }
-    ensures spare { spare_of store.old ≤ left_of store.new + 1 }
+    ensures spare { spare_of store.old ≤ spare_of store.new }
 {
     let limit = limit_for(store);
     let entry = store.entries + 1;

@@ -7,7 +7,7 @@ ghost use Rattle.drmaa_model.specs.Time.{advance};
 ghost use Rattle.drmaa_model.specs.World.{counted};
 ghost use Rattle.machine_readings.specs.Stores.{world_of, IsKept};
 ghost use Rattle.machine_calls.specs.Opening.{Opens, create_call, open_call};
-ghost use Rattle.machine_calls.specs.Serving.{Comes, Keeps, HasPlace};
+ghost use Rattle.machine_calls.specs.Serving.{Comes, Keeps, HasPlace, spare_of};
 
 use crate::places::{make_place, within};
 use crate::replies::Replies;
@@ -27,6 +27,7 @@ pub fn create(
     ensures comes { Comes (world_of store.old) at (create_call kind name.now) result (world_of store.new) }
     ensures keeps { Keeps store.old store.new }
     ensures place { OnOk result (HasPlace 1 store.new) }
+    ensures spare { spare_of store.old ≤ spare_of store.new }
 {
     match within(store) {
         Ok(()) => create_within(store, at, kind, name),
@@ -46,6 +47,7 @@ fn create_within(
     ensures comes { Comes (world_of store.old) at (create_call kind name.now) result (world_of store.new) }
     ensures keeps { Keeps store.old store.new }
     ensures place { OnOk result (HasPlace 1 store.new) }
+    ensures spare { spare_of store.old ≤ spare_of store.new }
 {
     match copied(name) {
         Ok(name) => create_named(store, at, kind, name),
@@ -65,6 +67,7 @@ fn create_named(
     ensures comes { Comes (world_of store.old) at (create_call kind name) result (world_of store.new) }
     ensures keeps { Keeps store.old store.new }
     ensures place { OnOk result (HasPlace 1 store.new) }
+    ensures spare { spare_of store.old ≤ spare_of store.new }
 {
     match make_place(store, 0) {
         Ok(()) => {
@@ -87,6 +90,7 @@ pub fn attach(
     ensures comes { Comes (world_of store.old) at (open_call kind name.now) result (world_of store.new) }
     ensures keeps { Keeps store.old store.new }
     ensures place { OnOk result (HasPlace 1 store.new) }
+    ensures spare { spare_of store.old ≤ spare_of store.new }
 {
     match within(store) {
         Ok(()) => attach_within(store, at, kind, name),
@@ -106,6 +110,7 @@ fn attach_within(
     ensures comes { Comes (world_of store.old) at (open_call kind name.now) result (world_of store.new) }
     ensures keeps { Keeps store.old store.new }
     ensures place { OnOk result (HasPlace 1 store.new) }
+    ensures spare { spare_of store.old ≤ spare_of store.new }
 {
     match make_place(store, 0) {
         Ok(()) => {
@@ -122,6 +127,7 @@ pub fn monitor(store: &mut Store, at: Moment) -> Result<Replies, NoEntry>
     ensures comes { Comes (world_of store.old) at Call.OpenMonitoring result (world_of store.new) }
     ensures keeps { Keeps store.old store.new }
     ensures place { OnOk result (HasPlace 1 store.new) }
+    ensures spare { spare_of store.old ≤ spare_of store.new }
 {
     match within(store) {
         Ok(()) => monitor_within(store, at),
@@ -135,6 +141,7 @@ fn monitor_within(store: &mut Store, at: Moment) -> Result<Replies, NoEntry>
     ensures comes { Comes (world_of store.old) at Call.OpenMonitoring result (world_of store.new) }
     ensures keeps { Keeps store.old store.new }
     ensures place { OnOk result (HasPlace 1 store.new) }
+    ensures spare { spare_of store.old ≤ spare_of store.new }
 {
     match make_place(store, 0) {
         Ok(()) => {
@@ -156,6 +163,7 @@ fn open_up(
     ensures opens { Opens made (world_of store.old) at result (world_of store.new) }
     ensures keeps { Keeps store.old store.new }
     ensures place { HasPlace 1 store.new }
+    ensures spare { spare_of store.old ≤ spare_of store.new }
 {
     match made {
         Ok(session) => Ok(go_on(store, at, Replies::session(session))),
@@ -172,6 +180,7 @@ pub fn go_on(store: &mut Store, at: Moment, replies: Replies) -> Replies
     ensures world { world_of store.new ≡ counted (advance (world_of store.old) at) }
     ensures keeps { Keeps store.old store.new }
     ensures place { HasPlace 1 store.new }
+    ensures spare { spare_of store.old ≤ spare_of store.new }
 {
     let entry = store.entries + 1;
     store.core.advance(at, entry);

@@ -142,6 +142,7 @@ pub fn wait(
     ensures comes { Comes (world_of store.old) at (Call.Wait session jobs.now kind begun timeout) result (world_of store.new) }
     ensures keeps { Keeps store.old store.new }
     ensures place { OnOk result (HasPlace 1 store.new) }
+    ensures spare { spare_of store.old ≤ spare_of store.new }
 {
     match store.wait_refusal(at, session, jobs) {
         Some(why) => refuse(store, at, &why),
@@ -163,6 +164,7 @@ fn look(
     ensures comes { Comes (world_of store.old) at (Call.Wait session jobs.now kind begun timeout) result (world_of store.new) }
     ensures keeps { Keeps store.old store.new }
     ensures place { OnOk result (HasPlace 1 store.new) }
+    ensures spare { spare_of store.old ≤ spare_of store.new }
 {
     let _ = session;
     let job = store.first_reached(at, kind, jobs);

@@ -184,13 +184,16 @@ module _ (w : World) (at : ℕ) (l : Launch) (fit : IsFit w.plan) (told : launch
       let less = advance-due (w.entries + 1) at w.plan in
       omega (arith, same, adds, less))
 
-  -- memory was wanting
+  -- memory was wanting: nothing has changed
+  pub launch-missed : ((b : Launch) → result ≡ Ok (Some b) → ⊥) → new ≡ w.plan
+  launch-missed none =
+      (let sized = is-next.sized in
+      missed (outcome launch (w.entries + 1) (advance_plan (w.entries + 1) at w.plan)) w.plan new (w.entries + 1) w.config.journal l launch-ok result (omega (arith, sized, within)) none met-now)
+
   pub launch-short : ((b : Launch) → result ≡ Ok (Some b) → ⊥) → Comes w at call.TakeLaunch (Err fault.OutOfMemory) (record w { plan = new })
   launch-short none =
-      (let sized = is-next.sized in
-      let same : new ≡ w.plan = missed (outcome launch (w.entries + 1) (advance_plan (w.entries + 1) at w.plan)) w.plan new (w.entries + 1) w.config.journal l launch-ok result (omega (arith, sized, within)) none met-now in
       next-short w at call.TakeLaunch (reply.Launch l) (launch.effect (w.entries + 1) (advance_plan (w.entries + 1) at w.plan)) (w.entries + 1 + weight w.plan + 4) is-next (record w { plan = new }) within
-      (ap (λ (p : Plan). record w { plan = p }) same))
+      (ap (λ (p : Plan). record w { plan = p }) (launch-missed none))
 
 -- ---- a signal
 

@@ -7,7 +7,7 @@ ghost use Rattle.drmaa_model.specs.Order.{next_launch};
 ghost use Rattle.drmaa_model.specs.Size.{weight};
 ghost use Rattle.drmaa_model.specs.Time.{advance_plan};
 ghost use Rattle.machine_readings.specs.Stores.{world_of, IsKept};
-ghost use Rattle.machine_calls.specs.Serving.{Comes, Keeps, HasPlace};
+ghost use Rattle.machine_calls.specs.Serving.{Comes, Keeps, HasPlace, spare_of};
 
 use drmaa_model::{Launch, NoEntry, Reply};
 use drmaa_types::Moment;
@@ -31,6 +31,7 @@ pub fn take_launch(store: &mut Store, at: Moment) -> Result<Replies, NoEntry>
     ensures comes { Comes (world_of store.old) at Call.TakeLaunch result (world_of store.new) }
     ensures keeps { Keeps store.old store.new }
     ensures place { OnOk result (HasPlace 1 store.new) }
+    ensures unspent { OnErr result (spare_of store.old ≤ spare_of store.new) }
 {
     match store.core.next_launch(at) {
         Ok(None) => Err(NoEntry::Nothing),
@@ -73,6 +74,7 @@ fn hand_out(store: &mut Store, at: Moment, next: Launch) -> Result<Replies, NoEn
     ensures comes { Comes (world_of store.old) at Call.TakeLaunch result (world_of store.new) }
     ensures keeps { Keeps store.old store.new }
     ensures place { OnOk result (HasPlace 1 store.new) }
+    ensures unspent { OnErr result (spare_of store.old ≤ spare_of store.new) }
 {
     match within(store) {
         Ok(()) => hand_out_within(store, at, next),
@@ -87,6 +89,7 @@ fn hand_out_within(store: &mut Store, at: Moment, next: Launch) -> Result<Replie
     ensures comes { Comes (world_of store.old) at Call.TakeLaunch result (world_of store.new) }
     ensures keeps { Keeps store.old store.new }
     ensures place { OnOk result (HasPlace 1 store.new) }
+    ensures unspent { OnErr result (spare_of store.old ≤ spare_of store.new) }
 {
     match make_place(store, REPORTS) {
         Ok(()) => hand_out_now(store, at, next),
@@ -103,6 +106,7 @@ fn hand_out_now(store: &mut Store, at: Moment, next: Launch) -> Result<Replies, 
     ensures comes { Comes (world_of store.old) at Call.TakeLaunch result (world_of store.new) }
     ensures keeps { Keeps store.old store.new }
     ensures place { OnOk result (HasPlace 1 store.new) }
+    ensures unspent { OnErr result (spare_of store.old ≤ spare_of store.new) }
 {
     let entry = store.entries + 1;
     let limit = store.config.journal;

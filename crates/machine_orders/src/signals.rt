@@ -26,6 +26,7 @@ pub fn take_signal(store: &mut Store, at: Moment) -> Result<Replies, NoEntry>
     ensures keeps { Keeps store.old store.new }
     ensures place { OnOk result (HasPlace 1 store.new) }
     ensures memory { 1 ≤ spare_of store.old → result ≢ Err NoEntry.OutOfMemory }
+    ensures spare { spare_of store.old ≤ spare_of store.new }
 {
     match store.core.next_signal(at) {
         Some(next) => hand_out(store, at, next),
@@ -41,6 +42,7 @@ fn hand_out(store: &mut Store, at: Moment, next: Signal) -> Result<Replies, NoEn
     ensures keeps { Keeps store.old store.new }
     ensures place { OnOk result (HasPlace 1 store.new) }
     ensures memory { 1 ≤ spare_of store.old → result ≢ Err NoEntry.OutOfMemory }
+    ensures spare { spare_of store.old ≤ spare_of store.new }
 {
     match within(store) {
         Ok(()) => hand_out_within(store, at, next),
@@ -56,6 +58,7 @@ fn hand_out_within(store: &mut Store, at: Moment, next: Signal) -> Result<Replie
     ensures keeps { Keeps store.old store.new }
     ensures place { OnOk result (HasPlace 1 store.new) }
     ensures memory { 1 ≤ spare_of store.old → result ≢ Err NoEntry.OutOfMemory }
+    ensures spare { spare_of store.old ≤ spare_of store.new }
 {
     match make_place(store, 0) {
         Ok(()) => Ok(hand_out_now(store, at, next)),
@@ -72,6 +75,7 @@ fn hand_out_now(store: &mut Store, at: Moment, next: Signal) -> Replies
     ensures replies { AreBoth result (Reply.Signal next) }
     ensures keeps { Keeps store.old store.new }
     ensures place { HasPlace 1 store.new }
+    ensures spare { spare_of store.old ≤ spare_of store.new }
 {
     let entry = store.entries + 1;
     let limit = store.config.journal;

@@ -1,38 +1,17 @@
-//! The call that an entry keeps of a call: a name of a limit that a journal can't print becomes `OTHER`.
-ghost use Rattle.std.specs.Prelude.{◌≡◌, IfOk, OnOk, map, codes};
+//! The template that an entry keeps of a submission: a name of a limit that a journal can't print becomes `OTHER`.
+ghost use Rattle.std.specs.Prelude.{◌≡◌, IfOk, OnOk, OnErr, false, map, codes};
 ghost use Rattle.std.specs.List.{list_all};
-ghost use Rattle.drmaa_model.specs.KeptCalls.{is_capital, is_word, kept, kept_limit, kept_template};
+ghost use Rattle.drmaa_model.specs.KeptCalls.{is_capital, is_word, kept_limit, kept_template};
+ghost use Rattle.machine_submissions.specs.Names.{has_words};
 
-use drmaa_model::Call;
 use drmaa_types::{ListOf, Text};
 use job_template::{JobTemplate, LimitList, ResourceLimit};
 use std::alloc::{AllocError, Global};
 
-/// The call that its entry keeps. It takes memory only for a name that becomes `OTHER`.
-pub fn kept_call(alloc: Global, call: Call) -> Result<Call, AllocError>
-    ensures { IfOk result (λ call'. call' ≡ kept call) }
-{
-    match call {
-        Call::RunJob { session, template } => Ok(Call::RunJob {
-            session,
-            template: kept_template(alloc, template)?,
-        }),
-        Call::RunBulk {
-            session,
-            template,
-            indices,
-        } => Ok(Call::RunBulk {
-            session,
-            template: kept_template(alloc, template)?,
-            indices,
-        }),
-        other => Ok(other),
-    }
-}
-
-/// The template that an entry keeps, and the job's row with it.
+/// The template that an entry keeps, and the job's row with it. It takes memory only for a name that becomes `OTHER`.
 pub fn kept_template(alloc: Global, template: JobTemplate) -> Result<JobTemplate, AllocError>
-    ensures { IfOk result (λ t. t ≡ kept_template template) }
+    ensures ok { IfOk result (λ t. t ≡ kept_template template) }
+    ensures err { OnErr result (has_words template.resource_limits ≡ false) }
 {
     let limits = kept_limits(alloc, template.resource_limits)?;
     Ok(JobTemplate {
@@ -42,7 +21,8 @@ pub fn kept_template(alloc: Global, template: JobTemplate) -> Result<JobTemplate
 }
 
 fn kept_limits(alloc: Global, limits: LimitList) -> Result<LimitList, AllocError>
-    ensures { IfOk result (λ ls. ls ≡ map kept_limit limits) }
+    ensures ok { IfOk result (λ ls. ls ≡ map kept_limit limits) }
+    ensures err { OnErr result (has_words limits ≡ false) }
 {
     let mut items = limits.into_vec();
     keep_limits(alloc, &mut items)?;
@@ -50,7 +30,8 @@ fn kept_limits(alloc: Global, limits: LimitList) -> Result<LimitList, AllocError
 }
 
 fn keep_limits(alloc: Global, limits: &mut Vec<ResourceLimit>) -> Result<(), AllocError>
-    ensures { OnOk result (limits.new.items ≡ map kept_limit limits.old.items) }
+    ensures ok { OnOk result (limits.new.items ≡ map kept_limit limits.old.items) }
+    ensures err { OnErr result (has_words limits.old.items ≡ false) }
 {
     for limit in limits.iter_mut() {
         keep_limit(alloc, limit)?;
@@ -59,7 +40,8 @@ fn keep_limits(alloc: Global, limits: &mut Vec<ResourceLimit>) -> Result<(), All
 }
 
 fn keep_limit(alloc: Global, limit: &mut ResourceLimit) -> Result<(), AllocError>
-    ensures { OnOk result (limit.new ≡ kept_limit limit.old) }
+    ensures ok { OnOk result (limit.new ≡ kept_limit limit.old) }
+    ensures err { OnErr result (is_word limit.old.name ≡ false) }
 {
     if !is_word(limit.name.as_str().as_bytes()) {
         limit.name = other_name(alloc)?;

@@ -6,7 +6,7 @@ ghost use Rattle.drmaa_model.specs.declared.calls.Call.{Call};
 ghost use Rattle.drmaa_model.specs.Homes.{session_test};
 ghost use Rattle.drmaa_model.specs.Size.{weight};
 ghost use Rattle.machine_readings.specs.Stores.{world_of, world_at, IsKept};
-ghost use Rattle.machine_calls.specs.Serving.{Comes, Keeps, HasPlace};
+ghost use Rattle.machine_calls.specs.Serving.{Comes, Keeps, HasPlace, spare_of};
 
 use crate::homes::home_number;
 use drmaa_model::NoEntry;
@@ -27,6 +27,7 @@ pub fn request_reservation(
     ensures comes { Comes (world_of store.old) at (Call.RequestReservation session template.now) result (world_of store.new) }
     ensures keeps { Keeps store.old store.new }
     ensures place { OnOk result (HasPlace 1 store.new) }
+    ensures spare { spare_of store.old ≤ spare_of store.new }
 {
     match store.reservations_refusal(at, session) {
         Some(why) => refuse(store, at, &why),
@@ -45,6 +46,7 @@ fn request_own(
     ensures comes { Comes (world_of store.old) at (Call.RequestReservation session template.now) result (world_of store.new) }
     ensures keeps { Keeps store.old store.new }
     ensures place { OnOk result (HasPlace 1 store.new) }
+    ensures spare { spare_of store.old ≤ spare_of store.new }
 {
     match within(store) {
         Ok(()) => request_within(store, at, session, template),
@@ -64,6 +66,7 @@ fn request_within(
     ensures comes { Comes (world_of store.old) at (Call.RequestReservation session template.now) result (world_of store.new) }
     ensures keeps { Keeps store.old store.new }
     ensures place { OnOk result (HasPlace 1 store.new) }
+    ensures spare { spare_of store.old ≤ spare_of store.new }
 {
     match template.clone() {
         Ok(copy) => request_now(store, at, session, copy),
@@ -84,6 +87,7 @@ fn request_now(
     ensures comes { Comes (world_of store.old) at (Call.RequestReservation session template) result (world_of store.new) }
     ensures keeps { Keeps store.old store.new }
     ensures place { OnOk result (HasPlace 1 store.new) }
+    ensures spare { spare_of store.old ≤ spare_of store.new }
 {
     let home = home_number(store, session);
     let limit = limit_for(store);

@@ -1,11 +1,11 @@
 //! The calls that submit a job, and an array of jobs.
-ghost use Rattle.std.specs.Prelude.{◌≡◌, [], ◌∷◌, OnOk, None};
+ghost use Rattle.std.specs.Prelude.{◌≡◌, ◌≤◌, [], ◌∷◌, OnOk, OnErr, None};
 ghost use Rattle.drmaa_types.specs.Refusals.{first_refusal};
 ghost use Rattle.drmaa_types.specs.declared.sessions.SessionKind.{SessionKind};
 ghost use Rattle.drmaa_model.specs.declared.calls.Call.{Call};
 ghost use Rattle.drmaa_model.specs.Homes.{session_test};
 ghost use Rattle.machine_readings.specs.Stores.{world_of, world_at, IsKept};
-ghost use Rattle.machine_calls.specs.Serving.{Comes, Keeps, HasPlace};
+ghost use Rattle.machine_calls.specs.Serving.{Comes, Keeps, HasPlace, spare_of};
 ghost use Rattle.machine_submissions.specs.Runs.{run_call};
 
 use crate::concludes::conclude_submitted;
@@ -27,6 +27,7 @@ pub fn run_job(
     ensures comes { Comes (world_of store.old) at (Call.RunJob session template.now) result (world_of store.new) }
     ensures keeps { Keeps store.old store.new }
     ensures place { OnOk result (HasPlace 1 store.new) }
+    ensures unspent { OnErr result (spare_of store.old ≤ spare_of store.new) }
 {
     run(store, at, session, template, None)
 }
@@ -43,6 +44,7 @@ pub fn run_bulk(
     ensures comes { Comes (world_of store.old) at (Call.RunBulk session template.now indices) result (world_of store.new) }
     ensures keeps { Keeps store.old store.new }
     ensures place { OnOk result (HasPlace 1 store.new) }
+    ensures unspent { OnErr result (spare_of store.old ≤ spare_of store.new) }
 {
     run(store, at, session, template, Some(indices))
 }
@@ -59,6 +61,7 @@ fn run(
     ensures comes { Comes (world_of store.old) at (run_call session template.now indices) result (world_of store.new) }
     ensures keeps { Keeps store.old store.new }
     ensures place { OnOk result (HasPlace 1 store.new) }
+    ensures unspent { OnErr result (spare_of store.old ≤ spare_of store.new) }
 {
     match store.jobs_refusal(at, session) {
         Some(why) => refuse(store, at, &why),
@@ -78,6 +81,7 @@ fn run_own(
     ensures comes { Comes (world_of store.old) at (run_call session template.now indices) result (world_of store.new) }
     ensures keeps { Keeps store.old store.new }
     ensures place { OnOk result (HasPlace 1 store.new) }
+    ensures unspent { OnErr result (spare_of store.old ≤ spare_of store.new) }
 {
     match template.clone() {
         Ok(copy) => run_now(store, at, session, copy, indices),
@@ -98,6 +102,7 @@ fn run_now(
     ensures comes { Comes (world_of store.old) at (run_call session template indices) result (world_of store.new) }
     ensures keeps { Keeps store.old store.new }
     ensures place { OnOk result (HasPlace 1 store.new) }
+    ensures unspent { OnErr result (spare_of store.old ≤ spare_of store.new) }
 {
     let home = home_number(store, session);
     let limit = limit_for(store);

@@ -3,5 +3,7 @@
 
 mod columns;
 mod listings;
+mod monitoring;
 
 pub use listings::listing;
+pub use monitoring::MonitoringSession;

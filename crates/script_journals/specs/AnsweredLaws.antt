@@ -51,7 +51,7 @@ use Rattle.drmaa_model.specs.World.{World}
 use Rattle.drmaa_model.specs.declared.reservations.Accepted.{Accepted}
 use Rattle.drmaa_model.specs.declared.rows.Row.{Row}
 use Rattle.text_forms.specs.Refusals.{may_stand}
-use Rattle.journal_text.specs.Replies.{may_answer}
+use Rattle.journal_forms.specs.Replies.{may_answer}
 
 -- ---- tables of refusals
 

@@ -14,7 +14,7 @@ use Rattle.drmaa_model.specs.declared.calls.Target.TheVariants as target
 use Rattle.text_codec.specs.Formats.{◌>>=◌, checked}
 use Rattle.text_codec.specs.Fields.{always, no_more}
 use Rattle.text_forms.specs.Templates.{is_other, other_form}
-use Rattle.journal_text.specs.Calls.{has_others}
+use Rattle.journal_forms.specs.Calls.{has_others}
 use Rattle.drmaa_types.specs.declared.moments.Timeout.TheVariants.{Seconds}
 use Rattle.drmaa_types.specs.declared.states.Control.{Control}
 use Rattle.drmaa_types.specs.declared.states.Control.TheVariants as control

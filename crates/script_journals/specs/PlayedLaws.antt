@@ -15,7 +15,7 @@ use Rattle.drmaa_model.specs.Size.{size}
 use Rattle.drmaa_model.specs.Steps.{answer}
 use Rattle.drmaa_model.specs.World.{World}
 use Rattle.text_codec.specs.Formats.{choose, checked}
-use Rattle.journal_text.specs.Calls.{has_others}
+use Rattle.journal_forms.specs.Calls.{has_others}
 use Rattle.journal_text.specs.Journals.{is_machine, machine_of}
 use Rattle.journal_text.specs.Printing.{MayStand, IsPrintable}
 use Rattle.script_lines.specs.declared.lines.Line.{Line}

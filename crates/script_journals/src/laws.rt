@@ -6,7 +6,7 @@ ghost use Rattle.drmaa_model.specs.Effects.{gives};
 ghost use Rattle.drmaa_model.specs.Steps.{answer};
 ghost use Rattle.drmaa_model.specs.World.{World};
 ghost use Rattle.journal_text.specs.Printing.{IsPrintable};
-ghost use Rattle.journal_text.specs.Replies.{may_answer};
+ghost use Rattle.journal_forms.specs.Replies.{may_answer};
 ghost use Rattle.script_text.specs.declared.scripts.Mode.{Mode};
 ghost use Rattle.script_text.specs.declared.scripts.Script.{Script};
 ghost use Rattle.script_text.specs.Scripts.{Spells};

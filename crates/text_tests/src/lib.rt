@@ -1,6 +1,8 @@
-//! Tests of the texts: journals, good and bad.
+//! Tests of the texts: journals and scripts, good and bad.
 #![tactic(auto)]
 
+#[cfg(test)]
+mod blocks;
 #[cfg(test)]
 mod builders;
 #[cfg(test)]
@@ -8,6 +10,16 @@ mod cuts;
 #[cfg(test)]
 mod journals;
 #[cfg(test)]
+mod lines;
+#[cfg(test)]
 mod messages;
 #[cfg(test)]
+mod readings;
+#[cfg(test)]
+mod script_cuts;
+#[cfg(test)]
+mod scripts;
+#[cfg(test)]
 mod spellings;
+#[cfg(test)]
+mod templates;

@@ -7,10 +7,10 @@ use Rattle.drmaa_model.specs.Refusals.{refusal}
 use Rattle.machine_readings.specs.Stores.{world_of, world_at}
 use Rattle.machine_calls.specs.Serving.{spare_of}
 use Rattle.drmaa_machine.specs.Applies.{Applies}
-use Rattle.drmaa_machine.specs.Applying.{is_foreseen, is_run_report}
-use Rattle.drmaa_machine.specs.Invariant.{IsMachine, ledger_of}
+use Rattle.drmaa_machine.specs.Applying.{is_foreseen, is_frugal, is_run_report}
+use Rattle.drmaa_machine.specs.Invariant.{ledger_of}
 use Rattle.drmaa_machine.proofs.KeptOnes.{submits, submission-short}
-use Rattle.drmaa_machine.proofs.Storing.{applies-err, keeps-all}
+use Rattle.drmaa_machine.proofs.Storing.{applies-err, keeps-all, slots-free}
 use Rattle.drmaa_machine.proofs.applying.serve.Goals as goal
 
 pub returns-in-Ok-clause-applies : goal.returns-in-Ok-clause-applies
@@ -23,11 +23,18 @@ returns-in-Ok-clause-memory c =
 
 pub returns-in-Ok-clause-spare : goal.returns-in-Ok-clause-spare
 returns-in-Ok-clause-spare c =
-    subst (λ (x : Call). is_foreseen x ≡ true → spare_of c.args.store.now ≤ spare_of c.serve_kept.new.store + 1) (c.in-Ok.ensures {u = tt}).ok c.serve_kept.ensures.spare
+    subst (λ (x : Call). is_frugal x ≡ true → spare_of c.args.store.now ≤ spare_of c.serve_kept.new.store + 1) (c.in-Ok.ensures {u = tt}).ok c.serve_kept.ensures.spare
 
 pub returns-in-Ok-clause-reports : goal.returns-in-Ok-clause-reports
 returns-in-Ok-clause-reports c =
     subst (λ (x : Call). is_run_report x ≡ true → refusal (world_at c.args.at c.args.store.now) x ≡ None → IsOk c.serve_kept.result) (c.in-Ok.ensures {u = tt}).ok c.serve_kept.ensures.reports
+
+pub returns-in-Ok-clause-promised : goal.returns-in-Ok-clause-promised
+returns-in-Ok-clause-promised c =
+    subst (λ (x : Call). is_run_report x ≡ true → refusal (world_at c.args.at c.args.store.now) x ≡ None → spare_of c.args.store.now ≤ spare_of c.serve_kept.new.store) (c.in-Ok.ensures {u = tt}).ok c.serve_kept.ensures.promised
+
+pub returns-in-Ok-clause-honoured_slots : goal.returns-in-Ok-clause-honoured_slots
+returns-in-Ok-clause-honoured_slots c = slots-free c.args.store.now c.requires.machine c.args.at c.a_moment_is_within.ensures
 
 pub returns-in-Err-clause-applies : goal.returns-in-Err-clause-applies
 returns-in-Err-clause-applies c =
@@ -39,7 +46,13 @@ pub returns-in-Err-clause-memory : goal.returns-in-Err-clause-memory
 returns-in-Err-clause-memory c = λ foreseen more wrong. (let never = (submits c.args.call (c.in-Err.ensures {u = tt}).err).kept_unforeseen in cc)
 
 pub returns-in-Err-clause-spare : goal.returns-in-Err-clause-spare
-returns-in-Err-clause-spare c = λ foreseen. omega arith
+returns-in-Err-clause-spare c = λ frugal. omega arith
 
 pub returns-in-Err-clause-reports : goal.returns-in-Err-clause-reports
 returns-in-Err-clause-reports c = λ reports free. (let never = (submits c.args.call (c.in-Err.ensures {u = tt}).err).kept_no_report in absurd (cc))
+
+pub returns-in-Err-clause-promised : goal.returns-in-Err-clause-promised
+returns-in-Err-clause-promised c = λ reports free. omega arith
+
+pub returns-in-Err-clause-honoured_slots : goal.returns-in-Err-clause-honoured_slots
+returns-in-Err-clause-honoured_slots c = slots-free c.args.store.now c.requires.machine c.args.at c.a_moment_is_within.ensures

@@ -39,13 +39,19 @@ pub returns-in-Ok-clause-memory : goal.returns-in-Ok-clause-memory
 returns-in-Ok-clause-memory c = λ foreseen more wrong. cc
 
 pub returns-in-Ok-clause-spare : goal.returns-in-Ok-clause-spare
-returns-in-Ok-clause-spare c = λ foreseen.
-    (let before = (c.in-Ok.ensures {u = tt}).sparing.spare foreseen in
+returns-in-Ok-clause-spare c = λ frugal.
+    (let before = (c.in-Ok.ensures {u = tt}).sparing.spare frugal in
     let after = left-pushed c.perform.new.store c.push.new.store c.push.ensures.core c.push.ensures.len c.push.ensures.capacity in
     omega (arith, before, after))
 
 pub returns-in-Ok-clause-reports : goal.returns-in-Ok-clause-reports
 returns-in-Ok-clause-reports c = λ reports free. refl
+
+pub returns-in-Ok-clause-promised : goal.returns-in-Ok-clause-promised
+returns-in-Ok-clause-promised c = λ reports free.
+    (let before = (c.in-Ok.ensures {u = tt}).sparing.promised reports free in
+    let after = left-pushed c.perform.new.store c.push.new.store c.push.ensures.core c.push.ensures.len c.push.ensures.capacity in
+    omega (arith, before, after))
 
 pub returns-in-Err-clause-machine : goal.returns-in-Err-clause-machine
 returns-in-Err-clause-machine c = (unmade c).0
@@ -57,10 +63,19 @@ pub returns-in-Err-clause-memory : goal.returns-in-Err-clause-memory
 returns-in-Err-clause-memory c = λ foreseen more wrong. (c.in-Err.ensures {u = tt}).sparing.memory foreseen more (short c.in-Err.why wrong)
 
 pub returns-in-Err-clause-spare : goal.returns-in-Err-clause-spare
-returns-in-Err-clause-spare c = λ foreseen.
-    (let before = (c.in-Err.ensures {u = tt}).sparing.spare foreseen in
+returns-in-Err-clause-spare c = λ frugal.
+    (let before = (c.in-Err.ensures {u = tt}).sparing.spare frugal in
     let after = left-spare c.perform.new.store in
     omega (arith, before, after))
 
 pub returns-in-Err-clause-reports : goal.returns-in-Err-clause-reports
 returns-in-Err-clause-reports c = (c.in-Err.ensures {u = tt}).sparing.reports
+
+pub returns-in-Err-clause-promised : goal.returns-in-Err-clause-promised
+returns-in-Err-clause-promised c = λ reports free.
+    (let before = (c.in-Err.ensures {u = tt}).sparing.promised reports free in
+    let after = left-spare c.perform.new.store in
+    omega (arith, before, after))
+
+pub returns-in-Err-clause-unspent : goal.returns-in-Err-clause-unspent
+returns-in-Err-clause-unspent c = (c.in-Err.ensures {u = tt}).sparing.unspent

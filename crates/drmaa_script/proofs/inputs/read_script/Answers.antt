@@ -2,7 +2,7 @@ use Rattle.std.proofs.Common.{◌≡◌, List, ℕ, Bool, ◌≤◌, length, sym
 use Rattle.std.proofs.lemmas.Option.{IfSome_then}
 use Rattle.byte_streams.specs.Streams.{ReadsUpTo}
 use Rattle.text_lines.specs.Lines.{IsFront, whole_lines, kept}
-use Rattle.drmaa_script.proofs.Fronts.{front_of, own_front, read_as, short_as, refused_at}
+use Rattle.drmaa_script.proofs.Fronts.{front_of, own_front, read_as, short_as, refused_at, read_out}
 use Rattle.drmaa_script.proofs.inputs.read_script.Goals as goal
 
 front : (bytes read all : List ℕ) (whole : Bool) → read ≡ bytes → ReadsUpTo 16_777_216 all bytes whole → IsFront 16_777_216 all read whole
@@ -36,3 +36,7 @@ pub returns-clause-line : goal.returns-clause-line
 returns-clause-line g c = λ n e.
     IfSome_then (g.R.Source.left c.args.source.now) c.in-Ok.ensures.read (λ all r.
     c.in-Err-read_first.ensures.line all n (front c.in-Ok.input.bytes.items c.as_slice.result.now all c.in-Ok.input.whole c.as_slice.ensures.value r) (refused_at c.in-Err-read_first.fault c.status_of.result n c.status_of.ensures e))
+
+pub returns-clause-read_out : goal.returns-clause-read_out
+returns-clause-read_out g c = λ n e.
+    read_out 16_777_216 (g.R.Source.left c.args.source.now) _ c.in-Ok.input.bytes.items c.in-Ok.input.whole c.in-Ok.ensures.read c.in-Ok.ensures.end

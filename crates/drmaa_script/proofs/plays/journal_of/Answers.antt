@@ -3,12 +3,12 @@ use Rattle.std.specs.Prelude.{IfOk, OnOk}
 use Rattle.std.proofs.lemmas.Result.{IfOk-weaker}
 use Rattle.drmaa_model.specs.declared.configs.Config.{Config}
 use Rattle.drmaa_model.specs.declared.entries.Entry.{Entry}
-use Rattle.drmaa_model.specs.History.{Ledger}
+use Rattle.drmaa_model.specs.History.{Ledger, IsLegal}
 use Rattle.journal_text.specs.Journals.{IsWritable, journal_text}
 use Rattle.journal_text.specs.Printing.{IsPrintable}
 use Rattle.script_asks.specs.Plays.{serial_play}
 use Rattle.script_text.specs.declared.scripts.Mode.TheVariants as mode
-use Rattle.drmaa_script.proofs.Somes.{ok_both}
+use Rattle.drmaa_script.proofs.Somes.{ok_both, on_both}
 use Rattle.drmaa_script.proofs.plays.journal_of.Goals as goal
 
 -- what holds of the script's machine and of its play holds of what is printed
@@ -21,7 +21,9 @@ returns-clause-writable c =
     let config : c.config.result.now ≡ s.config = c.config.ensures ∙ ap (λ (l : Ledger). l.config) c.requires.played in
     let entries : c.entries.result.now ≡ (serial_play s).entries = c.entries.ensures.entries ∙ ap (λ (l : Ledger). l.history) c.requires.played in
     let printable = given IsPrintable c.config.result.now s.config c.entries.result.now (serial_play s).entries config entries (c.a_play_is_printable.ensures mode.Serial c.requires.spelled.0 s c.requires.spelled.1) in
-    given (λ a h. OnOk c.journal_bytes.result (IsWritable a h)) s.config c.config.result.now (serial_play s).entries c.entries.result.now (sym config) (sym entries) (c.journal_bytes.ensures.writable printable)
+    let writable = given (λ a h. OnOk c.journal_bytes.result (IsWritable a h)) s.config c.config.result.now (serial_play s).entries c.entries.result.now (sym config) (sym entries) (c.journal_bytes.ensures.writable printable) in
+    let legal = subst (λ (l : Ledger). IsLegal l.config l.history) c.requires.played c.entries.ensures.legal in
+    on_both c.journal_bytes.result (IsWritable s.config (serial_play s).entries) (IsLegal s.config (serial_play s).entries) writable legal
 
 pub returns-clause-text : goal.returns-clause-text
 returns-clause-text c =

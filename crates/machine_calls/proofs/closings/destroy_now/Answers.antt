@@ -43,6 +43,16 @@ returns-in-Ok-clause-place c =
     let room = c.requires.room in
     omega (arith, less, fewer, same, room))
 
+pub returns-in-Ok-clause-spare : goal.returns-in-Ok-clause-spare
+returns-in-Ok-clause-spare c =
+    (let s = c.args.store.now in
+    let q = advance (world_of s) c.args.at in
+    let less = advance-due (s.entries + 1) c.args.at s.core.plan in
+    let fewer = forget-due c.in-Ok.home q.plan in
+    let same = ap (λ (p : Plan). reports_to_come p.rows) c.forget_home.ensures.plan in
+    let kept = c.forget_home.ensures.spare in
+    omega (arith, less, fewer, same, kept))
+
 then : (c : After-go_on) → world_of c.go_on.new.store ≡ counted (advance (world_of c.args.store.now) c.args.at)
 then c =
     (let w = world_of c.args.store.now in

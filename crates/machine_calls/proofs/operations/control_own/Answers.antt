@@ -1,4 +1,4 @@
-use Rattle.std.proofs.Common.{◌+◌, inl, inr, ◌∙◌, ap, arith}
+use Rattle.std.proofs.Common.{◌+◌, ◌≤◌, inl, inr, ◌∙◌, ap, arith}
 use Rattle.drmaa_model.specs.declared.calls.Call.TheVariants as call
 use Rattle.std.proofs.lemmas.Bool.{cases_lt}
 use Rattle.drmaa_model.specs.Controlling.{control}
@@ -8,10 +8,11 @@ use Rattle.drmaa_model.specs.Time.{advance_plan}
 use Rattle.machine_readings.specs.Stores.{world_of, world_at}
 use Rattle.scheduler_core.specs.Facts.{reports_to_come}
 use Rattle.scheduler_core.specs.View.{View}
+use Rattle.machine_calls.specs.Serving.{spare_of}
 use Rattle.machine_calls.proofs.Firsts.{control-through}
 use Rattle.machine_calls.proofs.Outcomes.{control-outcome}
 use Rattle.machine_calls.proofs.Placed.{comes-after-sized, due-after, place-after, remembers-after}
-use Rattle.machine_calls.proofs.Spares.{uses-one}
+use Rattle.machine_calls.proofs.Spares.{error-only, operation-spare, uses-one}
 use Rattle.machine_calls.proofs.operations.control_own.Goals as goal
 
 pub returns-clause-comes : goal.returns-clause-comes
@@ -51,3 +52,12 @@ returns-clause-spare c = λ quiet.
     let more = first.more in
     let again = then.more in
     uses-one c.args.store.now c.conclude.new.store (then.len ∙ first.len) (omega (arith, more, again)) (omega (arith, due, rows)) (omega (arith, left, before, one)))
+
+pub returns-clause-unspent : goal.returns-clause-unspent
+returns-clause-unspent c =
+    (let due = due-after unit (control c.args.target c.args.what) c.args.store.now c.limit_for-limit.new.store c.args.at (call.Control c.args.session c.args.target c.args.what) (control-through c.args.session c.args.target c.args.what c.args.at (world_at c.args.at c.args.store.now) c.requires.own) c.limit_for-limit.result c.control-done.new.self.plan c.control-done.result c.conclude.result (world_of c.conclude.new.store)
+    c.limit_for-limit.ensures.world c.limit_for-limit.ensures.placed c.control-done.ensures.meets c.conclude.ensures.concludes (control-outcome c.args.target c.args.what (c.args.store.now.entries + 1)) c.requires.kept.consistent.fit in
+    error-only unit c.control-done.result (record (world_of c.limit_for-limit.new.store) { plan = c.control-done.new.self.plan }) c.conclude.result (world_of c.conclude.new.store)
+    (c.limit_for-limit.new.store.core.spare ≤ c.control-done.new.self.spare) (spare_of c.args.store.now ≤ spare_of c.conclude.new.store) c.conclude.ensures.concludes
+    (λ kept. operation-spare c.args.store.now c.limit_for-limit.new.store c.conclude.new.store c.control-done.new.self c.limit_for-limit.ensures.keeps c.limit_for-limit.ensures.core c.conclude.ensures.core c.conclude.ensures.keeps.len c.conclude.ensures.keeps.more due kept)
+    c.control-done.ensures.err)

@@ -1,14 +1,13 @@
-use Rattle.std.proofs.Common.{◌+◌, ◌∙◌, ap, arith}
+use Rattle.std.proofs.Common.{◌+◌, ap}
 use Rattle.drmaa_model.specs.Effects.{unit}
 use Rattle.drmaa_model.specs.Reporting.{report_of}
 use Rattle.machine_readings.specs.Stores.{world_of, world_at}
-use Rattle.scheduler_core.specs.Facts.{reports_to_come}
 use Rattle.scheduler_core.specs.View.{View}
 use Rattle.machine_calls.specs.Reports.{call_of}
 use Rattle.machine_calls.proofs.Firsts.{report-through}
 use Rattle.machine_calls.proofs.Outcomes.{report-outcome}
 use Rattle.machine_calls.proofs.Placed.{comes-after, due-after, place-after}
-use Rattle.machine_calls.proofs.Spares.{uses-one}
+use Rattle.machine_calls.proofs.Spares.{operation-spare}
 use Rattle.machine_calls.proofs.reports.take_other.Goals as goal
 
 pub returns-clause-comes : goal.returns-clause-comes
@@ -26,12 +25,4 @@ pub returns-clause-spare : goal.returns-clause-spare
 returns-clause-spare c =
     (let due = due-after unit (report_of c.args.report) c.args.store.now c.limit_for-limit.new.store c.args.at (call_of c.args.report) (report-through c.args.report c.args.at (world_at c.args.at c.args.store.now)) c.limit_for-limit.result c.report-done.new.self.plan c.report-done.result c.conclude.result (world_of c.conclude.new.store)
     c.limit_for-limit.ensures.world c.limit_for-limit.ensures.placed c.report-done.ensures.meets c.conclude.ensures.concludes (report-outcome c.args.report (c.args.store.now.entries + 1)) c.requires.kept.consistent.fit in
-    let rows = ap (λ (v : View). reports_to_come v.plan.rows) c.conclude.ensures.core in
-    let left = ap (λ (v : View). v.spare) c.conclude.ensures.core in
-    let before = ap (λ (v : View). v.spare) c.limit_for-limit.ensures.core in
-    let kept = c.report-done.ensures.spare in
-    let first = c.limit_for-limit.ensures.keeps in
-    let then = c.conclude.ensures.keeps in
-    let more = first.more in
-    let again = then.more in
-    uses-one c.args.store.now c.conclude.new.store (then.len ∙ first.len) (omega (arith, more, again)) (omega (arith, due, rows)) (omega (arith, left, before, kept)))
+    operation-spare c.args.store.now c.limit_for-limit.new.store c.conclude.new.store c.report-done.new.self c.limit_for-limit.ensures.keeps c.limit_for-limit.ensures.core c.conclude.ensures.core c.conclude.ensures.keeps.len c.conclude.ensures.keeps.more due c.report-done.ensures.spare)

@@ -16,3 +16,11 @@ returns-clause-place c =
     let same = ap (λ (p : Plan). reports_to_come p.rows) c.advance.ensures.plan in
     let room = c.requires.room in
     omega (arith, less, same, room))
+
+pub returns-clause-spare : goal.returns-clause-spare
+returns-clause-spare c =
+    (let s = c.args.store.now in
+    let less = advance-due (s.entries + 1) c.args.at s.core.plan in
+    let same = ap (λ (p : Plan). reports_to_come p.rows) c.advance.ensures.plan in
+    let kept = c.advance.ensures.spare in
+    omega (arith, less, same, kept))

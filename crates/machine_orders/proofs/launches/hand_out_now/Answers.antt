@@ -2,8 +2,10 @@ use Rattle.std.proofs.Common.{Option, ◌∙◌, ap, arith}
 use Rattle.std.specs.Prelude.{Result, Ok}
 use Rattle.drmaa_types.specs.declared.refusals.Refusal.{Refusal}
 use Rattle.drmaa_model.specs.declared.replies.Launch.{Launch}
+use Rattle.drmaa_model.specs.Plan.{Plan}
+use Rattle.scheduler_core.specs.Facts.{reports_to_come}
 use Rattle.machine_readings.specs.Stores.{world_of}
-use Rattle.machine_orders.proofs.Orders.{launch-comes, launch-due, launch-found, launch-short}
+use Rattle.machine_orders.proofs.Orders.{launch-comes, launch-due, launch-found, launch-missed, launch-short}
 use Rattle.machine_orders.proofs.launches.hand_out_now.Goals as goal
 
 pub returns-in-Ok-Some-clause-comes : goal.returns-in-Ok-Some-clause-comes
@@ -27,3 +29,11 @@ pub returns-in-Err-clause-comes : goal.returns-in-Err-clause-comes
 returns-in-Err-clause-comes c =
     launch-short (world_of c.args.store.now) c.args.at c.args.next c.requires.fit c.requires.next c.requires.within c.take_launch.new.self.plan c.take_launch.result c.take_launch.ensures.meets
     (λ b is. (let e = c.in-Err.is in absurd (cc)))
+
+pub returns-in-Err-clause-unspent : goal.returns-in-Err-clause-unspent
+returns-in-Err-clause-unspent c =
+    (let same = ap (λ (p : Plan). reports_to_come p.rows)
+    (launch-missed (world_of c.args.store.now) c.args.at c.args.next c.requires.fit c.requires.next c.requires.within c.take_launch.new.self.plan c.take_launch.result c.take_launch.ensures.meets
+    (λ b is. (let e = c.in-Err.is in absurd (cc)))) in
+    let kept = (c.in-Err.ensures {u = tt}).err in
+    omega (arith, same, kept))

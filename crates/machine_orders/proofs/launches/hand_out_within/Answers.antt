@@ -1,4 +1,5 @@
-use Rattle.std.proofs.Common.{◌≡◌, ◌+◌, ◌≤◌, Some, sym, subst}
+use Rattle.std.proofs.Common.{◌≡◌, ◌+◌, ◌≤◌, Some, sym, subst, arith}
+use Rattle.std.proofs.lemmas.Result.{on_err_weaker}
 use Rattle.drmaa_model.specs.declared.calls.Call.TheVariants as call
 use Rattle.drmaa_model.specs.declared.replies.Reply.TheVariants as reply
 use Rattle.drmaa_model.specs.Fit.{IsFit}
@@ -29,3 +30,6 @@ returns-in-Err-clause-comes c =
     (let w = world_of c.args.store.now in
     next-short w c.args.at call.TakeLaunch (reply.Launch c.args.next) (launch.effect (w.entries + 1) (advance_plan (w.entries + 1) c.args.at w.plan)) (w.entries + 1 + weight w.plan + 4)
     (next-launch w c.args.at c.args.next c.requires.kept.consistent.fit c.requires.next) (world_of c.make_place.new.store) c.requires.within c.make_place.ensures.world)
+
+pub returns-in-Ok-clause-unspent : goal.returns-in-Ok-clause-unspent
+returns-in-Ok-clause-unspent c = on_err_weaker c.hand_out_now.result (λ kept. (let first = c.make_place.ensures.spare in omega (arith, first, kept))) c.hand_out_now.ensures.unspent

@@ -21,3 +21,12 @@ returns-clause-place c =
     let less = advance-due (w.entries + 1) c.args.at w.plan in
     let room = c.requires.room in
     omega (arith, same, less, room))
+
+pub returns-clause-spare : goal.returns-clause-spare
+returns-clause-spare c =
+    (let w = world_of c.args.store.now in
+    let same = ap (λ (p : Plan). reports_to_come p.rows)
+    (signal-done w c.args.at c.args.next c.requires.next c.requires.within c.take_signal.new.self.plan c.take_signal.result c.take_signal.ensures.meets c.take_signal.ensures.memory) in
+    let less = advance-due (w.entries + 1) c.args.at w.plan in
+    let kept = c.take_signal.ensures.spare in
+    omega (arith, same, less, kept))

@@ -6,5 +6,5 @@ use Rattle.machine_submissions.proofs.kept_calls.keep_limits.Goals as goal
 
 pub loop-limit-preserved : goal.loop-limit-preserved
 loop-limit-preserved c =
-    ap (λ (x : ResourceLimit). set c.loop-limit.limit-items c.loop-limit.limit-index x) (c.in_ok-keep_limit.ensures {u = tt} ∙ ap kept_limit (sym c.limit-item.is))
+    ap (λ (x : ResourceLimit). set c.loop-limit.limit-items c.loop-limit.limit-index x) ((c.in_ok-keep_limit.ensures {u = tt}).ok ∙ ap kept_limit (sym c.limit-item.is))
     ∙ map_over_more kept_limit c.deref_mut-limit-items.result.now c.loop-limit.limit-items c.loop-limit.limit-index c.limit-item.result c.loop-limit-test.true c.loop-limit.invariant c.limit-item.is

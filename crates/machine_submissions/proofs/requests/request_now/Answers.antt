@@ -1,12 +1,13 @@
-use Rattle.std.proofs.Common.{refl, ap}
+use Rattle.std.proofs.Common.{refl, ap, arith}
 use Rattle.std.specs.Prelude.{◌+◌}
 use Rattle.drmaa_model.specs.declared.calls.Call.TheVariants as call
 use Rattle.drmaa_model.specs.declared.replies.Reply.TheVariants as reply
 use Rattle.drmaa_model.specs.Requests.{request}
 use Rattle.machine_readings.specs.Stores.{world_of, world_at}
 use Rattle.scheduler_core.specs.View.{View}
-use Rattle.machine_calls.proofs.Placed.{place-after}
+use Rattle.machine_calls.proofs.Placed.{due-after, place-after}
 use Rattle.machine_calls.proofs.Sizes.{planned}
+use Rattle.machine_calls.proofs.Spares.{operation-spare}
 use Rattle.machine_submissions.proofs.Asking.{request-through, request-outcome}
 use Rattle.machine_submissions.proofs.Sized.{sized-comes}
 use Rattle.machine_submissions.proofs.requests.request_now.Goals as goal
@@ -28,3 +29,14 @@ returns-clause-place c =
     c.limit_for-limit.ensures.world c.limit_for-limit.ensures.placed c.request_reservation-done.ensures.meets c.conclude_reserved.ensures.concludes c.conclude_reserved.new.store c.limit_for-limit.ensures.place
     (request-outcome c.home_number-home.result c.args.template (c.args.store.now.entries + 1)) c.requires.kept.consistent.fit
     c.conclude_reserved.ensures.keeps.len c.conclude_reserved.ensures.keeps.more (ap (λ (v : View). v.plan) c.conclude_reserved.ensures.core)
+
+pub returns-clause-spare : goal.returns-clause-spare
+returns-clause-spare c =
+    (let due = due-after reply.Reserved (request c.home_number-home.result c.args.template) c.args.store.now c.limit_for-limit.new.store c.args.at (call.RequestReservation c.args.session c.args.template)
+    (request-through c.args.session c.args.template c.args.at (world_at c.args.at c.args.store.now) c.requires.own c.home_number-home.result c.home_number-home.ensures)
+    c.limit_for-limit.result c.request_reservation-done.new.self.plan c.request_reservation-done.result c.conclude_reserved.result (world_of c.conclude_reserved.new.store)
+    c.limit_for-limit.ensures.world c.limit_for-limit.ensures.placed c.request_reservation-done.ensures.meets c.conclude_reserved.ensures.concludes
+    (request-outcome c.home_number-home.result c.args.template (c.args.store.now.entries + 1)) c.requires.kept.consistent.fit in
+    let same = c.request_reservation-done.ensures.spare in
+    operation-spare c.args.store.now c.limit_for-limit.new.store c.conclude_reserved.new.store c.request_reservation-done.new.self c.limit_for-limit.ensures.keeps c.limit_for-limit.ensures.core
+    c.conclude_reserved.ensures.core c.conclude_reserved.ensures.keeps.len c.conclude_reserved.ensures.keeps.more due (omega (arith, same)))

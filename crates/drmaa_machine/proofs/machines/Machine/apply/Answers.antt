@@ -1,9 +1,11 @@
 use Rattle.std.proofs.Common.{◌≡◌, ◌+◌, ◌≤◌, true, inl, inr, sym, ◌∙◌, ap, subst}
-use Rattle.std.specs.Prelude.{◌⊎◌, Err}
-use Rattle.drmaa_model.specs.declared.calls.Call.{Call}
+use Rattle.std.specs.Prelude.{◌⊎◌, Err, OnErr}
 use Rattle.drmaa_model.specs.declared.faults.NoEntry.TheVariants.{OutOfMemory, Journal}
+use Rattle.drmaa_model.specs.declared.rows.Row.{Row}
 use Rattle.drmaa_model.specs.History.{Ledger, now_of}
+use Rattle.drmaa_model.specs.Honoured.{IsOnTime, IsDueInside}
 use Rattle.drmaa_model.specs.KeptCalls.{kept}
+use Rattle.drmaa_model.specs.Order.{held}
 use Rattle.drmaa_model.specs.Refusals.{refusal}
 use Rattle.drmaa_model.specs.Time.{advance}
 use Rattle.drmaa_model.specs.World.{World}
@@ -13,7 +15,7 @@ use Rattle.drmaa_machine.specs.Applies.{Applies}
 use Rattle.drmaa_machine.specs.Applying.{is_submission}
 use Rattle.drmaa_machine.specs.Invariant.{ledger_of}
 use Rattle.drmaa_machine.specs.View.{View}
-use Rattle.drmaa_machine.proofs.KeptOnes.{kept-foreseen, kept-report, kept-submits}
+use Rattle.drmaa_machine.proofs.KeptOnes.{kept-foreseen, kept-frugal, kept-report, kept-submits}
 use Rattle.drmaa_machine.proofs.Storing.{now-consistent}
 use Rattle.drmaa_machine.proofs.machines.Machine.apply.Goals as goal
 use Rattle.drmaa_machine.proofs.machines.Machine.apply.Goals.{After-serve}
@@ -22,6 +24,10 @@ use Rattle.drmaa_machine.proofs.machines.Machine.apply.Goals.{After-serve}
 fact : (c : After-serve) → Applies c.args.self.now.ledger c.args.caller c.args.at (kept c.args.call) c.serve.result (ledger_of c.serve.new.store)
 fact c =
     subst (λ (l : Ledger). Applies l c.args.caller c.args.at (kept c.args.call) c.serve.result (ledger_of c.serve.new.store)) (ap (λ (v : View). v.ledger) c.self.view_is) c.serve.ensures.applies
+
+-- the world that it was in
+now : (c : After-serve) → world_of c.self.inside.store ≡ now_of c.args.self.now.ledger
+now c = c.self.invariant.replayed ∙ ap (λ (v : View). now_of v.ledger) c.self.view_is
 
 pub returns-clause-step : goal.returns-clause-step
 returns-clause-step c = (fact c).comes.step
@@ -75,16 +81,30 @@ returns-clause-signal c = λ is. (fact c).comes.signal (ap kept is)
 pub returns-clause-honoured : goal.returns-clause-honoured
 returns-clause-honoured c = λ row is time due. (fact c).comes.honoured row (ap kept is) time due
 
+pub returns-clause-honoured_slots : goal.returns-clause-honoured_slots
+returns-clause-honoured_slots c =
+    subst (λ (w : World). (row : Row) → IsOnTime (advance w c.args.at).plan → IsDueInside (advance w c.args.at).plan row → held (advance w c.args.at).plan.rows + row.wants.min ≤ (advance w c.args.at).plan.total) (now c)
+    c.serve.ensures.honoured_slots
+
 pub returns-clause-memory : goal.returns-clause-memory
 returns-clause-memory c = λ foreseen more. c.serve.ensures.memory (kept-foreseen c.args.call foreseen) (subst (λ (v : View). 1 ≤ v.spare) (sym c.self.view_is) more)
 
 pub returns-clause-spare : goal.returns-clause-spare
-returns-clause-spare c = λ foreseen.
-    subst (λ (v : View). v.spare ≤ spare_of c.serve.new.store + 1) c.self.view_is (c.serve.ensures.spare (kept-foreseen c.args.call foreseen))
+returns-clause-spare c = λ frugal.
+    subst (λ (v : View). v.spare ≤ spare_of c.serve.new.store + 1) c.self.view_is (c.serve.ensures.spare (kept-frugal c.args.call frugal))
 
 pub returns-clause-reports : goal.returns-clause-reports
 returns-clause-reports c = λ reports free.
     (let known = kept-report c.args.call reports in
-    let now : world_of c.self.inside.store ≡ now_of c.args.self.now.ledger = c.self.invariant.replayed ∙ ap (λ (v : View). now_of v.ledger) c.self.view_is in
     c.serve.ensures.reports known.1
-    (ap (λ (w : World). refusal (advance w c.args.at) (kept c.args.call)) now ∙ ap (refusal (advance (now_of c.args.self.now.ledger) c.args.at)) (sym known.0) ∙ free))
+    (ap (λ (w : World). refusal (advance w c.args.at) (kept c.args.call)) (now c) ∙ ap (refusal (advance (now_of c.args.self.now.ledger) c.args.at)) (sym known.0) ∙ free))
+
+pub returns-clause-promised : goal.returns-clause-promised
+returns-clause-promised c = λ reports free.
+    (let known = kept-report c.args.call reports in
+    subst (λ (v : View). v.spare ≤ spare_of c.serve.new.store) c.self.view_is
+    (c.serve.ensures.promised known.1
+    (ap (λ (w : World). refusal (advance w c.args.at) (kept c.args.call)) (now c) ∙ ap (refusal (advance (now_of c.args.self.now.ledger) c.args.at)) (sym known.0) ∙ free)))
+
+pub returns-clause-unspent : goal.returns-clause-unspent
+returns-clause-unspent c = subst (λ (v : View). OnErr c.serve.result (v.spare ≤ spare_of c.serve.new.store)) c.self.view_is c.serve.ensures.unspent

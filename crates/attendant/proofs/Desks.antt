@@ -1,0 +1,330 @@
+-- What a call of a desk says of its client's own list.
+use Rattle.std.proofs.Common.{◌≡◌, ℕ, Bool, true, false, ◌||◌, List, [], ◌∷◌, ◌++◌, filter, eqb, Some, None, cond, eq-eqb, refl, sym, ap, ◌∙◌, subst, append_assoc, append-nil}
+use Rattle.std.specs.Prelude.{Result, Ok, Err, IfOk, IfErr, is_ok}
+use Rattle.std.specs.Option.{option_map_or}
+use Rattle.std.proofs.lemmas.List.{map-append, same_from_push}
+use Rattle.std.proofs.lemmas.List.Elements.{filter-append}
+use Rattle.drmaa_types.specs.declared.identifiers.JobId.{JobId}
+use Rattle.drmaa_model.specs.declared.calls.Call.{Call}
+use Rattle.drmaa_model.specs.declared.calls.Call.TheVariants as call
+use Rattle.drmaa_model.specs.declared.configs.Config.{Config}
+use Rattle.drmaa_model.specs.declared.entries.Entry.{Entry}
+use Rattle.drmaa_model.specs.declared.replies.Launch.{Launch}
+use Rattle.drmaa_model.specs.declared.replies.Signal.{Signal}
+use Rattle.drmaa_model.specs.declared.replies.Reply.{Reply}
+use Rattle.drmaa_model.specs.declared.replies.Reply.TheVariants as reply
+use Rattle.drmaa_model.specs.Effects.{gives}
+use Rattle.drmaa_model.specs.History.{IsLegal, replay}
+use Rattle.drmaa_model.specs.HistoryLaws.{legal-last, legal-prefix}
+use Rattle.drmaa_model.specs.KeptCalls.{kept}
+use Rattle.drmaa_model.specs.LegalRunLaws.{launch-is-new}
+use Rattle.drmaa_model.specs.Launching.{launch_of}
+use Rattle.drmaa_model.specs.Runs.{hands_out, is_launched as was_handed_out}
+use Rattle.drmaa_model.specs.Steps.{answer}
+use Rattle.drmaa_model.specs.Time.{advance}
+use Rattle.drmaa_model.specs.WaitLaws.{HandsOut, launch-hands_out, SendsOut, signal-sends_out}
+use Rattle.turn_lock.specs.Histories.{BeginsWith}
+use Rattle.turn_lock.specs.Tokens.{Named, IsFree}
+use Rattle.call_history.specs.Callers.{calls_of}
+use Rattle.call_history.specs.Calls.{entry_by, IsServed, IsUnserved}
+use Rattle.call_history.specs.Clocks.{Dial}
+use Rattle.drmaa_model.specs.declared.faults.NoEntry.{NoEntry}
+use Rattle.call_history.specs.Clients.{Seat, seen_of, mine_of, number_of, KnowsItsOwn, Makes}
+use Rattle.attendant.specs.Acts.{Duty, TakeLaunch, Started, StartFailed, Exited, ExitUnknown, TakeSignal, SignalDone, SignalFailed, Other, duty_of, Act, act_of, acts_of, own_acts, launch_reply, signal_reply, launch_in, launches_run, is_run, is_launched, IsNewLaunch, IsSignal, IsStillAt, Fails, of}
+use Rattle.attendant.specs.Steps.{entry_of, Takes, Answers, IsLegalReply}
+use Rattle.attendant.proofs.Entries.{not_true, or_cases}
+
+-- what is kept of a call is read as the call
+pub kept-duty : (c : Call) → duty_of (kept c) ≡ duty_of c
+kept-duty (call.CreateJobSession name) = refl
+kept-duty (call.CreateReservationSession name) = refl
+kept-duty (call.OpenJobSession name) = refl
+kept-duty (call.OpenReservationSession name) = refl
+kept-duty (call.DestroyJobSession name) = refl
+kept-duty (call.DestroyReservationSession name) = refl
+kept-duty call.JobSessionNames = refl
+kept-duty call.ReservationSessionNames = refl
+kept-duty call.OpenMonitoring = refl
+kept-duty (call.CloseSession session) = refl
+kept-duty (call.RunJob session t) = refl
+kept-duty (call.RunBulk session t indices) = refl
+kept-duty (call.GetJobs session filter) = refl
+kept-duty (call.GetJobArray session array) = refl
+kept-duty (call.Control session meant what) = refl
+kept-duty (call.Reap session meant) = refl
+kept-duty (call.GetState session job) = refl
+kept-duty (call.GetInfo session job) = refl
+kept-duty (call.Wait session jobs kind begun timeout) = refl
+kept-duty (call.RequestReservation session t) = refl
+kept-duty (call.GetReservation session number) = refl
+kept-duty (call.GetReservations session) = refl
+kept-duty (call.EndReservation session number) = refl
+kept-duty (call.AllJobs session filter) = refl
+kept-duty (call.AllReservations session) = refl
+kept-duty (call.AllQueues session) = refl
+kept-duty (call.AllMachines session) = refl
+kept-duty call.Register = refl
+kept-duty call.TakeLaunch = refl
+kept-duty (call.Started job attempt) = refl
+kept-duty (call.StartFailed job attempt) = refl
+kept-duty (call.Exited job attempt exit) = refl
+kept-duty (call.ExitUnknown job attempt) = refl
+kept-duty call.TakeSignal = refl
+kept-duty (call.SignalDone job attempt kind) = refl
+kept-duty (call.SignalFailed job attempt kind) = refl
+
+-- ---- launches
+
+replies-launch : (job : JobId) (attempt : ℕ) (r : Reply) → option_map_or (λ (l : Launch). is_run l.job l.attempt job attempt) (launch_reply r) false ≡ true → hands_out job.0 attempt r ≡ true
+replies-launch job attempt reply.Unit is = absurd (cc)
+replies-launch job attempt (reply.Session session) is = absurd (cc)
+replies-launch job attempt (reply.Names names) is = absurd (cc)
+replies-launch job attempt (reply.Job number) is = absurd (cc)
+replies-launch job attempt (reply.Array array first count) is = absurd (cc)
+replies-launch job attempt (reply.Jobs jobs) is = absurd (cc)
+replies-launch job attempt (reply.State state) is = absurd (cc)
+replies-launch job attempt (reply.Info info) is = absurd (cc)
+replies-launch job attempt (reply.Reached number) is = absurd (cc)
+replies-launch job attempt (reply.Reserved reserved) is = absurd (cc)
+replies-launch job attempt (reply.Reservation info) is = absurd (cc)
+replies-launch job attempt (reply.Reservations numbers) is = absurd (cc)
+replies-launch job attempt (reply.Infos infos) is = absurd (cc)
+replies-launch job attempt (reply.ReservationInfos infos) is = absurd (cc)
+replies-launch job attempt (reply.Machine info) is = absurd (cc)
+replies-launch job attempt (reply.Callback number) is = absurd (cc)
+replies-launch job attempt (reply.Launch launch) is = is
+replies-launch job attempt (reply.Signal signal) is = absurd (cc)
+replies-launch job attempt (reply.Refused why) is = absurd (cc)
+
+duty-launch : (job : JobId) (attempt : ℕ) (d : Duty) (r : Reply) → option_map_or (λ (l : Launch). is_run l.job l.attempt job attempt) (launch_in d r) false ≡ true → hands_out job.0 attempt r ≡ true
+duty-launch job attempt TakeLaunch r is = replies-launch job attempt r is
+duty-launch job attempt (Started j n) r is = absurd (cc)
+duty-launch job attempt (StartFailed j n) r is = absurd (cc)
+duty-launch job attempt (Exited j n x) r is = absurd (cc)
+duty-launch job attempt (ExitUnknown j n) r is = absurd (cc)
+duty-launch job attempt TakeSignal r is = absurd (cc)
+duty-launch job attempt (SignalDone j n k) r is = absurd (cc)
+duty-launch job attempt (SignalFailed j n k) r is = absurd (cc)
+duty-launch job attempt Other r is = absurd (cc)
+
+or-right : (a b : Bool) → b ≡ true → (a || b) ≡ true
+or-right true b e = refl
+or-right false b e = e
+
+any-launch : (job : JobId) (attempt : ℕ) (n : ℕ) (es : List Entry) → is_launched job attempt (acts_of (calls_of es n)) ≡ true → was_handed_out es job.0 attempt ≡ true
+any-launch job attempt n [] is = absurd (cc)
+any-launch job attempt n (e ∷ es) is =
+    (elim (eqb e.caller.0 n) as (λ b. eqb e.caller.0 n ≡ b → is_launched job attempt (acts_of (calls_of (e ∷ es) n)) ≡ true → was_handed_out (e ∷ es) job.0 attempt ≡ true) [
+      | true ↦ λ t is. or_cases (launches_run job attempt (act_of e)) (is_launched job attempt (acts_of (calls_of es n))) (was_handed_out (e ∷ es) job.0 attempt ≡ true)
+          (λ here. ap (λ b. b || was_handed_out es job.0 attempt) (duty-launch job attempt (duty_of e.call) e.reply here))
+          (λ there. or-right (hands_out job.0 attempt e.reply) (was_handed_out es job.0 attempt) (any-launch job attempt n es there))
+          (rw t at is)
+      | false ↦ λ f is. or-right (hands_out job.0 attempt e.reply) (was_handed_out es job.0 attempt) (any-launch job attempt n es (rw f at is))
+    ]) refl is
+
+own-last : (e : Entry) (n : ℕ) → e.caller.0 ≡ n → calls_of (e ∷ []) n ≡ e ∷ []
+own-last e n same = ap (λ b. cond b (e ∷ []) []) (eq-eqb e.caller.0 n same)
+
+-- the client's own entries before its last one are its entries among those that it had seen then
+own-before : (old new : Seat) (e : Entry) → (m : Makes old e new) → e.caller.0 ≡ number_of new → KnowsItsOwn new → mine_of old ≡ calls_of (seen_of old ++ m.between) (number_of new)
+own-before old new e m same own =
+    let last : calls_of (e ∷ []) (number_of new) ≡ e ∷ [] = own-last e (number_of new) same in
+    (same_from_push (mine_of old) (calls_of (seen_of old ++ m.between) (number_of new)) e e
+    (sym m.mine ∙ own ∙ ap (λ (l : List Entry). calls_of l (number_of new)) m.seen
+    ∙ filter-append (λ (x : Entry). eqb x.caller.0 (number_of new)) (seen_of old ++ m.between) (e ∷ [])
+    ∙ ap (λ l. calls_of (seen_of old ++ m.between) (number_of new) ++ l) last)).0
+
+-- ---- what a call is answered
+
+legal-launch : (config : Config) (front : List Entry) (n at : ℕ) (r : Reply) (mine : List Entry) → IsLegal config (front ++ entry_by n at call.TakeLaunch r ∷ [])
+    → mine ≡ calls_of front n → IsNewLaunch (acts_of mine) (launch_reply r)
+legal-launch config front n at r mine legal own =
+    let w = replay config front in
+    let e = entry_by n at call.TakeLaunch r in
+    let step = legal-last config front e legal in
+    let out : HandsOut (advance w at) r (replay config (front ++ e ∷ [])) = launch-hands_out (advance w at) at r (replay config (front ++ e ∷ [])) step.answered in
+    let l : Launch = launch_of out.row out.slots in
+    let is : answer w at call.TakeLaunch ≡ gives (reply.Launch l) (replay config (front ++ e ∷ [])) = step.answered ∙ ap (λ (x : Reply). gives x (replay config (front ++ e ∷ []))) out.replies in
+    let new : was_handed_out front l.job.0 l.attempt ≡ false = launch-is-new config front at l (replay config (front ++ e ∷ [])) (legal-prefix config front (e ∷ []) legal) is in
+    subst (λ (x : Reply). IsNewLaunch (acts_of mine) (launch_reply x)) (sym out.replies)
+    (not_true (is_launched l.job l.attempt (acts_of mine)) (λ t.
+    (let own-t : is_launched l.job l.attempt (acts_of (calls_of front n)) ≡ true = ap (λ (x : List Entry). is_launched l.job l.attempt (acts_of x)) (sym own) ∙ t in
+    let all = any-launch l.job l.attempt n front own-t in
+    absurd (cc (all, new)))))
+
+legal-signal : (config : Config) (front : List Entry) (n at : ℕ) (r : Reply) → IsLegal config (front ++ entry_by n at call.TakeSignal r ∷ []) → IsSignal (signal_reply r)
+legal-signal config front n at r legal =
+    let w = replay config front in
+    let e = entry_by n at call.TakeSignal r in
+    let step = legal-last config front e legal in
+    let out : SendsOut (advance w at) r (replay config (front ++ e ∷ [])) = signal-sends_out (advance w at) at r (replay config (front ++ e ∷ [])) step.answered in
+    subst (λ (x : Reply). IsSignal (signal_reply x)) (sym out.replies) tt
+
+legal-reply : (config : Config) (front : List Entry) (n at : ℕ) (c : Call) (r : Reply) (mine : List Entry) → IsLegal config (front ++ entry_by n at c r ∷ [])
+    → mine ≡ calls_of front n → IsLegalReply (acts_of mine) (duty_of c) r
+legal-reply config front n at (call.CreateJobSession name) r mine legal own = tt
+legal-reply config front n at (call.CreateReservationSession name) r mine legal own = tt
+legal-reply config front n at (call.OpenJobSession name) r mine legal own = tt
+legal-reply config front n at (call.OpenReservationSession name) r mine legal own = tt
+legal-reply config front n at (call.DestroyJobSession name) r mine legal own = tt
+legal-reply config front n at (call.DestroyReservationSession name) r mine legal own = tt
+legal-reply config front n at call.JobSessionNames r mine legal own = tt
+legal-reply config front n at call.ReservationSessionNames r mine legal own = tt
+legal-reply config front n at call.OpenMonitoring r mine legal own = tt
+legal-reply config front n at (call.CloseSession session) r mine legal own = tt
+legal-reply config front n at (call.RunJob session t) r mine legal own = tt
+legal-reply config front n at (call.RunBulk session t indices) r mine legal own = tt
+legal-reply config front n at (call.GetJobs session filter) r mine legal own = tt
+legal-reply config front n at (call.GetJobArray session array) r mine legal own = tt
+legal-reply config front n at (call.Control session meant what) r mine legal own = tt
+legal-reply config front n at (call.Reap session meant) r mine legal own = tt
+legal-reply config front n at (call.GetState session job) r mine legal own = tt
+legal-reply config front n at (call.GetInfo session job) r mine legal own = tt
+legal-reply config front n at (call.Wait session jobs kind begun timeout) r mine legal own = tt
+legal-reply config front n at (call.RequestReservation session t) r mine legal own = tt
+legal-reply config front n at (call.GetReservation session number) r mine legal own = tt
+legal-reply config front n at (call.GetReservations session) r mine legal own = tt
+legal-reply config front n at (call.EndReservation session number) r mine legal own = tt
+legal-reply config front n at (call.AllJobs session filter) r mine legal own = tt
+legal-reply config front n at (call.AllReservations session) r mine legal own = tt
+legal-reply config front n at (call.AllQueues session) r mine legal own = tt
+legal-reply config front n at (call.AllMachines session) r mine legal own = tt
+legal-reply config front n at call.Register r mine legal own = tt
+legal-reply config front n at call.TakeLaunch r mine legal own = legal-launch config front n at r mine legal own
+legal-reply config front n at (call.Started job attempt) r mine legal own = tt
+legal-reply config front n at (call.StartFailed job attempt) r mine legal own = tt
+legal-reply config front n at (call.Exited job attempt exit) r mine legal own = tt
+legal-reply config front n at (call.ExitUnknown job attempt) r mine legal own = tt
+legal-reply config front n at call.TakeSignal r mine legal own = legal-signal config front n at r legal
+legal-reply config front n at (call.SignalDone job attempt kind) r mine legal own = tt
+legal-reply config front n at (call.SignalFailed job attempt kind) r mine legal own = tt
+
+-- the entry that a call made, in the client's own list
+pub answers : (config : Config) (old new : Seat) (at : ℕ) (c : Call) (r : Reply) → Makes old (entry_by (number_of old) at c r) new → number_of new ≡ number_of old
+    → KnowsItsOwn new → IsLegal config (seen_of new) → Answers (number_of old) c r (own_acts old) (own_acts new)
+answers config old new at c r m same own legal = record {
+  legal = legal-reply config (seen_of old ++ m.between) (number_of old) at c r (mine_of old) (subst (IsLegal config) m.seen legal)
+      (own-before old new (entry_by (number_of old) at c r) m (sym same) own ∙ ap (calls_of (seen_of old ++ m.between)) same);
+  mine_is = ap acts_of m.mine ∙ map-append act_of (mine_of old) (entry_by (number_of old) at c r ∷ [])
+      ∙ ap (λ (d : Duty). own_acts old ++ entry_of (number_of old) d r ∷ []) (kept-duty c);
+}
+
+-- ---- desks
+
+pub still-same : (shared : Named Config) (seat : Seat) → IsFree shared seat → IsStillAt shared seat shared seat
+still-same shared seat free = record { shared_is = refl; client = free; number = refl; begins = record { rest = []; whole = sym (append-nil _) }; own = λ o. o; legal = λ l. l }
+
+pub begins-both : (old mid new : List Entry) → BeginsWith mid old → BeginsWith new mid → BeginsWith new old
+begins-both old mid new a b = record {
+  rest = a.rest ++ b.rest;
+  whole = b.whole ∙ ap (λ (l : List Entry). l ++ b.rest) a.whole ∙ append_assoc old a.rest b.rest;
+}
+
+pub begins-call : (before : Dial) (old : Seat) (c : Call) (after : Dial) (new : Seat) (config : Config) (r : Result Reply NoEntry)
+    → IfOk r (λ reply. IsServed before old c reply after new) → IfErr r (λ why. IsUnserved config before old c why after new) → BeginsWith (seen_of new) (seen_of old)
+begins-call before old c after new config (Ok reply) ok err = record {
+  rest = ok.made.between ++ entry_by (number_of old) ok.at c reply ∷ [];
+  whole = ok.made.seen ∙ append_assoc (seen_of old) ok.made.between (entry_by (number_of old) ok.at c reply ∷ []);
+}
+begins-call before old c after new config (Err why) ok err = record { rest = err.more.between; whole = err.more.seen }
+
+pub still-both : (shared : Named Config) (old : Seat) (shared_mid : Named Config) (mid : Seat) (shared_after : Named Config) (new : Seat)
+    → IsStillAt shared old shared_mid mid → IsStillAt shared_mid mid shared_after new → IsStillAt shared old shared_after new
+still-both shared old shared_mid mid shared_after new a b = record {
+  shared_is = b.shared_is ∙ a.shared_is;
+  client = subst (λ (s : Named Config). IsFree s new) a.shared_is b.client;
+  number = b.number ∙ a.number;
+  begins = begins-both (seen_of old) (seen_of mid) (seen_of new) a.begins b.begins;
+  own = λ o. b.own (a.own o);
+  legal = λ l. subst (λ (s : Named Config). IsLegal s.fixed (seen_of mid) → IsLegal s.fixed (seen_of new)) a.shared_is b.legal (a.legal l);
+}
+
+-- ---- takes
+
+some_launch : (front : List Act) (r : Reply) (l : Launch) → launch_reply r ≡ Some l → IsNewLaunch front (launch_reply r) → (r ≡ reply.Launch l) × (is_launched l.job l.attempt front ≡ false)
+some_launch front reply.Unit l is new = absurd (cc)
+some_launch front (reply.Session session) l is new = absurd (cc)
+some_launch front (reply.Names names) l is new = absurd (cc)
+some_launch front (reply.Job number) l is new = absurd (cc)
+some_launch front (reply.Array array first count) l is new = absurd (cc)
+some_launch front (reply.Jobs jobs) l is new = absurd (cc)
+some_launch front (reply.State state) l is new = absurd (cc)
+some_launch front (reply.Info info) l is new = absurd (cc)
+some_launch front (reply.Reached number) l is new = absurd (cc)
+some_launch front (reply.Reserved reserved) l is new = absurd (cc)
+some_launch front (reply.Reservation info) l is new = absurd (cc)
+some_launch front (reply.Reservations numbers) l is new = absurd (cc)
+some_launch front (reply.Infos infos) l is new = absurd (cc)
+some_launch front (reply.ReservationInfos infos) l is new = absurd (cc)
+some_launch front (reply.Machine info) l is new = absurd (cc)
+some_launch front (reply.Callback number) l is new = absurd (cc)
+some_launch front (reply.Launch m) l is new =
+    let e : m ≡ l = cc in
+    (ap reply.Launch e, subst (λ (x : Launch). is_launched x.job x.attempt front ≡ false) e new)
+some_launch front (reply.Signal signal) l is new = absurd (cc)
+some_launch front (reply.Refused why) l is new = absurd (cc)
+
+-- a launch that is taken is of a run that is new among the launcher's own
+pub takes : (n : ℕ) (r : Reply) (l : Launch) (mine mine2 : List Act) → launch_reply r ≡ Some l → Answers n call.TakeLaunch r mine mine2 → Takes n mine mine2 l
+takes n r l mine mine2 is k =
+    let both = some_launch mine r l is k.legal in
+    record { is_new = both.1; mine_is = subst (λ (x : Reply). mine2 ≡ mine ++ entry_of n TakeLaunch x ∷ []) both.0 k.mine_is }
+
+pub no_launch : (n : ℕ) (r : Reply) (mine mine2 : List Act) → launch_reply r ≡ None → Answers n call.TakeLaunch r mine mine2 → ⊥
+no_launch n r mine mine2 is k = subst (IsNewLaunch mine) is k.legal
+
+some_signal : (r : Reply) (s : Signal) → signal_reply r ≡ Some s → r ≡ reply.Signal s
+some_signal reply.Unit s is = absurd (cc)
+some_signal (reply.Session session) s is = absurd (cc)
+some_signal (reply.Names names) s is = absurd (cc)
+some_signal (reply.Job number) s is = absurd (cc)
+some_signal (reply.Array array first count) s is = absurd (cc)
+some_signal (reply.Jobs jobs) s is = absurd (cc)
+some_signal (reply.State state) s is = absurd (cc)
+some_signal (reply.Info info) s is = absurd (cc)
+some_signal (reply.Reached number) s is = absurd (cc)
+some_signal (reply.Reserved reserved) s is = absurd (cc)
+some_signal (reply.Reservation info) s is = absurd (cc)
+some_signal (reply.Reservations numbers) s is = absurd (cc)
+some_signal (reply.Infos infos) s is = absurd (cc)
+some_signal (reply.ReservationInfos infos) s is = absurd (cc)
+some_signal (reply.Machine info) s is = absurd (cc)
+some_signal (reply.Callback number) s is = absurd (cc)
+some_signal (reply.Launch launch) s is = absurd (cc)
+some_signal (reply.Signal t) s is = (let e : t ≡ s = cc in ap reply.Signal e)
+some_signal (reply.Refused why) s is = absurd (cc)
+
+pub takes_signal : (n : ℕ) (r : Reply) (s : Signal) (mine mine2 : List Act) → signal_reply r ≡ Some s → Answers n call.TakeSignal r mine mine2
+    → mine2 ≡ mine ++ entry_of n TakeSignal (reply.Signal s) ∷ []
+takes_signal n r s mine mine2 is k = subst (λ (x : Reply). mine2 ≡ mine ++ entry_of n TakeSignal x ∷ []) (some_signal r s is) k.mine_is
+
+pub no_signal : (n : ℕ) (r : Reply) (mine mine2 : List Act) → signal_reply r ≡ None → Answers n call.TakeSignal r mine mine2 → ⊥
+no_signal n r mine mine2 is k = subst IsSignal is k.legal
+
+-- what every answer that is Ok has, and every other
+
+pub each-ok : {A E : Type 0} (P Q : A → Type 0) (r : Result A E) → ((a : A) → P a → Q a) → IfOk r P → IfOk r Q
+each-ok P Q (Ok a) each p = each a p
+each-ok P Q (Err e) each p = tt
+
+pub each-err : {A E : Type 0} (P Q : E → Type 0) (r : Result A E) → ((e : E) → P e → Q e) → IfErr r P → IfErr r Q
+each-err P Q (Ok a) each p = tt
+each-err P Q (Err e) each p = each e p
+
+-- a call that was not answered has a cause
+pub err-cause : (config : Config) (seat : Seat) (c : Call) (P : Type 0) (r : Result Reply NoEntry) → IfErr r (λ fault. P × Fails config seat c fault) → is_ok r ≡ false
+    → (fault : NoEntry) × Fails config seat c fault
+err-cause config seat c P (Ok reply) e is = absurd (cc)
+err-cause config seat c P (Err fault) e is = (fault, e.1)
+
+pub fails-at : (shared shared_mid : Named Config) (seat : Seat) (c : Call) (fault : NoEntry) → shared_mid ≡ shared → Fails shared_mid.fixed seat c fault → Fails shared.fixed seat c fault
+fails-at shared shared_mid seat c fault same f = subst (λ (s : Named Config). Fails s.fixed seat c fault) same f
+
+-- a caller's entries, as launcher and reaper read them
+pub own-acts : (es : List Entry) (n : ℕ) → acts_of (calls_of es n) ≡ of (acts_of es) n
+own-acts [] n = refl
+own-acts (e ∷ es) n =
+    elim (eqb e.caller.0 n) as (λ b. acts_of (cond b (e ∷ calls_of es n) (calls_of es n)) ≡ cond b (act_of e ∷ of (acts_of es) n) (of (acts_of es) n)) [
+      | true ↦ ap (λ (l : List Act). act_of e ∷ l) (own-acts es n)
+      | false ↦ own-acts es n
+    ]

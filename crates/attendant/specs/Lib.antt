@@ -1,0 +1,6 @@
+pub mod Acts
+pub mod Runs
+pub mod Outside
+pub mod Steps
+pub mod Rounds
+pub mod Whole

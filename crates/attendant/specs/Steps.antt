@@ -1,0 +1,135 @@
+-- The steps of launcher and reaper.
+use Rattle.std.specs.Prelude.{◌≡◌, ◌≢◌, ◌⊎◌, ℕ, Bool, true, false, List, [], ◌∷◌, ◌++◌, length, Option, Some, None, Result, Ok, Err, IfSome}
+use Rattle.drmaa_types.specs.declared.refusals.Refusal.{Refusal}
+use Rattle.drmaa_types.specs.declared.refusals.Refusal.TheVariants.{OutOfResource, OutOfMemory}
+use Rattle.drmaa_types.specs.declared.refusals.Limit.TheVariants as limit
+use Rattle.child_spawner.specs.declared.fates.Asked.{Asked}
+use Rattle.child_spawner.specs.declared.fates.Fate.{Fate}
+use Rattle.child_spawner.specs.Children.{Told, started_child}
+use Rattle.child_spawner.specs.Spawners.{Asks}
+use Rattle.slab.specs.Slab.{Slab, get, SameValues, Updates}
+use Rattle.drmaa_model.specs.declared.calls.Call.{Call}
+use Rattle.drmaa_model.specs.declared.calls.Call.TheVariants as call
+use Rattle.attendant.specs.Acts.{Act, Duty, TakeLaunch, Started, StartFailed, Exited, ExitUnknown, TakeSignal, SignalDone, SignalFailed, Other, duty_of, Fails, IsNewLaunch, IsSignal, launch_reply, signal_reply, is_launched}
+use Rattle.drmaa_model.specs.declared.faults.NoEntry.{NoEntry}
+use Rattle.drmaa_model.specs.declared.faults.NoEntry.TheVariants as no
+use Rattle.drmaa_model.specs.declared.replies.Reply.{Reply}
+use Rattle.drmaa_model.specs.declared.replies.Reply.TheVariants as reply
+use Rattle.drmaa_model.specs.declared.replies.Launch.{Launch}
+use Rattle.drmaa_model.specs.declared.configs.Config.{Config}
+use Rattle.call_history.specs.Clients.{Seat}
+use Rattle.attendant.specs.declared.reaper.Held.{Held}
+use Rattle.attendant.specs.declared.launching.Launched.{Launched}
+use Rattle.attendant.specs.declared.launching.Launched.TheVariants as launched
+
+abbrev pub entry_of : ℕ → Duty → Reply → Act
+entry_of number call reply = record { caller = record { 0 = number }; call = call; reply = reply }
+
+-- a launch that is handed out is of a new run, and a signal that is asked for is answered
+abbrev pub IsLegalReply : List Act → Duty → Reply → Type 0
+IsLegalReply front TakeLaunch reply = IsNewLaunch front (launch_reply reply)
+IsLegalReply front (Started job attempt) reply = Unit {0}
+IsLegalReply front (StartFailed job attempt) reply = Unit {0}
+IsLegalReply front (Exited job attempt exit) reply = Unit {0}
+IsLegalReply front (ExitUnknown job attempt) reply = Unit {0}
+IsLegalReply front TakeSignal reply = IsSignal (signal_reply reply)
+IsLegalReply front (SignalDone job attempt kind) reply = Unit {0}
+IsLegalReply front (SignalFailed job attempt kind) reply = Unit {0}
+IsLegalReply front Other reply = Unit {0}
+
+-- a call made its one entry
+pub record Answers (number : ℕ) (asked : Call) (reply : Reply) (mine mine_after : List Act) : Type 0 where
+  pub legal : IsLegalReply mine (duty_of asked) reply
+  pub mine_is : mine_after ≡ mine ++ entry_of number (duty_of asked) reply ∷ []
+
+-- why a call that made no entry is refused
+abbrev pub MayFail : NoEntry → Refusal → Type 0
+MayFail no.OutOfMemory why = why ≡ OutOfMemory
+MayFail no.NotYet why = why ≡ OutOfMemory
+MayFail no.Nothing why = why ≡ OutOfMemory
+MayFail (no.Journal size) why = why ≡ OutOfResource (limit.Journal size)
+
+-- a launch was taken, of a new run
+pub record Takes (number : ℕ) (mine mine_after : List Act) (launch : Launch) : Type 0 where
+  pub is_new : is_launched launch.job launch.attempt mine ≡ false
+  pub mine_is : mine_after ≡ mine ++ entry_of number TakeLaunch (reply.Launch launch) ∷ []
+
+-- the report of whether a launch began
+abbrev pub report_call : Bool → Launch → Duty
+report_call true l = Started l.job l.attempt
+report_call false l = StartFailed l.job l.attempt
+
+-- the call that it is
+abbrev pub asked_start : Bool → Launch → Call
+asked_start true l = call.Started l.job l.attempt
+asked_start false l = call.StartFailed l.job l.attempt
+
+-- the report of a start, where it made an entry
+abbrev pub reports_of : ℕ → Bool → Launch → Option Reply → List Act
+reports_of number began l None = []
+reports_of number began l (Some answer) = entry_of number (report_call began l) answer ∷ []
+
+-- the report of a start made an entry, or none
+abbrev pub Reports : ℕ → Bool → Launch → Bool → List Act → List Act → Type 0
+Reports number began l true mine mine_after = (answer : Reply) × (mine_after ≡ mine ++ reports_of number began l (Some answer))
+Reports number began l false mine mine_after = mine_after ≡ mine
+
+-- a child is put into an empty place
+pub record PutsAt {T : Type 0} (launch : Launch) (child : T) (old new : Slab (Held T)) : Type 0 where
+  pub key : ℕ
+  pub was_empty : get old key ≡ None
+  pub updates : Updates old new key (Some (record { job = launch.job; attempt = launch.attempt; child = child }))
+
+pub record Puts {T : Type 0} (told : T → Option Told) (launch : Launch) (asked : Option (List Asked)) (fate : ℕ → Fate) (old new : Slab (Held T)) : Type 0 where
+  pub child : T
+  pub put : PutsAt launch child old new
+  pub tells : IfSome asked (λ starts. told child ≡ Some (started_child (length starts) launch.job launch.attempt (fate (length starts))))
+
+-- the list has the new child, and otherwise stays
+abbrev pub PutsChild : {T : Type 0} → (T → Option Told) → Launch → Bool → Option (List Asked) → (ℕ → Fate) → Slab (Held T) → Slab (Held T) → Type 0
+PutsChild told launch true asked fate old new = Puts told launch asked fate old new
+PutsChild told launch false asked fate old new = SameValues old new
+
+-- A launch was taken, its child was asked for with its job, attempt and words, and the start was reported.
+pub record Made {T : Type 0} (told : T → Option Told) (number : ℕ) (launch : Launch) (began : Bool) (answer : Option Reply)
+    (mine mine_after : List Act) (asked asked_after : Option (List Asked)) (fate fate_after : ℕ → Fate) (old new : Slab (Held T)) : Type 0 where
+  pub is_new : is_launched launch.job launch.attempt mine ≡ false
+  pub mine_is : mine_after ≡ (mine ++ entry_of number TakeLaunch (reply.Launch launch) ∷ []) ++ reports_of number began launch answer
+  pub asked_is : Asks asked (record { job = launch.job; attempt = launch.attempt; words = launch.words; began = began }) asked_after
+  pub fate_is : fate_after ≡ fate
+  pub puts : PutsChild told launch began asked_after fate_after old new
+
+pub record Nothing {T : Type 0} (mine mine_after : List Act) (asked asked_after : Option (List Asked)) (fate fate_after : ℕ → Fate) (old new : Slab (Held T)) : Type 0 where
+  pub mine_is : mine_after ≡ mine
+  pub asked_is : asked_after ≡ asked
+  pub fate_is : fate_after ≡ fate
+  pub same : SameValues old new
+
+-- what a round of the launcher did, by its answer
+abbrev pub LaunchSteps : {T : Type 0} → (T → Option Told) → ℕ → List Act → List Act → Option (List Asked) → Option (List Asked) → (ℕ → Fate) → (ℕ → Fate)
+    → Slab (Held T) → Slab (Held T) → Result Launched Refusal → Type 0
+LaunchSteps told number mine mine2 asked asked2 fate fate2 old new (Ok launched.Nothing) = Nothing mine mine2 asked asked2 fate fate2 old new
+LaunchSteps told number mine mine2 asked asked2 fate fate2 old new (Ok (launched.Began job)) =
+    (l : Launch) × (r : Reply) × (l.job ≡ job) × Made told number l true (Some r) mine mine2 asked asked2 fate fate2 old new
+LaunchSteps told number mine mine2 asked asked2 fate fate2 old new (Ok (launched.StartFailed job)) =
+    (l : Launch) × (r : Reply) × (l.job ≡ job) × Made told number l false (Some r) mine mine2 asked asked2 fate fate2 old new
+LaunchSteps told number mine mine2 asked asked2 fate fate2 old new (Err why) =
+    Nothing mine mine2 asked asked2 fate fate2 old new
+    ⊎ ((l : Launch) × (began : Bool) × (why ≡ OutOfMemory) × Made told number l began None mine mine2 asked asked2 fate fate2 old new)
+
+abbrev pub IsNothing : Launched → Type 0
+IsNothing launched.Nothing = Unit {0}
+IsNothing (launched.Began job) = ⊥
+IsNothing (launched.StartFailed job) = ⊥
+
+abbrev pub IsFailedStart : Launched → Type 0
+IsFailedStart launched.Nothing = ⊥
+IsFailedStart (launched.Began job) = ⊥
+IsFailedStart (launched.StartFailed job) = Unit {0}
+
+-- Why a round of the launcher is refused: the list had no room for a child, and nothing was asked; or the machine made no
+-- entry of the take, though it had a launch; or the report of the start made no entry.
+pub data IsMissed (config : Config) (old new : Seat) (why : Refusal) : Type 0 where
+  no_room : why ≡ OutOfMemory → new ≡ old → IsMissed config old new why
+  not_taken : (fault : NoEntry) → fault ≢ no.Nothing → Fails config new call.TakeLaunch fault → MayFail fault why → IsMissed config old new why
+  not_reported : (l : Launch) (began : Bool) (fault : NoEntry) → Fails config new (asked_start began l) fault → why ≡ OutOfMemory → IsMissed config old new why

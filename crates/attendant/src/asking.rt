@@ -1,0 +1,29 @@
+//! One call of the launcher or the reaper.
+ghost use Rattle.std.specs.Prelude.{◌≡◌, IfOk, IfErr};
+ghost use Rattle.turn_lock.specs.Tokens.{IsFree};
+ghost use Rattle.call_history.specs.Clients.{number_of};
+ghost use Rattle.attendant.specs.Acts.{own_acts, Fails, IsStillAt};
+ghost use Rattle.attendant.specs.Steps.{Answers};
+
+use call_history::{Call, Desk, NoEntry, Reply};
+use drmaa_types::Clock;
+use std::sync::Wait;
+
+/// Makes a call through a desk.
+///
+/// # Errors
+///
+/// As the machine answers; then there is no entry.
+pub(crate) fn ask<R: Wait, C: Clock>(
+    rt: &R,
+    desk: &mut Desk<C>,
+    call: Call,
+) -> Result<Reply, NoEntry>
+    requires { IsFree desk.old.shared.now desk.old.client }
+    ensures desk { IsStillAt desk.old.shared.now desk.old.client desk.new.shared.now desk.new.client }
+    ensures ok { IfOk result (λ reply. Answers (number_of desk.old.client) call reply (own_acts desk.old.client) (own_acts desk.new.client)) }
+    ensures err { IfErr result (λ fault. (own_acts desk.new.client ≡ own_acts desk.old.client)
+        × Fails desk.old.shared.now.fixed desk.new.client call fault) }
+{
+    desk.call(rt, call)
+}

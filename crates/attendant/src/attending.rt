@@ -1,0 +1,165 @@
+//! The loops of launcher and reaper.
+ghost use Rattle.std.specs.Prelude.{◌≡◌, OnOk, IsOk, IsTrue, None};
+ghost use Rattle.slab.specs.Slab.{get};
+ghost use Rattle.turn_lock.specs.Histories.{BeginsWith};
+ghost use Rattle.turn_lock.specs.Tokens.{IsFree};
+ghost use Rattle.call_history.specs.Clients.{seen_of};
+ghost use Rattle.call_history.specs.Clocks.{dial};
+ghost use Rattle.attendant.specs.Acts.{own_acts, IsStillAt};
+ghost use Rattle.attendant.specs.Outside.{Attending, EndsSettled};
+
+use crate::launching::launch_once;
+use crate::reaping::{first_of, reap_once};
+use crate::{Launched, Reaper};
+use call_history::{Answer, Desk, Question};
+use child_spawner::Spawner;
+use drmaa_types::{Clock, Refusal};
+use std::sync::{Mutex, Wait};
+use std::time::Clock as Pause;
+
+/// How many clients are still at work.
+pub struct Done {
+    clients: Mutex<u32>,
+}
+
+impl Done {
+    pub fn new(clients: u32) -> Done {
+        Done {
+            clients: Mutex::new(clients),
+        }
+    }
+
+    pub fn client_ended<R: Wait>(&self, rt: &R) {
+        let mut clients = self.clients.lock(rt);
+        *clients = clients.saturating_sub(1);
+    }
+
+    pub fn clients_over<R: Wait>(&self, rt: &R) -> bool {
+        *self.clients.lock(rt) == 0
+    }
+}
+
+/// A round of the launcher, and one of the reaper. Whether there was nothing to do.
+fn attend_once<R: Wait, S: Spawner, C: Clock>(
+    rt: &R,
+    launcher: &mut Desk<C>,
+    reaping: &mut Desk<C>,
+    spawner: &mut S,
+    reaper: &mut Reaper<S::One>,
+) -> Result<bool, Refusal>
+    requires launcher { IsFree launcher.old.shared.now launcher.old.client }
+    requires reaping { IsFree reaping.old.shared.now reaping.old.client }
+    ensures launcher { IsStillAt launcher.old.shared.now launcher.old.client launcher.new.shared.now launcher.new.client }
+    ensures reaping { IsStillAt reaping.old.shared.now reaping.old.client reaping.new.shared.now reaping.new.client }
+    ensures attending { Attending S.One.told (S.asked spawner.old) (S.asked spawner.new) (S.fate spawner.old) (S.fate spawner.new)
+        (own_acts launcher.old.client) (own_acts launcher.new.client) (own_acts reaping.old.client) (own_acts reaping.new.client)
+        (get reaper.old.children) (get reaper.new.children) reaper.old.order reaper.new.order (IsOk result) }
+{
+    let launched = launch_once(rt, launcher, spawner, reaper);
+    let reports = reap_once(rt, reaping, reaper);
+    let nothing = matches!(launched?, Launched::Nothing);
+    Ok(reports? == 0 && nothing)
+}
+
+/// Whether the machine is settled, after all that the reaper's client has seen.
+fn is_settled<R: Wait, C: Clock>(rt: &R, launcher: &mut Desk<C>, reaping: &mut Desk<C>) -> bool
+    requires lock { reaping.old.shared.now ≡ launcher.old.shared.now }
+    requires launcher { IsFree launcher.old.shared.now launcher.old.client }
+    requires reaping { IsFree reaping.old.shared.now reaping.old.client }
+    ensures launcher { IsStillAt launcher.old.shared.now launcher.old.client launcher.new.shared.now launcher.new.client }
+    ensures reaping { reaping.new ≡ reaping.old }
+    ensures mine { own_acts launcher.new.client ≡ own_acts launcher.old.client }
+    ensures settled { IsTrue result → EndsSettled launcher.old.shared.now.fixed (dial (C.given launcher.new.clock) (C.least launcher.new.clock)) launcher.new.client }
+    ensures begins { BeginsWith (seen_of launcher.new.client) (seen_of reaping.new.client) }
+{
+    launcher
+        .shared
+        .hand_over(&mut reaping.client, &mut launcher.client);
+    matches!(launcher.look(rt, Question::Settled), Answer::Settled(true))
+}
+
+/// Launches and reaps in turn, until the clients are over and the machine is settled.
+pub fn run_attendant<R: Wait + Pause, S: Spawner, C: Clock>(
+    rt: &R,
+    launcher: &mut Desk<C>,
+    reaping: &mut Desk<C>,
+    spawner: &mut S,
+    reaper: &mut Reaper<S::One>,
+    done: &Done,
+) -> Result<(), Refusal>
+    requires lock { reaping.old.shared.now ≡ launcher.old.shared.now }
+    requires launcher { IsFree launcher.old.shared.now launcher.old.client }
+    requires reaping { IsFree reaping.old.shared.now reaping.old.client }
+    ensures launcher { IsStillAt launcher.old.shared.now launcher.old.client launcher.new.shared.now launcher.new.client }
+    ensures reaping { IsStillAt reaping.old.shared.now reaping.old.client reaping.new.shared.now reaping.new.client }
+    ensures attending { Attending S.One.told (S.asked spawner.old) (S.asked spawner.new) (S.fate spawner.old) (S.fate spawner.new)
+        (own_acts launcher.old.client) (own_acts launcher.new.client) (own_acts reaping.old.client) (own_acts reaping.new.client)
+        (get reaper.old.children) (get reaper.new.children) reaper.old.order reaper.new.order (IsOk result) }
+    ensures settled { OnOk result (EndsSettled launcher.old.shared.now.fixed (dial (C.given launcher.new.clock) (C.least launcher.new.clock)) launcher.new.client) }
+    ensures begins { OnOk result (BeginsWith (seen_of launcher.new.client) (seen_of reaping.new.client)) }
+{
+    let mut kept = None;
+    for _ in rt.forever() {
+        let over = done.clients_over(rt);
+        let idle = match attend_once(rt, launcher, reaping, spawner, reaper) {
+            Ok(idle) => idle,
+            Err(why) => {
+                kept = first_of(kept, why);
+                true
+            }
+        };
+        if over {
+            if let Some(why) = kept {
+                return Err(why);
+            }
+            if is_settled(rt, launcher, reaping) {
+                return Ok(());
+            }
+        }
+        if idle {
+            launcher.bell.rest(rt);
+        }
+    }
+    unreachable!()
+}
+
+/// Launches and reaps in turn, until the machine is settled.
+pub fn finish<R: Wait + Pause, S: Spawner, C: Clock>(
+    rt: &R,
+    launcher: &mut Desk<C>,
+    reaping: &mut Desk<C>,
+    spawner: &mut S,
+    reaper: &mut Reaper<S::One>,
+) -> Result<(), Refusal>
+    requires lock { reaping.old.shared.now ≡ launcher.old.shared.now }
+    requires launcher { IsFree launcher.old.shared.now launcher.old.client }
+    requires reaping { IsFree reaping.old.shared.now reaping.old.client }
+    ensures launcher { IsStillAt launcher.old.shared.now launcher.old.client launcher.new.shared.now launcher.new.client }
+    ensures reaping { IsStillAt reaping.old.shared.now reaping.old.client reaping.new.shared.now reaping.new.client }
+    ensures attending { Attending S.One.told (S.asked spawner.old) (S.asked spawner.new) (S.fate spawner.old) (S.fate spawner.new)
+        (own_acts launcher.old.client) (own_acts launcher.new.client) (own_acts reaping.old.client) (own_acts reaping.new.client)
+        (get reaper.old.children) (get reaper.new.children) reaper.old.order reaper.new.order (IsOk result) }
+    ensures settled { OnOk result (EndsSettled launcher.old.shared.now.fixed (dial (C.given launcher.new.clock) (C.least launcher.new.clock)) launcher.new.client) }
+    ensures begins { OnOk result (BeginsWith (seen_of launcher.new.client) (seen_of reaping.new.client)) }
+{
+    let mut kept = None;
+    for _ in rt.forever() {
+        let idle = match attend_once(rt, launcher, reaping, spawner, reaper) {
+            Ok(idle) => idle,
+            Err(why) => {
+                kept = first_of(kept, why);
+                true
+            }
+        };
+        if let Some(why) = kept {
+            return Err(why);
+        }
+        if is_settled(rt, launcher, reaping) {
+            return Ok(());
+        }
+        if idle {
+            launcher.bell.rest(rt);
+        }
+    }
+    unreachable!()
+}

@@ -1,0 +1,129 @@
+-- How a call in a turn follows the wait for the turn.
+use Rattle.std.proofs.Common.{◌≡◌, ℕ, List, [], ◌∷◌, ◌++◌, map, refl, sym, ap, ◌∙◌, subst, append_assoc, append-nil, eqb, Result, Ok, Err, IfOk, IfErr, OnErr}
+use Rattle.std.proofs.lemmas.List.Elements.{filter-append}
+use Rattle.drmaa_model.specs.declared.calls.Call.{Call}
+use Rattle.drmaa_model.specs.declared.configs.Config.{Config}
+use Rattle.drmaa_model.specs.declared.entries.Entry.{Entry}
+use Rattle.drmaa_model.specs.declared.faults.NoEntry.{NoEntry}
+use Rattle.drmaa_model.specs.declared.faults.NoEntry.TheVariants as fault
+use Rattle.drmaa_model.specs.Effects.{not_yet}
+use Rattle.drmaa_model.specs.History.{Ledger, now_of, replay}
+use Rattle.drmaa_model.specs.KeptCalls.{kept}
+use Rattle.drmaa_model.specs.Steps.{answer}
+use Rattle.drmaa_model.specs.World.{World}
+use Rattle.drmaa_model.specs.declared.looks.Answer.{Answer}
+use Rattle.drmaa_model.specs.declared.looks.Question.{Question}
+use Rattle.drmaa_model.specs.declared.replies.Reply.{Reply}
+use Rattle.drmaa_machine.specs.ChronicleLaws.{history-told, history-append}
+use Rattle.drmaa_machine.specs.declared.waits.Awaited.{Awaited}
+use Rattle.drmaa_machine.specs.Chronicles.{told, untold, history_of, MakesNone}
+use Rattle.drmaa_machine.specs.Waits.{call_of}
+use Rattle.drmaa_machine.specs.View.{View}
+use Rattle.turn_lock.specs.Histories as lock
+use Rattle.turn_lock.specs.Tokens.{Enters, GoesOn, Named, Held}
+use Rattle.call_history.specs.Callers.{calls_of}
+use Rattle.call_history.specs.declared.waits.WaitLook.{WaitLook}
+use Rattle.call_history.specs.declared.waits.WaitLook.TheVariants as look
+use Rattle.call_history.specs.Looks.{IsLookOf}
+use Rattle.call_history.specs.Calls.{entry_by, IsServed, IsUnserved, IsLookedAt}
+use Rattle.call_history.specs.ClientLaws.{more-both, makes-both}
+use Rattle.call_history.specs.Clients.{Seat, seen_of, mine_of, number_of, SeesMore, Makes}
+use Rattle.call_history.specs.Clocks.{Dial, IsReading}
+use Rattle.call_history.specs.Turns.{entries_of, config_of}
+use Rattle.call_history.proofs.Tellings.{LockEntry, calls-history}
+
+-- the wait for a turn: a client that has the turn has seen more
+pub sees-more : (old mid : Seat) → GoesOn old.view.seen mid.view.seen old.view.number → mid.view.mine ≡ old.view.mine → SeesMore old mid
+sees-more old mid g mine = record {
+  between = history_of g.between;
+  seen = ap history_of g.whole ∙ history-append old.view.seen g.between;
+  others = calls-history g.between old.view.number ∙ ap history_of g.others;
+  mine = ap history_of mine;
+}
+
+module _ (old mid new : Seat) (more : SeesMore old mid) (same : number_of mid ≡ number_of old) where
+  pub served-both : (before after : Dial) (asked : Call) (reply : Reply) → IsServed before mid asked reply after new → IsServed before old asked reply after new
+  served-both before after asked reply s = record {
+    at = s.at;
+    read = s.read;
+    made = makes-both old mid new more same (entry_by (number_of old) s.at asked reply) (subst (λ (n : ℕ). Makes mid (entry_by n s.at asked reply) new) same s.made);
+  }
+
+  pub unserved-both : (config : Config) (before after : Dial) (asked : Call) (why : NoEntry) → IsUnserved config before mid asked why after new → IsUnserved config before old asked why after new
+  unserved-both config before after asked why u = record { at = u.at; read = u.read; more = more-both old mid new more same u.more; reason = u.reason }
+
+  pub looked-both : (config : Config) (before after : Dial) (question : Question) (answer : Answer) → IsLookedAt config before mid question answer after new → IsLookedAt config before old question answer after new
+  looked-both config before after question answer l = record { at = l.at; read = l.read; more = more-both old mid new more same l.more; told = l.told }
+
+-- the client that waited for the turn, and has it, has seen more
+pub entered : (shared : Named Config) (old mid : Seat) (turn : Held View) → Enters entries_of config_of shared old mid turn → mid.view.seen ≡ entries_of turn.value → mid.view.mine ≡ old.view.mine → SeesMore old mid
+entered shared old mid turn e seen mine = sees-more old mid (subst (λ l. GoesOn old.view.seen l old.view.number) (sym seen) e.goes_on) mine
+
+module _ {A E : Type 0} where
+  pub if_ok : (r : Result A E) (P Q : A → Type 0) → IfOk r P → ((a : A) → P a → Q a) → IfOk r Q
+  if_ok (Ok a) P Q h f = f a h
+  if_ok (Err e) P Q h f = h
+
+  pub if_err : (r : Result A E) (P Q : E → Type 0) → IfErr r P → ((e : E) → P e → Q e) → IfErr r Q
+  if_err (Ok a) P Q h f = h
+  if_err (Err e) P Q h f = f e h
+
+-- what an act in a turn leaves, where it made an entry: what the client has seen and made ends with it
+pub record Acts (old : Seat) (entry : Entry) (new : Seat) : Type 0 where
+  pub seen : seen_of new ≡ seen_of old ++ entry ∷ []
+  pub mine : mine_of new ≡ mine_of old ++ entry ∷ []
+
+pub makes-now : (old new : Seat) (entry : Entry) → Acts old entry new → Makes old entry new
+makes-now old new entry a = record {
+  between = [];
+  seen = a.seen ∙ ap (λ l. l ++ entry ∷ []) (sym (append-nil (seen_of old)));
+  others = refl;
+  mine = a.mine;
+}
+
+pub sees-now : (old new : Seat) → seen_of new ≡ seen_of old → mine_of new ≡ mine_of old → SeesMore old new
+sees-now old new seen mine = record { between = []; seen = seen ∙ sym (append-nil (seen_of old)); others = refl; mine = mine }
+
+-- no entry was made after this history
+pub unserved-now : (config : Config) (before : Dial) (old : Seat) (asked : Call) (why : NoEntry) (after : Dial) (new : Seat) (at : ℕ) (ledger : Ledger) → IsReading before at after → ledger.config ≡ config
+    → seen_of new ≡ ledger.history → SeesMore old new → MakesNone (now_of ledger) at (kept asked) why → IsUnserved config before old asked why after new
+unserved-now config before old asked why after new at ledger read same seen more reason = record {
+  at = at;
+  read = read;
+  more = more;
+  reason = subst (λ (k : Config). MakesNone (replay k (seen_of new)) at (kept asked) why) same
+      (subst (λ (h : List Entry). MakesNone (replay ledger.config h) at (kept asked) why) (sym seen) reason);
+}
+
+-- a look that is over came to an entry, or to none
+pub over-look : (config : Config) (before : Dial) (old : Seat) (awaited : Awaited) (after : Dial) (new : Seat) (r : Result Reply NoEntry) → IfOk r (λ reply. IsServed before old (call_of awaited) reply after new)
+    → IfErr r (λ why. IsUnserved config before old (call_of awaited) why after new) → IsLookOf config before old awaited after new (look.Over r)
+over-look config before old awaited after new (Ok reply) ok err = ok
+over-look config before old awaited after new (Err why) ok err = err
+
+-- a look after the wait for the turn
+pub look-both : (config : Config) (before : Dial) (old mid : Seat) (awaited : Awaited) (after : Dial) (new : Seat) (l : WaitLook) → SeesMore old mid → number_of mid ≡ number_of old → IsLookOf config before mid awaited after new l → IsLookOf config before old awaited after new l
+look-both config before old mid awaited after new (look.Over (Ok reply)) more same s = served-both old mid new more same before after (call_of awaited) reply s
+look-both config before old mid awaited after new (look.Over (Err why)) more same u = unserved-both old mid new more same config before after (call_of awaited) why u
+look-both config before old mid awaited after new (look.NotYet back) more same p = (p.0, unserved-both old mid new more same config before after (call_of awaited) fault.NotYet p.1)
+
+pub err-three : {A E : Type 0} (r : Result A E) (P Q : Type 0) (R S : E → Type 0) → OnErr r P → OnErr r Q → IfErr r R → ((e : E) → P → Q → R e → S e) → IfErr r S
+err-three (Ok a) P Q R S p q r f = tt
+err-three (Err e) P Q R S p q r f = f e p q r
+
+waits-not : (w : World) (at : ℕ) (asked : Call) → MakesNone w at asked fault.NotYet → (answer w at asked ≡ not_yet → ⊥) → ⊥
+waits-not w at asked m never = never m.cause
+
+over-same : (r : Result Reply NoEntry) (why : NoEntry) → look.Over r ≡ look.Over (Err why) → r ≡ Err why
+over-same r why is = cc
+
+-- a call that is not to wait is not left waiting
+pub decided-now : (w : World) (at : ℕ) (asked : Call) (r : Result Reply NoEntry) → IfErr r (MakesNone w at asked) → (answer w at asked ≡ not_yet → ⊥) → look.Over r ≡ look.Over (Err fault.NotYet) → ⊥
+decided-now w at asked r fails never is = waits-not w at asked (subst (λ (x : Result Reply NoEntry). IfErr x (MakesNone w at asked)) (over-same r fault.NotYet is) fails) never
+
+-- an entry that was added to what the lock has
+pub makes-pushed : (old new : Seat) (e : LockEntry) → new.view.seen ≡ old.view.seen ++ e ∷ [] → new.view.mine ≡ old.view.mine ++ e ∷ [] → Makes old (untold e) new
+makes-pushed old new e seen mine = makes-now old new (untold e) (record {
+  seen = ap history_of seen ∙ history-append old.view.seen (e ∷ []);
+  mine = ap history_of mine ∙ history-append old.view.mine (e ∷ []);
+})

@@ -1,0 +1,99 @@
+//! Reservation sessions: they ask for slots ahead, and tell which reservations there are.
+ghost use Rattle.std.specs.Prelude.{IfOk, IfErr};
+ghost use Rattle.turn_lock.specs.Tokens.{IsFree};
+ghost use Rattle.call_history.specs.Clients.{StaysAt};
+ghost use Rattle.call_history.specs.Clocks.{dial};
+ghost use Rattle.call_history.specs.Calls.{IsServed};
+ghost use Rattle.call_history.specs.Refused.{IsRefused};
+
+use call_history::{Call, Desk, Reply, ReservationNumbers};
+use drmaa_types::{Clock, IdList, Refusal, ReservationId, ReservationInfo, Reserved, SessionId};
+use job_template::ReservationTemplate;
+use std::sync::Wait;
+
+/// An open reservation session: reservations are requested in it (GFD.231, ReservationSession).
+#[derive(Clone, Copy, Debug, PartialEq, Eq)]
+pub struct ReservationSession {
+    /// The session number, as the session manager answered it.
+    pub session: SessionId,
+}
+
+impl ReservationSession {
+    /// Asks for slots ahead; tells the number, the slots and the time that were given (GFD.231,
+    /// ReservationSession::requestReservation).
+    ///
+    /// # Errors
+    ///
+    /// `InvalidSession` where this is no open reservation session, what is wrong with the template (`InvalidArgument`,
+    /// `OutOfResource`, `UnsupportedAttribute`), `OutOfResource(Reservations)` at 10,000 accepted reservations,
+    /// `DeniedByDrms` where the slots are not free at the time that is asked for; with no entry, `OutOfMemory` or
+    /// `OutOfResource(Journal)`.
+    pub fn request_reservation<R: Wait, C: Clock>(
+        self,
+        rt: &R,
+        desk: &mut Desk<C>,
+        template: ReservationTemplate,
+    ) -> Result<Reserved, Refusal>
+        requires { IsFree desk.old.shared.now desk.old.client }
+        ensures desk { StaysAt desk.old.shared.now desk.old.client desk.new.shared.now desk.new.client }
+        ensures ok { IfOk result (λ told. IsServed (dial (C.given desk.old.clock) (C.least desk.old.clock)) desk.old.client
+            (Call.RequestReservation self.session template) (Reply.Reserved told) (dial (C.given desk.new.clock) (C.least desk.new.clock)) desk.new.client) }
+        ensures err { IfErr result (λ why. IsRefused desk.old.shared.now.fixed (dial (C.given desk.old.clock) (C.least desk.old.clock)) desk.old.client
+            (Call.RequestReservation self.session template) why (dial (C.given desk.new.clock) (C.least desk.new.clock)) desk.new.client) }
+    {
+        let session = self.session;
+        desk.ask_for::<R, Reserved>(rt, Call::RequestReservation { session, template })
+    }
+
+    /// What is known of an accepted reservation of the session (GFD.231, ReservationSession::getReservation).
+    ///
+    /// # Errors
+    ///
+    /// `InvalidSession` where this is no open reservation session, `InvalidArgument(Reservation)` for one that is not
+    /// accepted in it; with no entry, `OutOfMemory` or `OutOfResource(Journal)`.
+    pub fn get_reservation<R: Wait, C: Clock>(
+        self,
+        rt: &R,
+        desk: &mut Desk<C>,
+        reservation: ReservationId,
+    ) -> Result<ReservationInfo, Refusal>
+        requires { IsFree desk.old.shared.now desk.old.client }
+        ensures desk { StaysAt desk.old.shared.now desk.old.client desk.new.shared.now desk.new.client }
+        ensures ok { IfOk result (λ told. IsServed (dial (C.given desk.old.clock) (C.least desk.old.clock)) desk.old.client
+            (Call.GetReservation self.session reservation) (Reply.Reservation told) (dial (C.given desk.new.clock) (C.least desk.new.clock)) desk.new.client) }
+        ensures err { IfErr result (λ why. IsRefused desk.old.shared.now.fixed (dial (C.given desk.old.clock) (C.least desk.old.clock)) desk.old.client
+            (Call.GetReservation self.session reservation) why (dial (C.given desk.new.clock) (C.least desk.new.clock)) desk.new.client) }
+    {
+        let session = self.session;
+        desk.ask_for::<R, ReservationInfo>(
+            rt,
+            Call::GetReservation {
+                session,
+                reservation,
+            },
+        )
+    }
+
+    /// The numbers of the session's accepted reservations, rising (GFD.231, ReservationSession::getReservations).
+    ///
+    /// # Errors
+    ///
+    /// `InvalidSession` where this is no open reservation session; with no entry, `OutOfMemory` or
+    /// `OutOfResource(Journal)`.
+    pub fn get_reservations<R: Wait, C: Clock>(
+        self,
+        rt: &R,
+        desk: &mut Desk<C>,
+    ) -> Result<IdList, Refusal>
+        requires { IsFree desk.old.shared.now desk.old.client }
+        ensures desk { StaysAt desk.old.shared.now desk.old.client desk.new.shared.now desk.new.client }
+        ensures ok { IfOk result (λ told. IsServed (dial (C.given desk.old.clock) (C.least desk.old.clock)) desk.old.client
+            (Call.GetReservations self.session) (Reply.Reservations told) (dial (C.given desk.new.clock) (C.least desk.new.clock)) desk.new.client) }
+        ensures err { IfErr result (λ why. IsRefused desk.old.shared.now.fixed (dial (C.given desk.old.clock) (C.least desk.old.clock)) desk.old.client
+            (Call.GetReservations self.session) why (dial (C.given desk.new.clock) (C.least desk.new.clock)) desk.new.client) }
+    {
+        let session = self.session;
+        let told = desk.ask_for::<R, ReservationNumbers>(rt, Call::GetReservations { session })?;
+        Ok(told.numbers)
+    }
+}

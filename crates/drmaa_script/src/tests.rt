@@ -1,0 +1,269 @@
+//! Runs on sources and sinks in memory whose calls fail one after the other, and what a status carries.
+use crate::commands::run;
+use crate::status::Status;
+use byte_streams::{MemorySink, MemorySource};
+use drmaa_model::Reply;
+use drmaa_types::{Bytes, JobState, PlaceList, Refusal, Text, TextList};
+use std::alloc::Global;
+use std::test::Fail;
+
+const SCRIPT: &str =
+    "machine 4 \"node1\" suspend\ntemplate t\ncommand \"true\"\nend\nclient\ncreate-jobs s \"s\"\nrun j s t\nlaunch\nexit j 0\nstate s j\nend\n";
+
+const JOURNAL: &str =
+    "drmaa-journal 1 4 \"node1\" suspend\n1 1 @0 create-jobs \"s\" = session 1\n2 1 @0 run 1 {command \"true\"} = job 1\n3 2 @0 launch = launch 1 1 1 [\"\" \"\" \"\" \"\" \"apart\" \"0\" \"true\"]\n4 3 @0 exit 1 1 code 0 = ok\n5 1 @0 state 1 1 = state DONE\nend 5\n";
+
+const TABLE: &str = "       job state         slots name\n         1 DONE              1 -\n";
+
+/// Each command, what it reads, and what it writes.
+const COMMANDS: [(&str, &str, &str); 3] = [
+    ("serial", SCRIPT, JOURNAL),
+    ("table", SCRIPT, TABLE),
+    ("check", JOURNAL, "legal 5\n"),
+];
+
+/// The words between spaces; none of an empty line.
+fn words(alloc: Global, line: &str) -> Result<TextList, Fail> {
+    let mut words = Vec::new(alloc);
+    for word in line.split(' ') {
+        if !word.is_empty() {
+            words.push(Text::from_string(String::from_str(alloc, word)?))?;
+        }
+    }
+    Ok(TextList::from_vec(words))
+}
+
+fn places(alloc: Global, numbers: &[u64]) -> Result<PlaceList, Fail> {
+    Ok(PlaceList::from_vec(Vec::from_slice(alloc, numbers)?))
+}
+
+/// A source of this text, which fails at these reads.
+fn source(alloc: Global, text: &str, failing: &[u64]) -> Result<MemorySource, Fail> {
+    let bytes = Bytes::from_vec(Vec::from_slice(alloc, text.as_bytes())?);
+    Ok(MemorySource::new(bytes, places(alloc, failing)?))
+}
+
+/// A sink for so many bytes, which fails at these writes.
+fn sink(alloc: Global, room: usize, failing: &[u64]) -> Result<MemorySink, Fail> {
+    Ok(MemorySink::new(alloc, room, places(alloc, failing)?, false)?)
+}
+
+/// The number of the status with which a run of these words ends.
+fn number(
+    alloc: Global,
+    line: &str,
+    source: &mut MemorySource,
+    sink: &mut MemorySink,
+) -> Result<u8, Fail> {
+    let words = words(alloc, line)?;
+    Ok(run(alloc, &words, source, sink).number())
+}
+
+/// How many calls move so many bytes, of which each moves at most 64.
+fn calls(length: usize) -> u64 {
+    length.div_ceil(64) as u64
+}
+
+#[test]
+fn each_read_may_fail(rt: HostRuntime) -> Result<(), Fail> {
+    let alloc = rt.alloc();
+    for (word, text, written) in &COMMANDS {
+        // The last read finds the end, and no other one follows.
+        let last = calls(text.len()).saturating_add(1);
+        for failing in 1..=last.saturating_add(1) {
+            let mut source = source(alloc, text, &[failing])?;
+            let mut sink = sink(alloc, 1000, &[])?;
+            let (status, wanted) = if failing <= last {
+                (3, "")
+            } else {
+                (0, *written)
+            };
+            assert!(rt;
+                number(alloc, word, &mut source, &mut sink)? == status,
+                "{word} {failing}"
+            );
+            assert!(rt; sink.bytes() == wanted.as_bytes(), "{word} {failing}");
+        }
+    }
+    Ok(())
+}
+
+/// Whether these are so many first bytes of the text.
+fn is_front(bytes: &[u8], text: &str, count: usize) -> bool {
+    bytes.len() == count && text.as_bytes().starts_with(bytes)
+}
+
+#[test]
+fn each_write_may_fail(rt: HostRuntime) -> Result<(), Fail> {
+    let alloc = rt.alloc();
+    for (word, text, written) in &COMMANDS {
+        let last = calls(written.len());
+        for failing in 1..=last.saturating_add(1) {
+            let mut source = source(alloc, text, &[])?;
+            let mut sink = sink(alloc, 1000, &[failing])?;
+            let (status, count) = if failing <= last {
+                (4, (failing.saturating_sub(1) as usize).saturating_mul(64))
+            } else {
+                (0, written.len())
+            };
+            assert!(rt;
+                number(alloc, word, &mut source, &mut sink)? == status,
+                "{word} {failing}"
+            );
+            assert!(rt; is_front(sink.bytes(), written, count), "{word} {failing}");
+        }
+    }
+    Ok(())
+}
+
+#[test]
+fn the_last_bytes_may_find_no_room_and_finishing_may_fail(rt: HostRuntime) -> Result<(), Fail> {
+    let alloc = rt.alloc();
+    for (word, text, written) in &COMMANDS {
+        let length = written.len();
+        for (room, finish_fails, status) in [
+            (length, false, 0),
+            (length.saturating_sub(1), false, 4),
+            (length, true, 4),
+        ] {
+            let mut source = source(alloc, text, &[])?;
+            let mut sink = MemorySink::new(alloc, room, places(alloc, &[])?, finish_fails)?;
+            assert!(rt;
+                number(alloc, word, &mut source, &mut sink)? == status,
+                "{word} {room}"
+            );
+            assert!(rt; is_front(sink.bytes(), written, room), "{word} {room}");
+        }
+    }
+    Ok(())
+}
+
+/// Words, a text, the reads that fail, and the number of the status; each write would fail. A cause that comes first hides
+/// those behind it: the words, reading, the text, what is wrong with the journal, writing.
+const ORDER: [(&str, &str, &[u64], u8); 12] = [
+    ("", SCRIPT, &[1], 2),
+    ("serial x", SCRIPT, &[1], 2),
+    ("Serial", SCRIPT, &[1], 2),
+    ("-serial", SCRIPT, &[1], 2),
+    ("--help", SCRIPT, &[1], 2),
+    ("serial", JOURNAL, &[5], 3),
+    ("table", JOURNAL, &[5], 3),
+    ("check", SCRIPT, &[3], 3),
+    ("serial", JOURNAL, &[], 1),
+    ("table", JOURNAL, &[], 1),
+    ("check", SCRIPT, &[], 1),
+    ("serial", SCRIPT, &[], 4),
+];
+
+#[test]
+fn causes_come_in_their_order(rt: HostRuntime) -> Result<(), Fail> {
+    let alloc = rt.alloc();
+    for (line, text, failing, status) in &ORDER {
+        let mut source = source(alloc, text, failing)?;
+        let mut sink = sink(alloc, 1000, &[1, 2, 3, 4, 5])?;
+        assert!(rt;
+            number(alloc, line, &mut source, &mut sink)? == *status,
+            "{line} {status}"
+        );
+        assert!(rt; sink.bytes().is_empty(), "{line} {status}");
+    }
+    Ok(())
+}
+
+/// What is compared of a reply.
+#[derive(Clone, Copy, Debug, PartialEq, Eq)]
+enum Said {
+    State(JobState),
+    /// The slots of a launch.
+    Launch(u32),
+    Timeout,
+    Other,
+    Nothing,
+}
+
+fn told(reply: &Reply) -> Said {
+    match reply {
+        Reply::State(state) => Said::State(*state),
+        Reply::Launch(launch) => Said::Launch(launch.slots),
+        Reply::Refused(Refusal::Timeout) => Said::Timeout,
+        _ => Said::Other,
+    }
+}
+
+/// The entry, the reply that it has, and that of the machine, where a journal is not legal.
+fn fault_of(status: &Status) -> Option<(u64, Said, Said)> {
+    match status {
+        Status::NotLegal {
+            entry,
+            given,
+            machine,
+        } => {
+            let own = match machine {
+                Some(reply) => told(reply),
+                None => Said::Nothing,
+            };
+            Some((*entry, told(given), own))
+        }
+        _ => None,
+    }
+}
+
+/// Entries behind the first two of the journal, the number of the first that is no step, its reply, and the machine's.
+const FORGED: [(&str, u64, Said, Said); 6] = [
+    (
+        "3 2 @0 launch = launch 1 1 2 [\"\" \"\" \"\" \"\" \"apart\" \"0\" \"true\"]\n4 1 @0 state 1 1 = state RUNNING\nend 4\n",
+        3,
+        Said::Launch(2),
+        Said::Launch(1),
+    ),
+    (
+        "3 1 @0 state 1 1 = state DONE\n4 1 @0 state 1 1 = state RUNNING\nend 4\n",
+        3,
+        Said::State(JobState::Done),
+        Said::State(JobState::Queued),
+    ),
+    (
+        "3 1 @0 state 1 1 = state QUEUED\n4 1 @0 state 1 1 = refused 3\nend 4\n",
+        4,
+        Said::Timeout,
+        Said::State(JobState::Queued),
+    ),
+    (
+        "3 2 @0 launch = launch 1 1 1 [\"\" \"\" \"\" \"\" \"apart\" \"0\" \"true\"]\n4 2 @0 launch = launch 1 1 1 [\"\" \"\" \"\" \"\" \"apart\" \"0\" \"true\"]\nend 4\n",
+        4,
+        Said::Launch(1),
+        Said::Nothing,
+    ),
+    (
+        "3 1 @9 wait-terminated 1 @0 10 [1] = refused 3\nend 3\n",
+        3,
+        Said::Timeout,
+        Said::Nothing,
+    ),
+    (
+        "3 1 @10 wait-terminated 1 @0 10 [1] = reached 1\nend 3\n",
+        3,
+        Said::Other,
+        Said::Timeout,
+    ),
+];
+
+const FRONT: &str =
+    "drmaa-journal 1 4 \"node1\" suspend\n1 1 @0 create-jobs \"s\" = session 1\n2 1 @0 run 1 {command \"true\"} = job 1\n";
+
+#[test]
+fn a_fault_has_the_reply_given_and_the_machine_s(rt: HostRuntime) -> Result<(), Fail> {
+    let alloc = rt.alloc();
+    for (entries, entry, given, machine) in &FORGED {
+        let journal = format!(in alloc; "{FRONT}{entries}")?;
+        let words = words(alloc, "check")?;
+        let mut source = source(alloc, journal.as_str(), &[])?;
+        let mut sink = sink(alloc, 1000, &[1])?;
+        let status = run(alloc, &words, &mut source, &mut sink);
+        assert!(rt;
+            fault_of(&status) == Some((*entry, *given, *machine)),
+            "{entries}"
+        );
+    }
+    Ok(())
+}

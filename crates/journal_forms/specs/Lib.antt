@@ -1,0 +1,4 @@
+pub mod Calls
+pub mod CallLaws
+pub mod Replies
+pub mod ReplyLaws

@@ -1,0 +1,89 @@
+//! Fields of calls and replies: one to three values, each behind a space.
+ghost use Rattle.std.specs.Prelude.{◌≡◌, ◌++◌, OnOk};
+ghost use Rattle.text_codec.specs.Formats.{Answers, pair};
+ghost use Rattle.text_codec.specs.Sums.{arm, keyed};
+
+use std::alloc::AllocError;
+use text_codec::{Cursor, Unread};
+use text_words::{PrintForm, ReadForm, push_behind};
+
+/// Reads one value.
+pub(crate) fn one<A: ReadForm>(cursor: &mut Cursor) -> Result<A, Unread>
+    ensures { Answers (arm A.form (λ x. x)) cursor.old result cursor.new }
+{
+    cursor.expect(b" ")?;
+    let first = A::read(cursor)?;
+    Ok(first)
+}
+
+/// Reads two values.
+#[tactic(auto, unfolding(text_codec::specs::Formats::pair))]
+pub(crate) fn two<A: ReadForm, B: ReadForm>(cursor: &mut Cursor) -> Result<(A, B), Unread>
+    ensures { Answers (arm (pair A.form B.form) (λ x. x)) cursor.old result cursor.new }
+{
+    cursor.expect(b" ")?;
+    let first = A::read(cursor)?;
+    cursor.expect(b" ")?;
+    let second = B::read(cursor)?;
+    Ok((first, second))
+}
+
+/// Reads three values.
+#[tactic(auto, unfolding(text_codec::specs::Formats::pair))]
+pub(crate) fn three<A: ReadForm, B: ReadForm, C: ReadForm>(
+    cursor: &mut Cursor,
+) -> Result<(A, (B, C)), Unread>
+    ensures { Answers (arm (pair A.form (pair B.form C.form)) (λ x. x)) cursor.old result cursor.new }
+{
+    cursor.expect(b" ")?;
+    let first = A::read(cursor)?;
+    cursor.expect(b" ")?;
+    let second = B::read(cursor)?;
+    cursor.expect(b" ")?;
+    let third = C::read(cursor)?;
+    Ok((first, (second, third)))
+}
+
+/// Prints a word and one value.
+pub(crate) fn push_one<A: PrintForm>(
+    out: &mut Vec<u8>,
+    word: &[u8],
+    first: &A,
+) -> Result<(), AllocError>
+    ensures text { OnOk result (out.new.items ≡ out.old.items ++ (keyed word.now A.form first.now).text) }
+    ensures valid { OnOk result ((keyed word.now A.form first.now).valid) }
+{
+    out.extend_from_slice(word)?;
+    push_behind(out, b" ", first)
+}
+
+/// Prints a word and two values.
+#[tactic(auto, unfolding(text_codec::specs::Formats::pair))]
+pub(crate) fn push_two<A: PrintForm, B: PrintForm>(
+    out: &mut Vec<u8>,
+    word: &[u8],
+    first: &A,
+    second: &B,
+) -> Result<(), AllocError>
+    ensures text { OnOk result (out.new.items ≡ out.old.items ++ (keyed word.now (pair A.form B.form) (first.now, second.now)).text) }
+    ensures valid { OnOk result ((keyed word.now (pair A.form B.form) (first.now, second.now)).valid) }
+{
+    push_one(out, word, first)?;
+    push_behind(out, b" ", second)
+}
+
+/// Prints a word and three values.
+#[tactic(auto, unfolding(text_codec::specs::Formats::pair))]
+pub(crate) fn push_three<A: PrintForm, B: PrintForm, C: PrintForm>(
+    out: &mut Vec<u8>,
+    word: &[u8],
+    first: &A,
+    second: &B,
+    third: &C,
+) -> Result<(), AllocError>
+    ensures text { OnOk result (out.new.items ≡ out.old.items ++ (keyed word.now (pair A.form (pair B.form C.form)) (first.now, (second.now, third.now))).text) }
+    ensures valid { OnOk result ((keyed word.now (pair A.form (pair B.form C.form)) (first.now, (second.now, third.now))).valid) }
+{
+    push_two(out, word, first, second)?;
+    push_behind(out, b" ", third)
+}
