@@ -1,5 +1,5 @@
 -- What a call of a desk says of its client's own list.
-use Rattle.std.proofs.Common.{◌≡◌, ℕ, Bool, true, false, ◌||◌, List, [], ◌∷◌, ◌++◌, filter, eqb, Some, None, cond, eq-eqb, refl, sym, ap, ◌∙◌, subst, append_assoc, append-nil}
+use Rattle.std.proofs.Common.{◌≡◌, inl, inr, ℕ, Bool, true, false, ◌||◌, List, [], ◌∷◌, ◌++◌, map, filter, eqb, Option, Some, None, cond, arith, eq-eqb, refl, sym, ap, ◌∙◌, subst, append_assoc, append-nil}
 use Rattle.std.specs.Prelude.{Result, Ok, Err, IfOk, IfErr, is_ok}
 use Rattle.std.specs.Option.{option_map_or}
 use Rattle.std.proofs.lemmas.List.{map-append, same_from_push}
@@ -26,11 +26,14 @@ use Rattle.drmaa_model.specs.WaitLaws.{HandsOut, launch-hands_out, SendsOut, sig
 use Rattle.turn_lock.specs.Histories.{BeginsWith}
 use Rattle.turn_lock.specs.Tokens.{Named, IsFree}
 use Rattle.call_history.specs.Callers.{calls_of}
-use Rattle.call_history.specs.Calls.{entry_by, IsServed, IsUnserved}
-use Rattle.call_history.specs.Clocks.{Dial}
+use Rattle.call_history.specs.Calls.{entry_by, IsServed, IsUnserved, IsLookedAt}
+use Rattle.drmaa_types.specs.Readings.{Reads}
+use Rattle.drmaa_model.specs.declared.looks.Answer.{Answer}
+use Rattle.drmaa_model.specs.declared.looks.Question.{Question}
 use Rattle.drmaa_model.specs.declared.faults.NoEntry.{NoEntry}
 use Rattle.call_history.specs.Clients.{Seat, seen_of, mine_of, number_of, KnowsItsOwn, Makes}
-use Rattle.attendant.specs.Acts.{Duty, TakeLaunch, Started, StartFailed, Exited, ExitUnknown, TakeSignal, SignalDone, SignalFailed, Other, duty_of, Act, act_of, acts_of, own_acts, launch_reply, signal_reply, launch_in, launches_run, is_run, is_launched, IsNewLaunch, IsSignal, IsStillAt, Fails, of}
+use Rattle.attendant.specs.Acts.{Duty, TakeLaunch, Started, StartFailed, Exited, ExitUnknown, TakeSignal, SignalDone, SignalFailed, Other, duty_of, Act, act_of, acts_of, own_acts, launch_reply, signal_reply, launch_in, launches_run, is_run, is_launched, IsNewLaunch, IsSignal, of}
+use Rattle.attendant.specs.Posts.{Post, Gives, AreAmong, IsStillAt, Fails, FailsWithin}
 use Rattle.attendant.specs.Steps.{entry_of, Takes, Answers, IsLegalReply}
 use Rattle.attendant.proofs.Entries.{not_true, or_cases}
 
@@ -211,33 +214,158 @@ answers config old new at c r m same own legal = record {
 
 -- ---- desks
 
-pub still-same : (shared : Named Config) (seat : Seat) → IsFree shared seat → IsStillAt shared seat shared seat
-still-same shared seat free = record { shared_is = refl; client = free; number = refl; begins = record { rest = []; whole = sym (append-nil _) }; own = λ o. o; legal = λ l. l }
+gives-one : (before : Option (List ℕ)) (at : ℕ) (after : Option (List ℕ)) → Reads before at after → Gives before (at ∷ []) after
+gives-one before at None told = tt
+gives-one None at (Some after) told = told
+gives-one (Some before) at (Some after) told = told
 
-pub begins-both : (old mid new : List Entry) → BeginsWith mid old → BeginsWith new mid → BeginsWith new old
+gives-none : (given : Option (List ℕ)) → Gives given [] given
+gives-none None = tt
+gives-none (Some readings) = sym (append-nil readings)
+
+gives-both : (before : Option (List ℕ)) (first : List ℕ) (mid : Option (List ℕ)) (second : List ℕ) (after : Option (List ℕ))
+    → Gives before first mid → Gives mid second after → Gives before (first ++ second) after
+gives-both before first mid second None f s = tt
+gives-both before first None second (Some after) f s = absurd s
+gives-both None first (Some mid) second (Some after) f s = absurd f
+gives-both (Some before) first (Some mid) second (Some after) f s = s ∙ ap (λ (l : List ℕ). l ++ second) f ∙ append_assoc before first second
+
+among-none : (readings : List ℕ) → AreAmong readings []
+among-none [] = tt
+among-none (reading ∷ readings) = tt
+
+among-more : (reading : ℕ) (readings moments : List ℕ) → AreAmong readings moments → AreAmong (reading ∷ readings) moments
+among-more reading readings [] a = tt
+among-more reading readings (moment ∷ moments) a = inr a
+
+among-both : (first second moments more : List ℕ) → AreAmong first moments → AreAmong second more → AreAmong (first ++ second) (moments ++ more)
+among-both [] second [] more a b = b
+among-both [] second (moment ∷ moments) more a b = absurd a
+among-both (reading ∷ first) second [] more a b = among-more reading (first ++ second) more (among-both first second [] more (among-none first) b)
+among-both (reading ∷ first) second (moment ∷ moments) more a b =
+    elim a [ inl here ↦ inl (here.0, among-both first second moments more here.1 b) | inr later ↦ inr (among-both first second (moment ∷ moments) more later b) ]
+
+pub still-same : (old : Post) → IsFree old.shared old.client → IsStillAt old old
+still-same old free = record {
+  shared_is = refl;
+  client = free;
+  number = refl;
+  begins = record { rest = []; whole = sym (append-nil _) };
+  own = λ o. o;
+  legal = λ l. l;
+  least = omega arith;
+  readings = [];
+  gave = gives-none old.clock.given;
+  added = [];
+  mine = sym (append-nil _);
+  timed = tt;
+}
+
+begins-both : (old mid new : List Entry) → BeginsWith mid old → BeginsWith new mid → BeginsWith new old
 begins-both old mid new a b = record {
   rest = a.rest ++ b.rest;
   whole = b.whole ∙ ap (λ (l : List Entry). l ++ b.rest) a.whole ∙ append_assoc old a.rest b.rest;
 }
 
-pub begins-call : (before : Dial) (old : Seat) (c : Call) (after : Dial) (new : Seat) (config : Config) (r : Result Reply NoEntry)
-    → IfOk r (λ reply. IsServed before old c reply after new) → IfErr r (λ why. IsUnserved config before old c why after new) → BeginsWith (seen_of new) (seen_of old)
-begins-call before old c after new config (Ok reply) ok err = record {
-  rest = ok.made.between ++ entry_by (number_of old) ok.at c reply ∷ [];
-  whole = ok.made.seen ∙ append_assoc (seen_of old) ok.made.between (entry_by (number_of old) ok.at c reply ∷ []);
-}
-begins-call before old c after new config (Err why) ok err = record { rest = err.more.between; whole = err.more.seen }
+moments-both : (readings : List ℕ) (xs ys : List Entry) → AreAmong readings (map (λ (e : Entry). e.at) xs ++ map (λ (e : Entry). e.at) ys) → AreAmong readings (map (λ (e : Entry). e.at) (xs ++ ys))
+moments-both readings xs ys a = subst (AreAmong readings) (sym (map-append (λ (e : Entry). e.at) xs ys)) a
 
-pub still-both : (shared : Named Config) (old : Seat) (shared_mid : Named Config) (mid : Seat) (shared_after : Named Config) (new : Seat)
-    → IsStillAt shared old shared_mid mid → IsStillAt shared_mid mid shared_after new → IsStillAt shared old shared_after new
-still-both shared old shared_mid mid shared_after new a b = record {
+pub still-both : (old mid new : Post) → IsStillAt old mid → IsStillAt mid new → IsStillAt old new
+still-both old mid new a b = record {
   shared_is = b.shared_is ∙ a.shared_is;
-  client = subst (λ (s : Named Config). IsFree s new) a.shared_is b.client;
+  client = subst (λ (s : Named Config). IsFree s new.client) a.shared_is b.client;
   number = b.number ∙ a.number;
-  begins = begins-both (seen_of old) (seen_of mid) (seen_of new) a.begins b.begins;
+  begins = begins-both (seen_of old.client) (seen_of mid.client) (seen_of new.client) a.begins b.begins;
   own = λ o. b.own (a.own o);
-  legal = λ l. subst (λ (s : Named Config). IsLegal s.fixed (seen_of mid) → IsLegal s.fixed (seen_of new)) a.shared_is b.legal (a.legal l);
+  legal = λ l. subst (λ (s : Named Config). IsLegal s.fixed (seen_of mid.client) → IsLegal s.fixed (seen_of new.client)) a.shared_is b.legal (a.legal l);
+  least = omega arith;
+  readings = a.readings ++ b.readings;
+  gave = gives-both old.clock.given a.readings mid.clock.given b.readings new.clock.given a.gave b.gave;
+  added = a.added ++ b.added;
+  mine = b.mine ∙ ap (λ (l : List Entry). l ++ b.added) a.mine ∙ append_assoc (mine_of old.client) a.added b.added;
+  timed = moments-both (a.readings ++ b.readings) a.added b.added (among-both a.readings b.readings _ _ a.timed b.timed);
 }
+
+-- a desk after a call
+pub still-call : (old new : Post) (config : Config) (c : Call) (r : Result Reply NoEntry) → new.shared ≡ old.shared → IsFree old.shared new.client → number_of new.client ≡ number_of old.client
+    → KnowsItsOwn new.client → IsLegal old.shared.fixed (seen_of new.client)
+    → IfOk r (λ reply. IsServed old.clock old.client c reply new.clock new.client) → IfErr r (λ why. IsUnserved config old.clock old.client c why new.clock new.client) → IsStillAt old new
+still-call old new config c (Ok reply) shared free number own legal s err = record {
+  shared_is = shared;
+  client = free;
+  number = number;
+  begins = record {
+    rest = s.made.between ++ entry_by (number_of old.client) s.at c reply ∷ [];
+    whole = s.made.seen ∙ append_assoc (seen_of old.client) s.made.between (entry_by (number_of old.client) s.at c reply ∷ []);
+  };
+  own = λ o. own;
+  legal = λ l. legal;
+  least = omega (arith, s.read.least, s.read.rising);
+  readings = s.at ∷ [];
+  gave = gives-one old.clock.given s.at new.clock.given s.read.told;
+  added = entry_by (number_of old.client) s.at c reply ∷ [];
+  mine = s.made.mine;
+  timed = inl (refl, tt);
+}
+still-call old new config c (Err why) shared free number own legal ok u = record {
+  shared_is = shared;
+  client = free;
+  number = number;
+  begins = record { rest = u.more.between; whole = u.more.seen };
+  own = λ o. own;
+  legal = λ l. legal;
+  least = omega (arith, u.read.least, u.read.rising);
+  readings = u.at ∷ [];
+  gave = gives-one old.clock.given u.at new.clock.given u.read.told;
+  added = [];
+  mine = u.more.mine ∙ sym (append-nil _);
+  timed = tt;
+}
+
+-- a desk after its client learnt of entries, and a look
+pub still-look : (old : Post) (mid : Seat) (new : Post) (config : Config) (question : Question) (answer : Answer) → new.shared ≡ old.shared → IsFree old.shared new.client
+    → number_of mid ≡ number_of old.client → number_of new.client ≡ number_of mid → mine_of mid ≡ mine_of old.client → BeginsWith (seen_of mid) (seen_of old.client)
+    → KnowsItsOwn new.client → IsLegal old.shared.fixed (seen_of new.client) → IsLookedAt config old.clock mid question answer new.clock new.client → IsStillAt old new
+still-look old mid new config question answer shared free learnt number mine begins own legal look = record {
+  shared_is = shared;
+  client = free;
+  number = number ∙ learnt;
+  begins = begins-both (seen_of old.client) (seen_of mid) (seen_of new.client) begins (record { rest = look.more.between; whole = look.more.seen });
+  own = λ o. own;
+  legal = λ l. legal;
+  least = omega (arith, look.read.least, look.read.rising);
+  readings = look.at ∷ [];
+  gave = gives-one old.clock.given look.at new.clock.given look.read.told;
+  added = [];
+  mine = look.more.mine ∙ mine ∙ sym (append-nil _);
+  timed = tt;
+}
+
+-- where the client stands at the end
+pub still-free : (old new : Post) → IsStillAt old new → IsFree new.shared new.client
+still-free old new s = subst (λ (n : Named Config). IsFree n new.client) (sym s.shared_is) s.client
+
+-- a call that made no entry, in a longer time
+abbrev pub fails-on : (first old new : Post) (c : Call) (why : NoEntry) → FailsWithin first c why old → IsStillAt old new → FailsWithin first c why new
+fails-on first old new c why f b = record {
+  before = f.before;
+  from_old = f.from_old;
+  after = f.after;
+  fails = f.fails;
+  to_new = still-both f.after old new f.to_new b;
+}
+
+abbrev pub fails-from : (first old new : Post) (c : Call) (why : NoEntry) → IsStillAt first old → FailsWithin old c why new → FailsWithin first c why new
+fails-from first old new c why a f = record {
+  before = f.before;
+  from_old = still-both first old f.before a f.from_old;
+  after = f.after;
+  fails = f.fails;
+  to_new = f.to_new;
+}
+
+pub fails-last : (old mid new : Post) (c : Call) (why : NoEntry) → IsStillAt old mid → IsStillAt mid new → Fails mid c why new → FailsWithin old c why new
+fails-last old mid new c why a b f = record { before = mid; from_old = a; after = new; fails = f; to_new = still-same new (still-free mid new b) }
 
 -- ---- takes
 
@@ -312,13 +440,10 @@ each-err P Q (Ok a) each p = tt
 each-err P Q (Err e) each p = each e p
 
 -- a call that was not answered has a cause
-pub err-cause : (config : Config) (seat : Seat) (c : Call) (P : Type 0) (r : Result Reply NoEntry) → IfErr r (λ fault. P × Fails config seat c fault) → is_ok r ≡ false
-    → (fault : NoEntry) × Fails config seat c fault
-err-cause config seat c P (Ok reply) e is = absurd (cc)
-err-cause config seat c P (Err fault) e is = (fault, e.1)
-
-pub fails-at : (shared shared_mid : Named Config) (seat : Seat) (c : Call) (fault : NoEntry) → shared_mid ≡ shared → Fails shared_mid.fixed seat c fault → Fails shared.fixed seat c fault
-fails-at shared shared_mid seat c fault same f = subst (λ (s : Named Config). Fails s.fixed seat c fault) same f
+pub err-cause : (old new : Post) (c : Call) (P : Type 0) (r : Result Reply NoEntry) → IfErr r (λ fault. P × Fails old c fault new) → is_ok r ≡ false
+    → (fault : NoEntry) × Fails old c fault new
+err-cause old new c P (Ok reply) e is = absurd (cc)
+err-cause old new c P (Err fault) e is = (fault, e.1)
 
 -- a caller's entries, as launcher and reaper read them
 pub own-acts : (es : List Entry) (n : ℕ) → acts_of (calls_of es n) ≡ of (acts_of es) n

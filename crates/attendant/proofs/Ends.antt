@@ -1,13 +1,10 @@
 -- What the steps of the reaper keep.
-use Rattle.std.proofs.Common.{◌≡◌, inl, inr, ℕ, ◌+◌, Bool, true, false, ◌||◌, ◌&&◌, cond, List, [], ◌∷◌, ◌++◌, length, Option, Some, None, refl, sym, ap, ◌∙◌, subst, append_assoc, append-nil, arith, ◌≤◌, ◌<◌, ◌-◌, min, leb, eqb, length-append}
-use Rattle.std.specs.Prelude.{IsSome, IfSome, OnErr, IsOk, Result, Ok, Err, IfOk, is_ok, option_map, ◌^◌}
-use Rattle.std.specs.List.{AllByRecursion}
-use Rattle.std.proofs.lemmas.Bool.{and_parts, leb-true, leb-false, eqb-true, eqb-false}
-use Rattle.std.proofs.lemmas.List.Folds.{list_any-append}
+use Rattle.std.proofs.Common.{◌≡◌, inl, inr, ℕ, Bool, true, false, ◌||◌, ◌&&◌, cond, List, [], ◌∷◌, ◌++◌, Option, Some, None, refl, sym, ap, ◌∙◌, subst}
+use Rattle.std.specs.Prelude.{IsSome, IfSome, OnErr, Result, Ok, Err, is_ok, is_none, option_map}
+use Rattle.std.proofs.lemmas.Bool.{and_parts}
 use Rattle.std.proofs.lemmas.Option.{IfSome_then}
-use Rattle.std.proofs.lemmas.List.{get_or_past}
 use Rattle.drmaa_types.specs.declared.refusals.Refusal.{Refusal}
-use Rattle.slab.specs.Slab.{Slab, get, SameValues, Updates}
+use Rattle.slab.specs.Slab.{Slab, get}
 use Rattle.drmaa_types.specs.declared.changes.Failed.{Failed}
 use Rattle.drmaa_types.specs.declared.identifiers.JobId.{JobId}
 use Rattle.drmaa_types.specs.declared.states.Exit.{Exit}
@@ -29,9 +26,10 @@ use Rattle.attendant.specs.declared.reaping.Polled.TheVariants.{Running}
 use Rattle.attendant.specs.Runs.{owed, owed_after, is_end_report, is_kill_report, is_ended, is_killed, is_delivered, is_kill, hand_kills, IsUnanswered}
 use Rattle.attendant.specs.Outside.{IsReapersEntry, IsRunning, Tends, IsChild, IsFated, FailsSignal, FailsPoll, FaultTells, ExitTells, IsFault, Tells, TellsOf, IsExit, Agrees, AgreesOf, Keeping, Agreeing, Agreed, Polling}
 use Rattle.attendant.specs.Steps.{entry_of}
-use Rattle.attendant.specs.Rounds.{signal_report, SignalReports, Serves, RunsOn, SeenEnd, Leaves, PollSteps, end_call, hand_without, EndReports, TakeSteps, IsPolled, IsEndOf, PollsPlaces, PollsAll}
-use Rattle.attendant.proofs.Entries.{each_more, not_true, or_false, or_true, or_cases, any_more, any_skip, any_kept, run_same, owed_more, update_cases, some_is}
-use Rattle.attendant.proofs.Launches.{run_refl}
+use Rattle.attendant.specs.Rounds.{signal_report, SignalReports, Serves, RunsOn, SeenEnd, Leaves, PollSteps, end_call, is_over, hand_without, EndReports, TakeSteps}
+use Rattle.attendant.specs.Posts.{Post, acts_at}
+use Rattle.call_history.specs.Clients.{number_of}
+use Rattle.attendant.proofs.Entries.{each_more, not_true, or_false, or_true, or_cases, any_more, any_skip, run_same, owed_more, update_cases, some_is}
 
 -- the places changed, each child that is there now was there, of the same run
 tends_mapped : {T : Type 0} (launcher reaper : List Act) (at now : ℕ → Option (Held T)) (hand : Option Hand)
@@ -152,10 +150,10 @@ poll_tends {T = T} told key held launcher reaper old new hand r t = tends_mapped
   | inr other ↦ (h, other.1, refl, refl)
 ])) t
 
-without_is : (job : JobId) (attempt : ℕ) (hand : Option Hand) (h : Hand) → hand_without job attempt hand ≡ Some h → hand ≡ Some h
-without_is job attempt None h is = is
-without_is job attempt (Some g) h is =
-    (elim (is_run g.signal.job g.signal.attempt job attempt) as (λ b. cond b None (Some g) ≡ Some h → Some g ≡ Some h) [
+pub without_is : (b : Bool) (job : JobId) (attempt : ℕ) (hand : Option Hand) (h : Hand) → hand_without b job attempt hand ≡ Some h → hand ≡ Some h
+without_is b job attempt None h is = is
+without_is b job attempt (Some g) h is =
+    (elim (is_over b job attempt g) as (λ o. cond o None (Some g) ≡ Some h → Some g ≡ Some h) [
       | true ↦ λ is. absurd (cc)
       | false ↦ λ is. is
     ]) is
@@ -164,7 +162,7 @@ end_entry : (n : ℕ) (job : JobId) (attempt : ℕ) (x : Option Exit) (r : Reply
 end_entry n job attempt None r front is = is
 end_entry n job attempt (Some x) r front is = is
 
-end_is : (job : JobId) (attempt : ℕ) (x : Option Exit) (other : JobId) (m : ℕ) → is_end_report other m (end_call job attempt x) ≡ is_run job attempt other m
+pub end_is : (job : JobId) (attempt : ℕ) (x : Option Exit) (other : JobId) (m : ℕ) → is_end_report other m (end_call job attempt x) ≡ is_run job attempt other m
 end_is job attempt None other m = refl
 end_is job attempt (Some x) other m = refl
 
@@ -187,10 +185,10 @@ leave_tends {T = T} told faults key job attempt x launcher reaper old new hand l
 -- its end is reported
 end_tends : {T : Type 0} (told : T → Option Told) (faults : T → ℕ) (n : ℕ) (r : Reply) (key : ℕ) (job : JobId) (attempt : ℕ) (x : Option Exit) (launcher reaper : List Act) (old new : Slab (Held T)) (hand : Option Hand)
     → Leaves told faults key job attempt x old new → Tends launcher reaper (get old) hand
-    → Tends launcher (reaper ++ entry_of n (end_call job attempt x) r ∷ []) (get new) (hand_without job attempt hand)
+    → Tends launcher (reaper ++ entry_of n (end_call job attempt x) r ∷ []) (get new) (hand_without true job attempt hand)
 end_tends {T = T} told faults n r key job attempt x launcher reaper old new hand l t =
     let run : IsRunning launcher reaper job attempt = subst (λ (j : JobId). IsRunning launcher reaper j attempt) l.of_job (subst (λ (a : ℕ). IsRunning launcher reaper l.held.job a) l.of_attempt (t.children key l.held l.there)) in
-    tends_entry launcher reaper (get new) hand (hand_without job attempt hand) (entry_of n (end_call job attempt x) r)
+    tends_entry launcher reaper (get new) hand (hand_without true job attempt hand) (entry_of n (end_call job attempt x) r)
     (end_entry n job attempt x r reaper run.goes_on)
     (λ other m is. (let same = run_same job attempt other m (sym (end_is job attempt x other m) ∙ is) in
     subst (λ (j : JobId). is_launched j m launcher ≡ true) same.0 (subst (λ (a : ℕ). is_launched job a launcher ≡ true) same.1 run.launched)))
@@ -201,8 +199,8 @@ end_tends {T = T} told faults n r key job attempt x launcher reaper old new hand
       | inr other ↦ absurd (other.0 (t.apart k key h l.held other.1 l.there (sym same.0 ∙ sym l.of_job) (sym same.1 ∙ sym l.of_attempt)))
     ])))
     (λ other m is. (let not_kill = end_no_kill job attempt x other m in absurd (cc)))
-    (λ h is. end_owes job attempt x r (owed reaper) ∙ t.owes h (without_is job attempt hand h is))
-    (λ h is has. t.delivered h (without_is job attempt hand h is) has)
+    (λ h is. end_owes job attempt x r (owed reaper) ∙ t.owes h (without_is true job attempt hand h is))
+    (λ h is has. t.delivered h (without_is true job attempt hand h is) has)
     (leave_tends told faults key job attempt x launcher reaper old new hand l t)
 
 -- where the spawner tells
@@ -362,23 +360,11 @@ poll_tells {T = T} told starts fate key held launcher reaper old new hand r t = 
   faults = t.faults;
 }
 
-leave_tells : {T : Type 0} (told : T → Option Told) (faults : T → ℕ) (starts : List Asked) (fate : ℕ → Fate) (key : ℕ) (job : JobId) (attempt : ℕ) (x : Option Exit) (launcher reaper : List Act) (old new : Slab (Held T)) (hand : Option Hand)
-    → Leaves told faults key job attempt x old new → Tells told starts fate launcher reaper (get old) hand → Tells told starts fate launcher reaper (get new) hand
-leave_tells {T = T} told faults starts fate key job attempt x launcher reaper old new hand l t = record {
-  asked = t.asked;
-  children = λ k h is. (elim (update_cases old new key _ l.updates k h is) [
-    | inl here ↦ absurd (none_some _ here.1)
-    | inr other ↦ t.children k h other.1
-  ]);
-  failing = t.failing;
-  faults = t.faults;
-}
-
-without_kills : (job : JobId) (attempt : ℕ) (hand : Option Hand) (other : JobId) (m : ℕ) → is_run job attempt other m ≡ false → hand_kills hand other m ≡ hand_kills (hand_without job attempt hand) other m
-without_kills job attempt None other m apart = refl
-without_kills job attempt (Some g) other m apart =
-    (elim (is_run g.signal.job g.signal.attempt job attempt) as (λ b. is_run g.signal.job g.signal.attempt job attempt ≡ b → hand_kills (Some g) other m ≡ hand_kills (cond b None (Some g)) other m) [
-      | true ↦ λ is. (let same = run_same g.signal.job g.signal.attempt job attempt is in
+without_kills : (b : Bool) (job : JobId) (attempt : ℕ) (hand : Option Hand) (other : JobId) (m : ℕ) → is_run job attempt other m ≡ false → hand_kills hand other m ≡ hand_kills (hand_without b job attempt hand) other m
+without_kills b job attempt None other m apart = refl
+without_kills b job attempt (Some g) other m apart =
+    (elim (is_over b job attempt g) as (λ o. is_over b job attempt g ≡ o → hand_kills (Some g) other m ≡ hand_kills (cond o None (Some g)) other m) [
+      | true ↦ λ is. (let same = run_same g.signal.job g.signal.attempt job attempt (and_parts (is_run g.signal.job g.signal.attempt job attempt) (b || is_none g.answer) is).0 in
           let not_it : is_run g.signal.job g.signal.attempt other m ≡ false =
           subst (λ (j : JobId). is_run j g.signal.attempt other m ≡ false) (sym same.0) (subst (λ (a : ℕ). is_run job a other m ≡ false) (sym same.1) apart) in
           ap (λ (x : Bool). is_delivered g.answer && (is_kill g.signal.kind && x)) not_it ∙ ap (λ (x : Bool). is_delivered g.answer && x) (and_false (is_kill g.signal.kind)) ∙ and_false (is_delivered g.answer))
@@ -390,27 +376,58 @@ end_fault : {T : Type 0} (told : T → Option Told) (faults : T → ℕ) (starts
 end_fault told faults starts fate child job attempt killed None seen c = child_fated FailsPoll starts fate job attempt killed (told child) c seen.0
 end_fault told faults starts fate child job attempt killed (Some x) seen c = tt
 
+-- what a child tells that is still there, once the order in hand may have been dropped
+others_told : {T : Type 0} (told : T → Option Told) (faults : T → ℕ) (starts : List Asked) (fate : ℕ → Fate) (b : Bool) (key : ℕ) (job : JobId) (attempt : ℕ) (x : Option Exit) (launcher reaper : List Act) (old new : Slab (Held T)) (hand : Option Hand)
+    → Leaves told faults key job attempt x old new → Tends launcher reaper (get old) hand → Tells told starts fate launcher reaper (get old) hand
+    → (k : ℕ) (h : Held T) → get new k ≡ Some h → IsChild starts fate h.job h.attempt (is_killed h.job h.attempt reaper || hand_kills (hand_without b job attempt hand) h.job h.attempt) (told h.child)
+others_told {T = T} told faults starts fate b key job attempt x launcher reaper old new hand l tends t k h is = elim (update_cases old new key _ l.updates k h is) [
+  | inl here ↦ absurd (none_some _ here.1)
+  | inr other ↦ child_by starts fate h.job h.attempt _ _ (told h.child)
+      (ap (λ (o : Bool). is_killed h.job h.attempt reaper || o) (without_kills b job attempt hand h.job h.attempt
+      (not_true _ (λ yes_run. (let same = run_same job attempt h.job h.attempt yes_run in
+      other.0 (tends.apart k key h l.held other.1 l.there (sym same.0 ∙ sym l.of_job) (sym same.1 ∙ sym l.of_attempt)))))))
+      (t.children k h other.1)
+]
+
 end_tells : {T : Type 0} (told : T → Option Told) (faults : T → ℕ) (starts : List Asked) (fate : ℕ → Fate) (n : ℕ) (r : Reply) (key : ℕ) (job : JobId) (attempt : ℕ) (x : Option Exit) (launcher reaper : List Act) (old new : Slab (Held T)) (hand : Option Hand)
     → Leaves told faults key job attempt x old new → Tends launcher reaper (get old) hand
     → Tells told starts fate launcher reaper (get old) hand
-    → Tells told starts fate launcher (reaper ++ entry_of n (end_call job attempt x) r ∷ []) (get new) (hand_without job attempt hand)
+    → Tells told starts fate launcher (reaper ++ entry_of n (end_call job attempt x) r ∷ []) (get new) (hand_without true job attempt hand)
 end_tells {T = T} told faults starts fate n r key job attempt x launcher reaper old new hand l tends t = record {
   asked = t.asked;
-  children = λ k h is. (elim (update_cases old new key _ l.updates k h is) [
-    | inl here ↦ absurd (none_some _ here.1)
-    | inr other ↦ child_by starts fate h.job h.attempt _ _ (told h.child)
-        (ap (λ (b : Bool). is_killed h.job h.attempt reaper || b) (without_kills job attempt hand h.job h.attempt
-        (not_true _ (λ yes_run. (let same = run_same job attempt h.job h.attempt yes_run in
-        other.0 (tends.apart k key h l.held other.1 l.there (sym same.0 ∙ sym l.of_job) (sym same.1 ∙ sym l.of_attempt))))))
-        ∙ ap (λ (b : Bool). b || hand_kills (hand_without job attempt hand) h.job h.attempt)
-        (sym (any_skip (λ (e : Act). is_kill_report h.job h.attempt e.call) reaper (entry_of n (end_call job attempt x) r) (end_no_kill job attempt x h.job h.attempt))))
-        (t.children k h other.1)
-  ]);
-  failing = λ h is no_answer. t.failing h (without_is job attempt hand h is) no_answer;
+  children = λ k h is. child_by starts fate h.job h.attempt _ _ (told h.child)
+      (ap (λ (b : Bool). b || hand_kills (hand_without true job attempt hand) h.job h.attempt)
+      (sym (any_skip (λ (e : Act). is_kill_report h.job h.attempt e.call) reaper (entry_of n (end_call job attempt x) r) (end_no_kill job attempt x h.job h.attempt))))
+      (others_told told faults starts fate true key job attempt x launcher reaper old new hand l tends t k h is);
+  failing = λ h is no_answer. t.failing h (without_is true job attempt hand h is) no_answer;
   faults = each_more (IsFault starts fate) reaper (entry_of n (end_call job attempt x) r) t.faults
       (end_fault told faults starts fate l.held.child job attempt _ x l.seen
       (subst (λ (j : JobId). IsChild starts fate j attempt (is_killed l.held.job l.held.attempt reaper || hand_kills hand l.held.job l.held.attempt) (told l.held.child)) l.of_job
       (subst (λ (a : ℕ). IsChild starts fate l.held.job a (is_killed l.held.job l.held.attempt reaper || hand_kills hand l.held.job l.held.attempt) (told l.held.child)) l.of_attempt (t.children key l.held l.there))));
+}
+
+-- a child that leaves with no report: an order of it that was not delivered is dropped
+lost_tends : {T : Type 0} (b : Bool) (job : JobId) (attempt : ℕ) (launcher reaper : List Act) (at : ℕ → Option (Held T)) (hand : Option Hand) → Tends launcher reaper at hand → Tends launcher reaper at (hand_without b job attempt hand)
+lost_tends b job attempt launcher reaper at hand t = record {
+  launches = t.launches;
+  reports = t.reports;
+  started = t.started;
+  ended = t.ended;
+  killed = t.killed;
+  children = t.children;
+  apart = t.apart;
+  owes = λ h is. t.owes h (without_is b job attempt hand h is);
+  delivered = λ h is has. t.delivered h (without_is b job attempt hand h is) has;
+}
+
+lost_tells : {T : Type 0} (told : T → Option Told) (faults : T → ℕ) (starts : List Asked) (fate : ℕ → Fate) (key : ℕ) (job : JobId) (attempt : ℕ) (x : Option Exit) (launcher reaper : List Act) (old new : Slab (Held T)) (hand : Option Hand)
+    → Leaves told faults key job attempt x old new → Tends launcher reaper (get old) hand → Tells told starts fate launcher reaper (get old) hand
+    → Tells told starts fate launcher reaper (get new) (hand_without false job attempt hand)
+lost_tells told faults starts fate key job attempt x launcher reaper old new hand l tends t = record {
+  asked = t.asked;
+  children = others_told told faults starts fate false key job attempt x launcher reaper old new hand l tends t;
+  failing = λ h is no_answer. t.failing h (without_is false job attempt hand h is) no_answer;
+  faults = t.faults;
 }
 
 -- as long as no round was refused
@@ -475,19 +492,21 @@ take_keeping told n s reaper at = record {
   };
 }
 
-pub take_order_keeping : {T : Type 0} (told : T → Option Told) (n : ℕ) (mine mine2 : List Act) (at : ℕ → Option (Held T)) (hand hand2 : Option Hand)
-    → TakeSteps n mine mine2 hand hand2 → Keeping told mine mine2 at at hand hand2
-take_order_keeping told n mine mine2 at (Some h) hand2 s =
-    subst (λ (o : Option Hand). Keeping told mine mine2 at at (Some h) o) (sym s.1) (subst (λ (m : List Act). Keeping told mine m at at (Some h) (Some h)) (sym s.0) (keeping_none told mine at (Some h)))
-take_order_keeping told n mine mine2 at None hand2 (inl s) =
-    subst (λ (o : Option Hand). Keeping told mine mine2 at at None o) (sym s.1) (subst (λ (m : List Act). Keeping told mine m at at None None) (sym s.0) (keeping_none told mine at None))
-take_order_keeping told n mine mine2 at None hand2 (inr t) =
-    subst (λ (o : Option Hand). Keeping told mine mine2 at at None o) (sym t.hand_is) (subst (λ (m : List Act). Keeping told mine m at at None (Some (record { signal = t.signal; answer = None }))) (sym t.mine_is) (take_keeping told n t.signal mine at))
+pub take_order_keeping : {T : Type 0} (told : T → Option Told) (old new : Post) (at : ℕ → Option (Held T)) (hand hand2 : Option Hand) (r : Result (Unit {0}) Refusal)
+    → TakeSteps old new hand hand2 r → Keeping told (acts_at old) (acts_at new) at at hand hand2
+take_order_keeping told old new at (Some h) hand2 r s =
+    subst (λ (o : Option Hand). Keeping told (acts_at old) (acts_at new) at at (Some h) o) (sym s.1) (subst (λ (m : List Act). Keeping told (acts_at old) m at at (Some h) (Some h)) (sym s.0) (keeping_none told (acts_at old) at (Some h)))
+take_order_keeping told old new at None hand2 r (inl s) =
+    subst (λ (o : Option Hand). Keeping told (acts_at old) (acts_at new) at at None o) (sym s.1) (subst (λ (m : List Act). Keeping told (acts_at old) m at at None None) (sym s.0) (keeping_none told (acts_at old) at None))
+take_order_keeping told old new at None hand2 r (inr t) =
+    subst (λ (o : Option Hand). Keeping told (acts_at old) (acts_at new) at at None o) (sym t.0.hand_is)
+    (subst (λ (m : List Act). Keeping told (acts_at old) m at at None (Some (record { signal = t.0.signal; answer = None }))) (sym t.0.mine_is) (take_keeping told (number_of old.client) t.0.signal (acts_at old) at))
 
-pub take_order_agreeing : (n : ℕ) (mine mine2 : List Act) (hand hand2 : Option Hand) → TakeSteps n mine mine2 hand hand2 → Agreeing mine mine2
-take_order_agreeing n mine mine2 (Some h) hand2 s = subst (Agreeing mine) (sym s.0) (agreeing_none mine)
-take_order_agreeing n mine mine2 None hand2 (inl s) = subst (Agreeing mine) (sym s.0) (agreeing_none mine)
-take_order_agreeing n mine mine2 None hand2 (inr t) = subst (Agreeing mine) (sym t.mine_is) (agreeing_entry mine (entry_of n TakeSignal (reply.Signal t.signal)) (λ starts fate. tt))
+pub take_order_agreeing : (old new : Post) (hand hand2 : Option Hand) (r : Result (Unit {0}) Refusal) → TakeSteps old new hand hand2 r → Agreeing (acts_at old) (acts_at new)
+take_order_agreeing old new (Some h) hand2 r s = subst (Agreeing (acts_at old)) (sym s.0) (agreeing_none (acts_at old))
+take_order_agreeing old new None hand2 r (inl s) = subst (Agreeing (acts_at old)) (sym s.0) (agreeing_none (acts_at old))
+take_order_agreeing old new None hand2 r (inr t) = subst (Agreeing (acts_at old)) (sym t.0.mine_is)
+    (agreeing_entry (acts_at old) (entry_of (number_of old.client) TakeSignal (reply.Signal t.0.signal)) (λ starts fate. tt))
 
 pub deliver_keeping : {T : Type 0} (told : T → Option Told) (faults : T → ℕ) (reaper : List Act) (old new : Slab (Held T)) (hand hand2 : Hand)
     → Serves told faults hand hand2 old new → Keeping told reaper reaper (get old) (get new) (Some hand) (Some hand2)
@@ -528,10 +547,10 @@ polling_on told r0 r1 r2 a0 a1 a2 h0 h1 h2 a b = record {
   agrees = λ launcher asked fate u k g. b.agrees launcher asked fate (a.unanswered u) (a.keeping.keeps launcher asked fate k) (a.agrees launcher asked fate u k g);
 }
 
-without_unanswered : (job : JobId) (attempt : ℕ) (hand : Option Hand) → IsUnanswered hand → IsUnanswered (hand_without job attempt hand)
-without_unanswered job attempt None u = tt
-without_unanswered job attempt (Some h) u =
-    elim (is_run h.signal.job h.signal.attempt job attempt) as (λ b. IsUnanswered (cond b None (Some h))) [ true ↦ tt | false ↦ u ]
+without_unanswered : (b : Bool) (job : JobId) (attempt : ℕ) (hand : Option Hand) → IsUnanswered hand → IsUnanswered (hand_without b job attempt hand)
+without_unanswered b job attempt None u = tt
+without_unanswered b job attempt (Some h) u =
+    elim (is_over b job attempt h) as (λ o. IsUnanswered (cond o None (Some h))) [ true ↦ tt | false ↦ u ]
 
 end_agrees_of : {T : Type 0} (told : T → Option Told) (faults : T → ℕ) (n : ℕ) (r : Reply) (key : ℕ) (job : JobId) (attempt : ℕ) (x : Option Exit) (launcher reaper : List Act) (old new : Slab (Held T)) (hand : Option Hand)
     (asked : Option (List Asked)) (fate : ℕ → Fate)
@@ -541,7 +560,7 @@ end_agrees_of told faults n r key job attempt x launcher reaper old new hand Non
 end_agrees_of told faults n r key job attempt x launcher reaper old new hand (Some starts) fate l u t a = end_agrees told faults starts fate n r key job attempt x launcher reaper old new hand l u t a
 
 polling_end : {T : Type 0} (told : T → Option Told) (faults : T → ℕ) (n : ℕ) (r : Reply) (key : ℕ) (job : JobId) (attempt : ℕ) (x : Option Exit) (reaper : List Act) (old new : Slab (Held T)) (hand : Option Hand)
-    → Leaves told faults key job attempt x old new → Polling told reaper (reaper ++ entry_of n (end_call job attempt x) r ∷ []) (get old) (get new) hand (hand_without job attempt hand)
+    → Leaves told faults key job attempt x old new → Polling told reaper (reaper ++ entry_of n (end_call job attempt x) r ∷ []) (get old) (get new) hand (hand_without true job attempt hand)
 polling_end told faults n r key job attempt x reaper old new hand l = record {
   keeping = record {
     keeps = λ launcher asked fate k. record {
@@ -549,7 +568,7 @@ polling_end told faults n r key job attempt x reaper old new hand l = record {
       tells = IfSome_then asked k.tells (λ starts t. end_tells told faults starts fate n r key job attempt x launcher reaper old new hand l k.tends t);
     };
   };
-  unanswered = without_unanswered job attempt hand;
+  unanswered = without_unanswered true job attempt hand;
   agrees = λ launcher asked fate u k a. end_agrees_of told faults n r key job attempt x launcher reaper old new hand asked fate l u k.tells a;
 }
 
@@ -557,17 +576,17 @@ pub polling_ended : {T : Type 0} (told : T → Option Told) (faults : T → ℕ)
     → Leaves told faults key job attempt x old new → EndReports n job attempt x made mine mine2 hand hand2 → Polling told mine mine2 (get old) (get new) hand hand2
 polling_ended told faults n key job attempt x true mine mine2 old new hand hand2 l e =
     subst (λ (o : Option Hand). Polling told mine mine2 (get old) (get new) hand o) (sym e.1)
-    (subst (λ (m : List Act). Polling told mine m (get old) (get new) hand (hand_without job attempt hand)) (sym e.0.1) (polling_end told faults n e.0.0 key job attempt x mine old new hand l))
+    (subst (λ (m : List Act). Polling told mine m (get old) (get new) hand (hand_without true job attempt hand)) (sym e.0.1) (polling_end told faults n e.0.0 key job attempt x mine old new hand l))
 polling_ended told faults n key job attempt x false mine mine2 old new hand hand2 l e =
     subst (λ (o : Option Hand). Polling told mine mine2 (get old) (get new) hand o) (sym e.1)
-    (subst (λ (m : List Act). Polling told mine m (get old) (get new) hand hand) (sym e.0) (record {
+    (subst (λ (m : List Act). Polling told mine m (get old) (get new) hand (hand_without false job attempt hand)) (sym e.0) (record {
       keeping = record {
         keeps = λ launcher asked fate k. record {
-          tends = leave_tends told faults key job attempt x launcher mine old new hand l k.tends;
-          tells = IfSome_then asked k.tells (λ starts t. leave_tells told faults starts fate key job attempt x launcher mine old new hand l t);
+          tends = lost_tends false job attempt launcher mine (get new) hand (leave_tends told faults key job attempt x launcher mine old new hand l k.tends);
+          tells = IfSome_then asked k.tells (λ starts t. lost_tells told faults starts fate key job attempt x launcher mine old new hand l k.tends t);
         };
       };
-      unanswered = λ u. u;
+      unanswered = without_unanswered false job attempt hand;
       agrees = λ launcher asked fate u k a. a;
     }))
 
@@ -598,194 +617,4 @@ pub round_agreed : {T : Type 0} (told : T → Option Told) (r0 r1 r2 : List Act)
     → Keeping told r0 r1 a0 a1 h0 h1 → Agreeing r0 r1 → IsUnanswered h1 → Polling told r1 r2 a1 a2 h1 h2 → Agreed told r0 r2 a0 h0
 round_agreed told r0 r1 r2 a0 a1 a2 h0 h1 h2 k g u p = record {
   agrees = λ launcher asked fate keeps a. p.agrees launcher asked fate u (k.keeps launcher asked fate keeps) (g.agrees launcher asked fate a);
-}
-
--- exact steps of the polls
-
-is_none : {T : Type 0} (told : T → Option Told) (faults : T → ℕ) (a b : Option (Held T)) → IsPolled told faults a b → a ≡ None → b ≡ None
-is_none told faults None None p is = refl
-is_none told faults None (Some h) p is = absurd p
-is_none told faults (Some h) b p is = absurd (none_some h (sym is))
-
-ends_mono : {T : Type 0} (told : T → Option Told) (faults : T → ℕ) (at now later : ℕ → Option (Held T)) (es : List Act) → ((k : ℕ) → now k ≡ None → later k ≡ None)
-    → AllByRecursion (IsEndOf told faults at now) es → AllByRecursion (IsEndOf told faults at later) es
-ends_mono told faults at now later [] gone all = tt
-ends_mono told faults at now later (e ∷ es) gone all = (
-  record { key = all.0.key; held = all.0.held; there = all.0.there; left = gone all.0.key all.0.left; exit = all.0.exit; seen = all.0.seen; call = all.0.call },
-  ends_mono told faults at now later es gone all.1,
-)
-
-ends_back : {T : Type 0} (told : T → Option Told) (faults : T → ℕ) (first at now : ℕ → Option (Held T)) (es : List Act) → ((k : ℕ) (h : Held T) → at k ≡ Some h → now k ≡ None → first k ≡ Some h)
-    → AllByRecursion (IsEndOf told faults at now) es → AllByRecursion (IsEndOf told faults first now) es
-ends_back told faults first at now [] back all = tt
-ends_back told faults first at now (e ∷ es) back all = (
-  record { key = all.0.key; held = all.0.held; there = back all.0.key all.0.held all.0.there all.0.left; left = all.0.left; exit = all.0.exit; seen = all.0.seen; call = all.0.call },
-  ends_back told faults first at now es back all.1,
-)
-
-all_append : (P : Act → Type 0) (xs ys : List Act) → AllByRecursion P xs → AllByRecursion P ys → AllByRecursion P (xs ++ ys)
-all_append P [] ys a b = b
-all_append P (x ∷ xs) ys a b = (a.0, all_append P xs ys a.1 b)
-
-pub places_none : {T : Type 0} (told : T → Option Told) (faults : T → ℕ) (from : ℕ) (mine : List Act) (at : ℕ → Option (Held T)) (Clean : Type 0) → PollsPlaces told faults from from mine mine at at 0 Clean
-places_none told faults from mine at Clean = record {
-  polled = λ k low high. absurd (omega arith);
-  before = λ k low. refl;
-  after = λ k high. refl;
-  added = [];
-  mine_is = sym (append-nil mine);
-  ends = tt;
-  counted = refl;
-  whole = λ clean k h is none. absurd (none_some h (sym none ∙ is));
-}
-
-gone_on : {T : Type 0} (told : T → Option Told) (faults : T → ℕ) (from to : ℕ) (mine mine2 : List Act) (at now : ℕ → Option (Held T)) (count : ℕ) (Clean : Type 0) → PollsPlaces told faults from to mine mine2 at now count Clean
-    → (k : ℕ) → at k ≡ None → now k ≡ None
-gone_on told faults from to mine mine2 at now count Clean p k none =
-    (elim (leb from k) as (λ b. leb from k ≡ b → now k ≡ None) [
-      | false ↦ λ low. p.before k (let h = leb-false from k low in omega arith) ∙ none
-      | true ↦ λ low. (elim (leb to k) as (λ b. leb to k ≡ b → now k ≡ None) [
-        | true ↦ λ high. p.after k (leb-true to k high) ∙ none
-        | false ↦ λ high. is_none told faults (at k) (now k) (p.polled k (leb-true from k low) (let h = leb-false to k high in omega arith)) none
-      ]) refl
-    ]) refl
-
-whole_on : {T : Type 0} (h : Held T) (xs ys : List Act) (o : Option (Held T)) → (o ≡ None → is_ended h.job h.attempt xs ≡ true) → ((i : Held T) → o ≡ Some i → is_ended h.job h.attempt ys ≡ true)
-    → (o ≡ o) → is_ended h.job h.attempt (xs ++ ys) ≡ true
-whole_on h xs ys None a b same = any_kept (λ (e : Act). is_end_report h.job h.attempt e.call) xs ys (a refl)
-whole_on h xs ys (Some i) a b same = list_any-append (λ (e : Act). is_end_report h.job h.attempt e.call) xs ys ∙ ap (λ (t : Bool). is_ended h.job h.attempt xs || t) (b i refl) ∙ or_true _
-
-record SameRun {T : Type 0} (i h : Held T) : Type 0 where
-  of_job : i.job ≡ h.job
-  of_attempt : i.attempt ≡ h.attempt
-
-polled_same : {T : Type 0} (told : T → Option Told) (faults : T → ℕ) (h i : Held T) (a b : Option (Held T)) → IsPolled told faults a b → a ≡ Some h → b ≡ Some i → SameRun i h
-polled_same told faults h i None b p is at = absurd (none_some h is)
-polled_same told faults h i (Some x) None p is at = absurd (none_some i at)
-polled_same {T = T} told faults h i (Some x) (Some y) p is at = record {
-  of_job = sym (ap (λ (z : Held T). z.job) (some_is y i at)) ∙ p.of_job ∙ ap (λ (z : Held T). z.job) (some_is x h is);
-  of_attempt = sym (ap (λ (z : Held T). z.attempt) (some_is y i at)) ∙ p.of_attempt ∙ ap (λ (z : Held T). z.attempt) (some_is x h is);
-}
-
-same_run : {T : Type 0} (h i : Held T) → i ≡ h → SameRun i h
-same_run {T = T} h i e = record { of_job = ap (λ (z : Held T). z.job) e; of_attempt = ap (λ (z : Held T). z.attempt) e }
-
-kept_run : {T : Type 0} (told : T → Option Told) (faults : T → ℕ) (from to : ℕ) (mine mine2 : List Act) (at now : ℕ → Option (Held T)) (count : ℕ) (Clean : Type 0) → PollsPlaces told faults from to mine mine2 at now count Clean
-    → (k : ℕ) (h i : Held T) → at k ≡ Some h → now k ≡ Some i → SameRun i h
-kept_run told faults from to mine mine2 at now count Clean p k h i is there =
-    (elim (leb from k) as (λ b. leb from k ≡ b → SameRun i h) [
-      | false ↦ λ low. same_run h i (some_is i h (sym there ∙ p.before k (let g = leb-false from k low in omega arith) ∙ is))
-      | true ↦ λ low. (elim (leb to k) as (λ b. leb to k ≡ b → SameRun i h) [
-        | true ↦ λ high. same_run h i (some_is i h (sym there ∙ p.after k (leb-true to k high) ∙ is))
-        | false ↦ λ high. polled_same told faults h i (at k) (now k) (p.polled k (leb-true from k low) (let g = leb-false to k high in omega arith)) is there
-      ]) refl
-    ]) refl
-
-pub places_on : {T : Type 0} (told : T → Option Told) (faults : T → ℕ) (from mid to : ℕ) (m0 m1 m2 : List Act) (a0 a1 a2 : ℕ → Option (Held T)) (c d : ℕ) (C D E : Type 0) → from ≤ mid → mid ≤ to → (E → C) → (E → D)
-    → PollsPlaces told faults from mid m0 m1 a0 a1 c C → PollsPlaces told faults mid to m1 m2 a1 a2 d D → PollsPlaces told faults from to m0 m2 a0 a2 (c + d) E
-places_on told faults from mid to m0 m1 m2 a0 a1 a2 c d C D E low high left right p q = record {
-  polled = λ k above below. (elim (leb mid k) as (λ b. leb mid k ≡ b → IsPolled told faults (a0 k) (a2 k)) [
-    | true ↦ λ is. (let h = leb-true mid k is in subst (λ (o : Option (Held _)). IsPolled told faults o (a2 k)) (p.after k h) (q.polled k h below))
-    | false ↦ λ is. (let h : k < mid = (let g = leb-false mid k is in omega arith) in subst (λ (o : Option (Held _)). IsPolled told faults (a0 k) o) (sym (q.before k h)) (p.polled k above h))
-  ]) refl;
-  before = λ k less. q.before k (omega arith) ∙ p.before k less;
-  after = λ k more. q.after k more ∙ p.after k (omega arith);
-  added = p.added ++ q.added;
-  mine_is = q.mine_is ∙ ap (λ (l : List Act). l ++ q.added) p.mine_is ∙ append_assoc m0 p.added q.added;
-  ends = all_append (IsEndOf told faults a0 a2) p.added q.added
-      (ends_mono told faults a0 a1 a2 p.added (gone_on told faults mid to m1 m2 a1 a2 d D q) p.ends)
-      (ends_back told faults a0 a1 a2 q.added (λ k h there left.
-      (elim (leb mid k) as (λ b. leb mid k ≡ b → a0 k ≡ Some h) [
-        | true ↦ λ is. sym (p.after k (leb-true mid k is)) ∙ there
-        | false ↦ λ is. absurd (none_some h (sym left ∙ q.before k (let g = leb-false mid k is in omega arith) ∙ there))
-      ]) refl) q.ends);
-  counted = (let e = p.counted in let f = q.counted in let g = length-append p.added q.added in omega arith);
-  whole = λ clean k h is none. whole_on h p.added q.added (a1 k) (λ mid_none. p.whole (left clean) k h is mid_none)
-      (λ i mid_some. (let same = kept_run told faults from mid m0 m1 a0 a1 c C p k h i is mid_some in
-      subst (λ (j : JobId). is_ended j h.attempt q.added ≡ true) same.of_job (subst (λ (n : ℕ). is_ended i.job n q.added ≡ true) same.of_attempt (q.whole (right clean) k i mid_some none)))) refl;
-}
-
--- one place
-place_is : {T : Type 0} (told : T → Option Told) (faults : T → ℕ) (key : ℕ) (mine mine2 : List Act) (old new : Slab (Held T)) (added : List Act) (slot : Option (Held T))
-    → Updates old new key slot → IsPolled told faults (get old key) (get new key) → mine2 ≡ mine ++ added → AllByRecursion (IsEndOf told faults (get old) (get new)) added → (Clean : Type 0)
-    → (Clean → (h : Held T) → get old key ≡ Some h → get new key ≡ None → is_ended h.job h.attempt added ≡ true)
-    → PollsPlaces told faults key (key + 1) mine mine2 (get old) (get new) (length added) Clean
-place_is told faults key mine mine2 old new added slot u p is ends Clean all = record {
-  polled = λ k low high. (let same : key ≡ k = omega arith in subst (λ (n : ℕ). IsPolled told faults (get old n) (get new n)) same p);
-  before = λ k less. u.others k (λ same. absurd (omega arith));
-  after = λ k more. u.others k (λ same. absurd (omega arith));
-  added = added;
-  mine_is = is;
-  ends = ends;
-  counted = refl;
-  whole = λ clean k h there none. (elim (eqb k key) as (λ b. eqb k key ≡ b → is_ended h.job h.attempt added ≡ true) [
-    | true ↦ λ e. (let same = eqb-true k key e in all clean h (ap (get old) (sym same) ∙ there) (ap (get new) (sym same) ∙ none))
-    | false ↦ λ e. absurd (none_some h (sym none ∙ u.others k (eqb-false k key e) ∙ there))
-  ]) refl;
-}
-
-same_updates : {T : Type 0} (old new : Slab (Held T)) (key : ℕ) → SameValues old new → Updates old new key (get old key)
-same_updates old new key same = record { changed = same key; others = λ other apart. same other }
-
-left_polled : {T : Type 0} (told : T → Option Told) (faults : T → ℕ) (key : ℕ) (job : JobId) (attempt : ℕ) (x : Option Exit) (old new : Slab (Held T)) → Leaves told faults key job attempt x old new
-    → IsPolled told faults (get old key) (get new key)
-left_polled {T = T} told faults key job attempt x old new l = subst (λ (o : Option (Held T)). IsPolled told faults o (get new key)) (sym l.there)
-    (subst (λ (o : Option (Held T)). IsPolled told faults (Some l.held) o) (sym l.updates.changed) (x, l.seen))
-
-pub place_running : {T : Type 0} (told : T → Option Told) (faults : T → ℕ) (key : ℕ) (mine : List Act) (old new : Slab (Held T))
-    → (Clean : Type 0) → PollSteps told faults key old new Running
-    → PollsPlaces told faults key (key + 1) mine mine (get old) (get new) 0 Clean
-place_running {T = T} told faults key mine old new Clean (inl n) =
-    place_is told faults key mine mine old new [] _ (same_updates old new key n.same)
-    (subst (λ (o : Option (Held T)). IsPolled told faults o (get new key)) (sym n.none) (subst (λ (o : Option (Held T)). IsPolled told faults None o) (sym (n.same key ∙ n.none)) tt)) (sym (append-nil mine)) tt Clean (λ clean h is gone. absurd (none_some h (sym n.none ∙ is)))
-place_running {T = T} told faults key mine old new Clean (inr r) =
-    place_is told faults key mine mine old new [] _ r.1.updates
-    (subst (λ (o : Option (Held T)). IsPolled told faults o (get new key)) (sym r.1.there)
-    (subst (λ (o : Option (Held T)). IsPolled told faults (Some r.0) o) (sym r.1.updates.changed) (record { of_job = refl; of_attempt = refl; told_is = r.1.told_is }))) (sym (append-nil mine)) tt Clean (λ clean h is gone. absurd (none_some (record r.0 { child = r.1.child }) (sym gone ∙ r.1.updates.changed)))
-
-pub place_ended : {T : Type 0} (told : T → Option Told) (faults : T → ℕ) (n : ℕ) (key : ℕ) (job : JobId) (attempt : ℕ) (x : Option Exit) (mine mine2 : List Act) (old new : Slab (Held T)) (hand hand2 : Option Hand)
-    → Leaves told faults key job attempt x old new → (Clean : Type 0) → EndReports n job attempt x true mine mine2 hand hand2 → PollsPlaces told faults key (key + 1) mine mine2 (get old) (get new) 1 Clean
-place_ended {T = T} told faults n key job attempt x mine mine2 old new hand hand2 l Clean e =
-    place_is told faults key mine mine2 old new (entry_of n (end_call job attempt x) e.0.0 ∷ []) None l.updates
-    (left_polled told faults key job attempt x old new l) e.0.1 (
-      record {
-        key = key;
-        held = l.held;
-        there = l.there;
-        left = l.updates.changed;
-        exit = x;
-        seen = l.seen;
-        call = sym (ap (λ (j : JobId). end_call j l.held.attempt x) l.of_job ∙ ap (λ (a : ℕ). end_call job a x) l.of_attempt);
-      },
-      tt,
-    ) Clean
-    (λ clean h is gone. (let same = some_is l.held h (sym l.there ∙ is) in
-    ap (λ (b : Bool). b || false) (end_is job attempt x h.job h.attempt ∙ subst (λ (j : JobId). is_run j attempt h.job h.attempt ≡ true) (ap (λ (z : Held T). z.job) (sym same) ∙ l.of_job)
-    (subst (λ (a : ℕ). is_run h.job a h.job h.attempt ≡ true) (ap (λ (z : Held T). z.attempt) (sym same) ∙ l.of_attempt) (run_refl h.job h.attempt)))))
-
-pub place_lost : {T : Type 0} (told : T → Option Told) (faults : T → ℕ) (n : ℕ) (key : ℕ) (job : JobId) (attempt : ℕ) (x : Option Exit) (mine mine2 : List Act) (old new : Slab (Held T)) (hand hand2 : Option Hand)
-    → Leaves told faults key job attempt x old new → (Clean : Type 0) → (Clean → ⊥) → EndReports n job attempt x false mine mine2 hand hand2 → PollsPlaces told faults key (key + 1) mine mine2 (get old) (get new) 0 Clean
-place_lost told faults n key job attempt x mine mine2 old new hand hand2 l Clean never e =
-    place_is told faults key mine mine2 old new [] None l.updates (left_polled told faults key job attempt x old new l) (e.0 ∙ sym (append-nil mine)) tt Clean (λ clean h is gone. absurd (never clean))
-
-pub count_on : (r2 r1 reports count c u m : ℕ) → r2 ≡ r1 → r1 ≡ min (reports + c) m → reports ≡ min count m → u ≡ c → r2 ≡ min (count + u) m
-count_on r2 r1 reports count c u m a b d e = omega arith
-
-pub count_same : (r2 reports count u m : ℕ) → r2 ≡ reports → reports ≡ min count m → u ≡ 0 → r2 ≡ min (count + u) m
-count_same r2 reports count u m a b d = omega arith
-
--- where all places are polled
-pub polls_all : {T : Type 0} (told : T → Option Told) (faults : T → ℕ) (to : ℕ) (mine mine2 : List Act) (old new : Slab (Held T)) (count : ℕ) (r : Result ℕ Refusal)
-    → length old.slots ≤ to → PollsPlaces told faults 0 to mine mine2 (get old) (get new) count (IsOk r) → IfOk r (λ n. n ≡ min count (2 ^ 32 - 1)) → PollsAll told faults mine mine2 (get old) (get new) r
-polls_all {T = T} told faults to mine mine2 old new count r within p counted = record {
-  polled = λ k. (elim (leb to k) as (λ b. leb to k ≡ b → IsPolled told faults (get old k) (get new k)) [
-    | false ↦ λ low. p.polled k (omega arith) (let h = leb-false to k low in omega arith)
-    | true ↦ λ high. (let h = leb-true to k high in let none : get old k ≡ None = get_or_past old.slots k None (omega arith) in
-        subst (λ (o : Option (Held T)). IsPolled told faults o (get new k)) (sym none) (subst (λ (o : Option (Held T)). IsPolled told faults None o) (sym (p.after k h ∙ none)) tt))
-  ]) refl;
-  added = p.added;
-  mine_is = p.mine_is;
-  ends = p.ends;
-  whole = p.whole;
-  counted = subst (λ (n : ℕ). IfOk r (λ m. m ≡ min n (2 ^ 32 - 1))) p.counted counted;
 }

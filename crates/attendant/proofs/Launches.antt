@@ -1,6 +1,6 @@
 -- What a round of the launcher keeps.
 use Rattle.std.proofs.Common.{◌≡◌, inl, inr, ℕ, zero, suc, ◌+◌, Bool, true, false, not, ◌||◌, ◌&&◌, List, [], ◌∷◌, ◌++◌, length, map, Option, Some, None, refl, sym, ap, ◌∙◌, subst, append-nil, eq-eqb, length-append}
-use Rattle.std.specs.Prelude.{IsSome, IsOk, Result, Ok, Err}
+use Rattle.std.specs.Prelude.{IsSome, IsOk, Result, Ok, Err, IfErr}
 use Rattle.std.specs.List.{slice_get}
 use Rattle.std.proofs.lemmas.Bool.{and_parts, and_from}
 use Rattle.std.proofs.lemmas.List.{map-append}
@@ -23,7 +23,12 @@ use Rattle.attendant.specs.declared.reaper.Held.{Held}
 use Rattle.attendant.specs.declared.reaper.Hand.{Hand}
 use Rattle.attendant.specs.Runs.{Request, request_of, with_request, requests_in, just_launched, is_start_report, is_reported, is_ended, is_killed, is_delivered, is_kill, hand_kills}
 use Rattle.attendant.specs.Outside.{IsLaunchersEntry, IsLaunchOf, IsRunning, Tends, IsStart, IsChild, IsFated, FailsSignal, FailsPoll, EndsBy, FaultTells, ExitTells, IsFault, Tells, TellsOf, Keeps, IsReported, IsExit, Agrees, AgreesOf}
-use Rattle.attendant.specs.Steps.{entry_of, report_call, reports_of, PutsAt, PutsChild, Made, Nothing, LaunchSteps}
+use Rattle.attendant.specs.Posts.{Post, acts_at, Fails}
+use Rattle.attendant.specs.Steps.{entry_of, report_call, reports_of, MayFail, PutsAt, PutsChild, Made, Nothing, LaunchSteps, IsMissed, no_room, not_taken, IsLaunchRefused, no_memory, no_space}
+use Rattle.call_history.specs.Clients.{number_of}
+use Rattle.drmaa_model.specs.declared.calls.Call.TheVariants as call
+use Rattle.drmaa_model.specs.declared.faults.NoEntry.{NoEntry}
+use Rattle.drmaa_model.specs.declared.faults.NoEntry.TheVariants as no
 use Rattle.attendant.specs.declared.launching.Launched.{Launched}
 use Rattle.attendant.specs.declared.launching.Launched.TheVariants as launched
 use Rattle.drmaa_types.specs.declared.refusals.Refusal.{Refusal}
@@ -418,19 +423,35 @@ nothing_agrees mine mine2 reaper asked asked2 fate fate2 old new n a =
     (subst (λ (q : Option (List Asked)). AgreesOf q fate mine reaper) (sym n.asked_is) a))
 
 -- a round of the launcher keeps what is kept
-pub round_keeps : {T : Type 0} (told : T → Option Told) (n : ℕ) (mine mine2 reaper : List Act) (asked asked2 : Option (List Asked)) (fate fate2 : ℕ → Fate) (old new : Slab (Held T)) (hand : Option Hand)
-    (r : Result Launched Refusal) → LaunchSteps told n mine mine2 asked asked2 fate fate2 old new r → Keeps told asked fate mine reaper (get old) hand → Keeps told asked2 fate2 mine2 reaper (get new) hand
-round_keeps told n mine mine2 reaper asked asked2 fate fate2 old new hand (Ok launched.Nothing) s k = nothing_keeps told mine mine2 reaper asked asked2 fate fate2 old new hand s k
-round_keeps told n mine mine2 reaper asked asked2 fate fate2 old new hand (Ok (launched.Began job)) s k = made_keeps told n s.0 true (Some s.1) mine mine2 reaper asked asked2 fate fate2 old new hand s.3 k
-round_keeps told n mine mine2 reaper asked asked2 fate fate2 old new hand (Ok (launched.StartFailed job)) s k = made_keeps told n s.0 false (Some s.1) mine mine2 reaper asked asked2 fate fate2 old new hand s.3 k
-round_keeps told n mine mine2 reaper asked asked2 fate fate2 old new hand (Err why) s k = elim s [
-  | inl none ↦ nothing_keeps told mine mine2 reaper asked asked2 fate fate2 old new hand none k
-  | inr m ↦ made_keeps told n m.0 m.1 None mine mine2 reaper asked asked2 fate fate2 old new hand m.3 k
+pub round_keeps : {T : Type 0} (told : T → Option Told) (before after : Post) (reaper : List Act) (asked asked2 : Option (List Asked)) (fate fate2 : ℕ → Fate) (old new : Slab (Held T)) (hand : Option Hand)
+    (r : Result Launched Refusal) → LaunchSteps told before after asked asked2 fate fate2 old new r → Keeps told asked fate (acts_at before) reaper (get old) hand → Keeps told asked2 fate2 (acts_at after) reaper (get new) hand
+round_keeps told before after reaper asked asked2 fate fate2 old new hand (Ok launched.Nothing) s k = nothing_keeps told (acts_at before) (acts_at after) reaper asked asked2 fate fate2 old new hand s k
+round_keeps told before after reaper asked asked2 fate fate2 old new hand (Ok (launched.Began job)) s k = made_keeps told (number_of before.client) s.launch true (Some s.reply) (acts_at before) (acts_at after) reaper asked asked2 fate fate2 old new hand s.made k
+round_keeps told before after reaper asked asked2 fate fate2 old new hand (Ok (launched.StartFailed job)) s k = made_keeps told (number_of before.client) s.launch false (Some s.reply) (acts_at before) (acts_at after) reaper asked asked2 fate fate2 old new hand s.made k
+round_keeps told before after reaper asked asked2 fate fate2 old new hand (Err why) s k = elim s [
+  | inl none ↦ nothing_keeps told (acts_at before) (acts_at after) reaper asked asked2 fate fate2 old new hand none.0 k
+  | inr m ↦ made_keeps told (number_of before.client) m.0.launch m.0.began None (acts_at before) (acts_at after) reaper asked asked2 fate fate2 old new hand m.0.made k
 ]
 
-pub round_agrees : {T : Type 0} (told : T → Option Told) (n : ℕ) (mine mine2 reaper : List Act) (asked asked2 : Option (List Asked)) (fate fate2 : ℕ → Fate) (old new : Slab (Held T)) (hand : Option Hand)
-    (r : Result Launched Refusal) → LaunchSteps told n mine mine2 asked asked2 fate fate2 old new r → IsOk r → Keeps told asked fate mine reaper (get old) hand → AgreesOf asked fate mine reaper → AgreesOf asked2 fate2 mine2 reaper
-round_agrees told n mine mine2 reaper asked asked2 fate fate2 old new hand (Ok launched.Nothing) s good k a = nothing_agrees mine mine2 reaper asked asked2 fate fate2 old new s a
-round_agrees told n mine mine2 reaper asked asked2 fate fate2 old new hand (Ok (launched.Began job)) s good k a = made_agrees told n s.0 true s.1 mine mine2 reaper asked asked2 fate fate2 old new hand s.3 k a
-round_agrees told n mine mine2 reaper asked asked2 fate fate2 old new hand (Ok (launched.StartFailed job)) s good k a = made_agrees told n s.0 false s.1 mine mine2 reaper asked asked2 fate fate2 old new hand s.3 k a
-round_agrees told n mine mine2 reaper asked asked2 fate fate2 old new hand (Err why) s good k a = absurd (cc)
+pub round_agrees : {T : Type 0} (told : T → Option Told) (before after : Post) (reaper : List Act) (asked asked2 : Option (List Asked)) (fate fate2 : ℕ → Fate) (old new : Slab (Held T)) (hand : Option Hand)
+    (r : Result Launched Refusal) → LaunchSteps told before after asked asked2 fate fate2 old new r → IsOk r → Keeps told asked fate (acts_at before) reaper (get old) hand → AgreesOf asked fate (acts_at before) reaper → AgreesOf asked2 fate2 (acts_at after) reaper
+round_agrees told before after reaper asked asked2 fate fate2 old new hand (Ok launched.Nothing) s good k a = nothing_agrees (acts_at before) (acts_at after) reaper asked asked2 fate fate2 old new s a
+round_agrees told before after reaper asked asked2 fate fate2 old new hand (Ok (launched.Began job)) s good k a = made_agrees told (number_of before.client) s.launch true s.reply (acts_at before) (acts_at after) reaper asked asked2 fate fate2 old new hand s.made k a
+round_agrees told before after reaper asked asked2 fate fate2 old new hand (Ok (launched.StartFailed job)) s good k a = made_agrees told (number_of before.client) s.launch false s.reply (acts_at before) (acts_at after) reaper asked asked2 fate fate2 old new hand s.made k a
+round_agrees told before after reaper asked asked2 fate fate2 old new hand (Err why) s good k a = absurd (cc)
+
+-- why a round of the launcher is refused
+launch_fault : (old new : Post) (fault : NoEntry) (why : Refusal) → Fails old call.TakeLaunch fault new → MayFail fault why → IsLaunchRefused old new why
+launch_fault old new no.OutOfMemory why f m = no_memory m
+launch_fault old new no.NotYet why f m = no_memory m
+launch_fault old new no.Nothing why f m = no_memory m
+launch_fault old new (no.Journal size) why f m = no_space size m f
+
+launch_missed : (old new : Post) (why : Refusal) → IsMissed old new why → IsLaunchRefused old new why
+launch_missed old new why (no_room w same) = no_memory w
+launch_missed old new why (not_taken fault not f m) = launch_fault old new fault why f m
+
+pub launch_refused : {T : Type 0} (told : T → Option Told) (before after : Post) (asked asked2 : Option (List Asked)) (fate fate2 : ℕ → Fate) (old new : Slab (Held T))
+    (r : Result Launched Refusal) → LaunchSteps told before after asked asked2 fate fate2 old new r → IfErr r (IsLaunchRefused before after)
+launch_refused told before after asked asked2 fate fate2 old new (Ok l) s = tt
+launch_refused told before after asked asked2 fate fate2 old new (Err why) s = elim s [ inl none ↦ launch_missed before after why none.1 | inr m ↦ no_memory m.1 ]

@@ -8,19 +8,12 @@ use Rattle.drmaa_types.specs.declared.states.Exit.{Exit}
 use Rattle.drmaa_types.specs.declared.states.SignalKind.{SignalKind}
 use Rattle.drmaa_model.specs.declared.calls.Call.{Call}
 use Rattle.drmaa_model.specs.declared.calls.Call.TheVariants as call
-use Rattle.drmaa_model.specs.declared.configs.Config.{Config}
 use Rattle.drmaa_model.specs.declared.entries.Entry.{Entry}
-use Rattle.drmaa_model.specs.declared.faults.NoEntry.{NoEntry}
 use Rattle.drmaa_model.specs.declared.replies.Launch.{Launch}
 use Rattle.drmaa_model.specs.declared.replies.Reply.{Reply}
 use Rattle.drmaa_model.specs.declared.replies.Reply.TheVariants as reply
 use Rattle.drmaa_model.specs.declared.replies.Signal.{Signal}
-use Rattle.drmaa_model.specs.History.{IsLegal, replay}
-use Rattle.drmaa_model.specs.KeptCalls.{kept}
-use Rattle.drmaa_machine.specs.Chronicles.{MakesNone}
-use Rattle.turn_lock.specs.Histories.{BeginsWith}
-use Rattle.turn_lock.specs.Tokens.{Named, IsFree}
-use Rattle.call_history.specs.Clients.{Seat, seen_of, mine_of, number_of, KnowsItsOwn}
+use Rattle.call_history.specs.Clients.{Seat, mine_of}
 
 -- a call as launcher and reaper read it: one of theirs, or any other
 pub data Duty : Type 0 where
@@ -173,18 +166,3 @@ IsSignal (Some s) = Unit {0}
 -- the entries of this caller, in order
 abbrev pub of : List Act → ℕ → List Act
 of es n = filter (λ (e : Act). e.caller.0 == n) es
-
--- At some reading the machine has no answer for the call, for this cause, after all that the client has seen.
-pub record Fails (config : Config) (seat : Seat) (asked : Call) (why : NoEntry) : Type 0 where
-  pub at : ℕ
-  pub cause : MakesNone (replay config (seen_of seat)) at (kept asked) why
-
--- The desk is still at its machine, and so is its client, who holds no turn, has seen all that it had seen, and knows its own entries and has seen a legal
--- history if it did before.
-pub record IsStillAt (shared : Named Config) (old : Seat) (shared_after : Named Config) (new : Seat) : Type 0 where
-  pub shared_is : shared_after ≡ shared
-  pub client : IsFree shared new
-  pub number : number_of new ≡ number_of old
-  pub begins : BeginsWith (seen_of new) (seen_of old)
-  pub own : KnowsItsOwn old → KnowsItsOwn new
-  pub legal : IsLegal shared.fixed (seen_of old) → IsLegal shared.fixed (seen_of new)

@@ -1,4 +1,5 @@
 pub mod Acts
+pub mod Posts
 pub mod Runs
 pub mod Outside
 pub mod Steps

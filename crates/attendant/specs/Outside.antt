@@ -2,11 +2,17 @@
 use Rattle.std.specs.Prelude.{◌≡◌, ℕ, ◌+◌, Bool, true, false, not, ◌||◌, List, map, Option, Some, None, IsSome, IfSome, slice_get, if◌then◌else◌}
 use Rattle.drmaa_types.specs.declared.identifiers.JobId.{JobId}
 use Rattle.drmaa_model.specs.declared.configs.Config.{Config}
+use Rattle.drmaa_model.specs.declared.calls.Call.TheVariants as call
+use Rattle.drmaa_model.specs.declared.faults.NoEntry.TheVariants as no
 use Rattle.drmaa_model.specs.declared.looks.Answer.TheVariants as answer
 use Rattle.drmaa_model.specs.declared.looks.Question.TheVariants as question
 use Rattle.call_history.specs.Calls.{IsLookedAt}
 use Rattle.call_history.specs.Clients.{Seat}
 use Rattle.call_history.specs.Clocks.{Dial}
+use Rattle.drmaa_model.specs.declared.replies.Signal.{Signal}
+use Rattle.drmaa_types.specs.declared.refusals.Refusal.{Refusal}
+use Rattle.drmaa_types.specs.declared.refusals.Refusal.TheVariants.{OutOfResource, OutOfMemory}
+use Rattle.drmaa_types.specs.declared.refusals.Limit.TheVariants as limit
 use Rattle.drmaa_types.specs.declared.states.Exit.{Exit}
 use Rattle.drmaa_types.specs.declared.states.Exit.TheVariants as exit
 use Rattle.child_spawner.specs.declared.fates.Asked.{Asked}
@@ -20,6 +26,8 @@ use Rattle.drmaa_model.specs.declared.replies.Launch.{Launch}
 use Rattle.attendant.specs.Acts.{Each, IsNewLaunch, IsSignal, launch_reply, signal_reply, is_launched}
 use Rattle.attendant.specs.declared.reaper.Held.{Held}
 use Rattle.attendant.specs.declared.reaper.Hand.{Hand}
+use Rattle.attendant.specs.Posts.{Post, acts_at, FailsWithin}
+use Rattle.attendant.specs.Rounds.{asked_signal}
 use Rattle.attendant.specs.Runs.{requests_in, just_launched, owed, is_reported, is_ended, is_killed, hand_kills, IsUnanswered}
 
 abbrev pub IsLaunchOf : JobId → ℕ → Option Launch → Type 0
@@ -201,8 +209,20 @@ pub record Attending {T : Type 0} (told : T → Option Told) (asked asked_after 
   pub keeps : Keeps told asked fate launcher reaper at hand → Keeps told asked_after fate_after launcher_after reaper_after at_after hand_after
   pub agrees : Clean → Keeps told asked fate launcher reaper at hand → AgreesOf asked fate launcher reaper → AgreesOf asked_after fate_after launcher_after reaper_after
 
+-- Why the loops are refused: for want of memory; or since the journal had no room for the entry by which a launch or an order is
+-- taken, or for that by which the order is reported which the reaper took last.
+pub data IsHeldUp (launcher launcher_after reaping reaping_after : Post) (why : Refusal) : Type 0 where
+  out_of_memory : why ≡ OutOfMemory → IsHeldUp launcher launcher_after reaping reaping_after why
+  full_at_launch : (size : ℕ) → why ≡ OutOfResource (limit.Journal size) → FailsWithin launcher call.TakeLaunch (no.Journal size) launcher_after
+      → IsHeldUp launcher launcher_after reaping reaping_after why
+  full_at_order : (size : ℕ) → why ≡ OutOfResource (limit.Journal size) → FailsWithin reaping call.TakeSignal (no.Journal size) reaping_after
+      → IsHeldUp launcher launcher_after reaping reaping_after why
+  full_at_answer : (size : ℕ) (signal : Signal) (answer : Bool) → why ≡ OutOfResource (limit.Journal size)
+      → (f : FailsWithin reaping (asked_signal answer signal) (no.Journal size) reaping_after) → owed (acts_at f.before) ≡ Some signal
+      → IsHeldUp launcher launcher_after reaping reaping_after why
+
 -- The client's last call was a look, at the clock's last reading, for the world of all that the client has seen, and it said that the machine is settled.
-pub record EndsSettled (config : Config) (after : Dial) (seat : Seat) : Type 0 where
+pub record EndsSettled (config : Config) (now : Post) : Type 0 where
   pub before : Dial
   pub old : Seat
-  pub look : IsLookedAt config before old question.Settled (answer.Settled true) after seat
+  pub look : IsLookedAt config before old question.Settled (answer.Settled true) now.clock now.client

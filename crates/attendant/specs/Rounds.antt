@@ -1,10 +1,15 @@
 -- The steps of a round of the reaper.
 use Rattle.std.specs.List.{AllByRecursion}
-use Rattle.std.specs.Prelude.{◌≡◌, ◌⊎◌, ℕ, ◌+◌, ◌≤◌, ◌<◌, length, ◌-◌, ◌^◌, min, IfOk, IsOk, Bool, true, false, List, [], ◌∷◌, ◌++◌, Option, Some, None, IfSome, IsSome, Result, Ok, Err, is_ok, OnErr, option_map, if◌then◌else◌}
+use Rattle.std.specs.Prelude.{◌≡◌, ◌⊎◌, ℕ, ◌+◌, ◌≤◌, ◌<◌, length, ◌-◌, ◌^◌, min, IfOk, IfErr, IsOk, Bool, true, false, ◌&&◌, ◌||◌, is_none, List, [], ◌∷◌, ◌++◌, Option, Some, None, IfSome, IsSome, Result, Ok, Err, is_ok, OnErr, option_map, if◌then◌else◌}
 use Rattle.drmaa_types.specs.declared.changes.Failed.{Failed}
 use Rattle.drmaa_types.specs.declared.identifiers.JobId.{JobId}
 use Rattle.drmaa_types.specs.declared.states.Exit.{Exit}
 use Rattle.drmaa_types.specs.declared.refusals.Refusal.{Refusal}
+use Rattle.drmaa_types.specs.declared.refusals.Refusal.TheVariants.{OutOfResource, OutOfMemory}
+use Rattle.drmaa_types.specs.declared.refusals.Limit.TheVariants as limit
+use Rattle.drmaa_model.specs.declared.faults.NoEntry.{NoEntry}
+use Rattle.drmaa_model.specs.declared.faults.NoEntry.TheVariants as no
+use Rattle.call_history.specs.Clients.{number_of}
 use Rattle.child_spawner.specs.Children.{Told, exit_of, after_poll, after_signal}
 use Rattle.drmaa_types.specs.Counts.{Rose}
 use Rattle.slab.specs.Slab.{Slab, get, SameValues, Updates}
@@ -17,12 +22,13 @@ use Rattle.drmaa_model.specs.declared.replies.Reply.TheVariants as reply
 use Rattle.attendant.specs.Acts.{Act}
 use Rattle.drmaa_model.specs.declared.replies.Signal.{Signal}
 use Rattle.attendant.specs.Acts.{is_run}
+use Rattle.attendant.specs.Posts.{Post, acts_at, IsStillAt, Fails, FailsWithin}
 use Rattle.attendant.specs.declared.reaper.Held.{Held}
 use Rattle.attendant.specs.declared.reaper.Hand.{Hand}
 use Rattle.attendant.specs.declared.reaping.Polled.{Polled}
 use Rattle.attendant.specs.declared.reaping.Polled.TheVariants.{Running, Ended}
 use Rattle.attendant.specs.Runs.{is_ended}
-use Rattle.attendant.specs.Steps.{entry_of}
+use Rattle.attendant.specs.Steps.{entry_of, MayFail}
 
 -- the report of what a delivery was answered
 abbrev pub signal_report : Bool → Signal → Duty
@@ -93,16 +99,20 @@ abbrev pub asked_end : JobId → ℕ → Option Exit → Call
 asked_end job attempt (Some exit) = call.Exited job attempt exit
 asked_end job attempt None = call.ExitUnknown job attempt
 
--- the order in hand, unless it is of a run that has ended
-abbrev pub hand_without : JobId → ℕ → Option Hand → Option Hand
-hand_without job attempt None = None
-hand_without job attempt (Some h) = if is_run h.signal.job h.signal.attempt job attempt then None else Some h
+-- an order that is over once its run has ended: if the end is reported, or if the order was not delivered
+abbrev pub is_over : Bool → JobId → ℕ → Hand → Bool
+is_over reported job attempt h = is_run h.signal.job h.signal.attempt job attempt && (reported || is_none h.answer)
 
--- the report of an end made an entry, and the order of that run is dropped, or it made none
+-- the order in hand, unless it is over
+abbrev pub hand_without : Bool → JobId → ℕ → Option Hand → Option Hand
+hand_without reported job attempt None = None
+hand_without reported job attempt (Some h) = if is_over reported job attempt h then None else Some h
+
+-- the report of an end made an entry, or none
 abbrev pub EndReports : ℕ → JobId → ℕ → Option Exit → Bool → List Act → List Act → Option Hand → Option Hand → Type 0
 EndReports number job attempt exit true mine mine_after hand hand_after =
-    ((r : Reply) × (mine_after ≡ mine ++ entry_of number (end_call job attempt exit) r ∷ [])) × (hand_after ≡ hand_without job attempt hand)
-EndReports number job attempt exit false mine mine_after hand hand_after = (mine_after ≡ mine) × (hand_after ≡ hand)
+    ((r : Reply) × (mine_after ≡ mine ++ entry_of number (end_call job attempt exit) r ∷ [])) × (hand_after ≡ hand_without true job attempt hand)
+EndReports number job attempt exit false mine mine_after hand hand_after = (mine_after ≡ mine) × (hand_after ≡ hand_without false job attempt hand)
 
 -- An order that was delivered before is not delivered again, and one whose child is not in the list is kept.
 pub record Waits {T : Type 0} (hand hand_after : Hand) (old new : Slab (Held T)) : Type 0 where
@@ -113,15 +123,29 @@ pub record Waits {T : Type 0} (hand hand_after : Hand) (old new : Slab (Held T))
 abbrev pub Serves : {T : Type 0} → (T → Option Told) → (T → ℕ) → Hand → Hand → Slab (Held T) → Slab (Held T) → Type 0
 Serves told faults hand hand_after old new = Waits hand hand_after old new ⊎ Delivers told faults hand hand_after old new
 
--- what taking an order did: one was kept from before; or none was there to take; or one was taken
+-- a call made no entry, and this refusal stands for the cause
+pub record IsRefusedBy (old : Post) (asked : Call) (new : Post) (why : Refusal) : Type 0 where
+  pub fault : NoEntry
+  pub fails : Fails old asked fault new
+  pub stands : MayFail fault why
+
+-- an order was taken
 pub record Took (number : ℕ) (mine mine_after : List Act) (hand_after : Option Hand) : Type 0 where
   pub signal : Signal
   pub mine_is : mine_after ≡ mine ++ entry_of number TakeSignal (reply.Signal signal) ∷ []
   pub hand_is : hand_after ≡ Some (record { signal = signal; answer = None })
 
-abbrev pub TakeSteps : ℕ → List Act → List Act → Option Hand → Option Hand → Type 0
-TakeSteps number mine mine_after (Some hand) hand_after = (mine_after ≡ mine) × (hand_after ≡ Some hand)
-TakeSteps number mine mine_after None hand_after = ((mine_after ≡ mine) × (hand_after ≡ None)) ⊎ Took number mine mine_after hand_after
+-- no order was taken: the machine has none to hand out, or it made no entry, and that is answered
+abbrev pub FindsNone : Post → Post → Result (Unit {0}) Refusal → Type 0
+FindsNone old new (Ok done) = Fails old call.TakeSignal no.Nothing new
+FindsNone old new (Err why) = IsRefusedBy old call.TakeSignal new why
+
+-- what taking an order did: one was kept from before; or none was taken; or one was
+abbrev pub TakeSteps : Post → Post → Option Hand → Option Hand → Result (Unit {0}) Refusal → Type 0
+TakeSteps old new (Some hand) hand_after result = (acts_at new ≡ acts_at old) × (hand_after ≡ Some hand) × IsOk result
+TakeSteps old new None hand_after result =
+    ((acts_at new ≡ acts_at old) × (hand_after ≡ None) × FindsNone old new result)
+    ⊎ (Took (number_of old.client) (acts_at old) (acts_at new) hand_after × IsOk result)
 
 -- a child that was polled and runs on
 pub record RanOn {T : Type 0} (told : T → Option Told) (before after : Held T) : Type 0 where
@@ -146,8 +170,32 @@ pub record IsEndOf {T : Type 0} (told : T → Option Told) (faults : T → ℕ) 
   pub seen : SeenEnd told faults held.child exit
   pub call : e.call ≡ end_call held.job held.attempt exit
 
+-- a child of the order's run has left the list
+pub record HasLeft {T : Type 0} (at now : ℕ → Option (Held T)) (h : Hand) : Type 0 where
+  pub key : ℕ
+  pub held : Held T
+  pub there : at key ≡ Some held
+  pub left : now key ≡ None
+  pub same : is_run h.signal.job h.signal.attempt held.job held.attempt ≡ true
+
+-- The order stays in hand: no end of its run was reported, and if it was not delivered no child of its run has left.
+pub record KeepsOrder {T : Type 0} (added : List Act) (at now : ℕ → Option (Held T)) (h : Hand) (hand_after : Option Hand) : Type 0 where
+  pub stays : hand_after ≡ Some h
+  pub goes_on : is_ended h.signal.job h.signal.attempt added ≡ false
+  pub attended : h.answer ≡ None → HasLeft at now h → ⊥
+
+-- The order is dropped: the end of its run was reported, or it was not delivered and a child of its run has left.
+pub record DropsOrder {T : Type 0} (added : List Act) (at now : ℕ → Option (Held T)) (h : Hand) (hand_after : Option Hand) : Type 0 where
+  pub gone : hand_after ≡ None
+  pub why : (is_ended h.signal.job h.signal.attempt added ≡ true) ⊎ ((h.answer ≡ None) × HasLeft at now h)
+
+-- the order in hand after polls
+abbrev pub OrderAfter : {T : Type 0} → List Act → (ℕ → Option (Held T)) → (ℕ → Option (Held T)) → Option Hand → Option Hand → Type 0
+OrderAfter added at now None hand_after = hand_after ≡ None
+OrderAfter added at now (Some h) hand_after = KeepsOrder added at now h hand_after ⊎ DropsOrder added at now h hand_after
+
 -- Each child in these places was polled once; the entries that were added report ends that were seen.
-pub record PollsPlaces {T : Type 0} (told : T → Option Told) (faults : T → ℕ) (from to : ℕ) (mine mine_after : List Act) (at now : ℕ → Option (Held T)) (count : ℕ) (Clean : Type 0) : Type 0 where
+pub record PollsPlaces {T : Type 0} (told : T → Option Told) (faults : T → ℕ) (from to : ℕ) (mine mine_after : List Act) (at now : ℕ → Option (Held T)) (hand hand_after : Option Hand) (count : ℕ) (Clean : Type 0) : Type 0 where
   pub polled : (k : ℕ) → from ≤ k → k < to → IsPolled told faults (at k) (now k)
   pub before : (k : ℕ) → k < from → now k ≡ at k
   pub after : (k : ℕ) → to ≤ k → now k ≡ at k
@@ -155,42 +203,69 @@ pub record PollsPlaces {T : Type 0} (told : T → Option Told) (faults : T → �
   pub mine_is : mine_after ≡ mine ++ added
   pub ends : AllByRecursion (IsEndOf told faults at now) added
   pub counted : count ≡ length added
+  pub order : OrderAfter added at now hand hand_after
   -- where no report was lost, the end of each child that left is among them
   pub whole : Clean → (k : ℕ) (h : Held T) → at k ≡ Some h → now k ≡ None → is_ended h.job h.attempt added ≡ true
 
+-- The end of a child that has left was seen, but its report made no entry: that is answered as want of memory.
+pub record LosesEnd {T : Type 0} (told : T → Option Told) (faults : T → ℕ) (old new : Post) (at now : ℕ → Option (Held T)) (why : Refusal) : Type 0 where
+  pub key : ℕ
+  pub held : Held T
+  pub there : at key ≡ Some held
+  pub left : now key ≡ None
+  pub exit : Option Exit
+  pub seen : SeenEnd told faults held.child exit
+  pub fault : NoEntry
+  pub fails : FailsWithin old (asked_end held.job held.attempt exit) fault new
+  pub wants : why ≡ OutOfMemory
+
 -- Every child was polled once. The answer is the number of ends that were reported, up to the greatest count.
-pub record PollsAll {T : Type 0} (told : T → Option Told) (faults : T → ℕ) (mine mine_after : List Act) (at now : ℕ → Option (Held T)) (result : Result ℕ Refusal) : Type 0 where
+pub record PollsAll {T : Type 0} (told : T → Option Told) (faults : T → ℕ) (old new : Post) (at now : ℕ → Option (Held T)) (hand hand_after : Option Hand) (result : Result ℕ Refusal) : Type 0 where
   pub polled : (k : ℕ) → IsPolled told faults (at k) (now k)
   pub added : List Act
-  pub mine_is : mine_after ≡ mine ++ added
+  pub mine_is : acts_at new ≡ acts_at old ++ added
   pub ends : AllByRecursion (IsEndOf told faults at now) added
   pub counted : IfOk result (λ n. n ≡ min (length added) (2 ^ 32 - 1))
+  pub order : OrderAfter added at now hand hand_after
   pub whole : IsOk result → (k : ℕ) (h : Held T) → at k ≡ Some h → now k ≡ None → is_ended h.job h.attempt added ≡ true
+  pub lost : IfErr result (LosesEnd told faults old new at now)
 
 -- what is made of the answer of a delivery
-abbrev pub ReportSteps : ℕ → Hand → Option Bool → List Act → List Act → Option Hand → Result ℕ Refusal → Type 0
-ReportSteps number h None mine mine_after hand_after result = (mine_after ≡ mine) × (hand_after ≡ Some h) × (result ≡ Ok 0)
-ReportSteps number h (Some answer) mine mine_after hand_after (Ok n) = SignalReports number answer h.signal true mine mine_after × (hand_after ≡ None) × (n ≡ 1)
-ReportSteps number h (Some answer) mine mine_after hand_after (Err why) = (mine_after ≡ mine) × (hand_after ≡ Some h)
+abbrev pub ReportSteps : Post → Post → Hand → Option Bool → Option Hand → Result ℕ Refusal → Type 0
+ReportSteps old new h None hand_after result = (acts_at new ≡ acts_at old) × (hand_after ≡ Some h) × (result ≡ Ok 0)
+ReportSteps old new h (Some answer) hand_after (Ok n) =
+    SignalReports (number_of old.client) answer h.signal true (acts_at old) (acts_at new) × (hand_after ≡ None) × (n ≡ 1)
+ReportSteps old new h (Some answer) hand_after (Err why) =
+    (acts_at new ≡ acts_at old) × (hand_after ≡ Some h) × IsRefusedBy old (asked_signal answer h.signal) new why
 
 -- an order in hand is delivered where its child is there and it was not delivered before, and then reported
-pub record ServesHand {T : Type 0} (told : T → Option Told) (faults : T → ℕ) (number : ℕ) (hand : Hand) (mine mine_after : List Act) (old new : Slab (Held T))
+pub record ServesHand {T : Type 0} (told : T → Option Told) (faults : T → ℕ) (old new : Post) (hand : Hand) (children children_after : Slab (Held T))
     (hand_after : Option Hand) (result : Result ℕ Refusal) : Type 0 where
   pub delivered : Hand
-  pub serves : Serves told faults hand delivered old new
-  pub reports : ReportSteps number delivered delivered.answer mine mine_after hand_after result
+  pub serves : Serves told faults hand delivered children children_after
+  pub reports : ReportSteps old new delivered delivered.answer hand_after result
 
-abbrev pub ServesTaken : {T : Type 0} → (T → Option Told) → (T → ℕ) → ℕ → Option Hand → List Act → List Act → Slab (Held T) → Slab (Held T) → Option Hand → Result ℕ Refusal → Type 0
-ServesTaken told faults number None mine mine_after old new hand_after result = (mine_after ≡ mine) × (hand_after ≡ None) × SameValues old new
-ServesTaken told faults number (Some h) mine mine_after old new hand_after result = ServesHand told faults number h mine mine_after old new hand_after result
+-- with no order in hand nothing is done
+pub record ServesNone {T : Type 0} (old new : Post) (children children_after : Slab (Held T)) (hand_after : Option Hand) : Type 0 where
+  pub mine_is : acts_at new ≡ acts_at old
+  pub hand_is : hand_after ≡ None
+  pub same : SameValues children children_after
+
+abbrev pub ServesTaken : {T : Type 0} → (T → Option Told) → (T → ℕ) → Post → Post → Option Hand → Result (Unit {0}) Refusal → Slab (Held T) → Slab (Held T) → Option Hand → Result ℕ Refusal → Type 0
+ServesTaken told faults old new None (Ok done) children children_after hand_after result = ServesNone old new children children_after hand_after × (result ≡ Ok 0)
+ServesTaken told faults old new None (Err why) children children_after hand_after result = ServesNone old new children children_after hand_after × (result ≡ Err why)
+ServesTaken told faults old new (Some h) take children children_after hand_after result = ServesHand told faults old new h children children_after hand_after result
 
 -- the first half of a round: an order is taken where none is in hand, and served
-pub record ServesOrder {T : Type 0} (told : T → Option Told) (faults : T → ℕ) (number : ℕ) (mine mine_after : List Act) (old new : Slab (Held T))
+pub record ServesOrder {T : Type 0} (told : T → Option Told) (faults : T → ℕ) (old new : Post) (children children_after : Slab (Held T))
     (hand hand_after : Option Hand) (result : Result ℕ Refusal) : Type 0 where
-  pub mine_taken : List Act
+  pub taken : Post
   pub hand_taken : Option Hand
-  pub takes : TakeSteps number mine mine_taken hand hand_taken
-  pub serves : ServesTaken told faults number hand_taken mine_taken mine_after old new hand_after result
+  pub take : Result (Unit {0}) Refusal
+  pub to_taken : IsStillAt old taken
+  pub takes : TakeSteps old taken hand hand_taken take
+  pub to_new : IsStillAt taken new
+  pub serves : ServesTaken told faults taken new hand_taken take children children_after hand_after result
 
 -- the answer of a round: the refusal that was met first, or the number of its reports
 abbrev pub RoundAnswer : Result ℕ Refusal → Result ℕ Refusal → Result ℕ Refusal → Type 0
@@ -199,12 +274,40 @@ RoundAnswer (Ok n) (Err why) result = result ≡ Err why
 RoundAnswer (Ok n) (Ok m) result = result ≡ Ok (min (n + m) (2 ^ 32 - 1))
 
 -- a round of the reaper
-pub record ReapSteps {T : Type 0} (told : T → Option Told) (faults : T → ℕ) (number : ℕ) (mine mine_after : List Act) (old new : Slab (Held T)) (hand : Option Hand) (result : Result ℕ Refusal) : Type 0 where
-  pub mine_served : List Act
-  pub served : Slab (Held T)
+pub record ReapSteps {T : Type 0} (told : T → Option Told) (faults : T → ℕ) (old new : Post) (children children_after : Slab (Held T)) (hand hand_after : Option Hand) (result : Result ℕ Refusal) : Type 0 where
+  pub served : Post
+  pub children_served : Slab (Held T)
   pub hand_served : Option Hand
   pub reports : Result ℕ Refusal
   pub ends : Result ℕ Refusal
-  pub order : ServesOrder told faults number mine mine_served old served hand hand_served reports
-  pub polls : PollsAll told faults mine_served mine_after (get served) (get new) ends
+  pub to_served : IsStillAt old served
+  pub order : ServesOrder told faults old served children children_served hand hand_served reports
+  pub to_new : IsStillAt served new
+  pub polls : PollsAll told faults served new (get children_served) (get children_after) hand_served hand_after ends
   pub answer : RoundAnswer reports ends result
+
+-- A round took an order first of all; or it took none: one was kept from before, or the machine had none to hand out, or its
+-- journal had no room for the entry and the round is refused for that, or the round is refused for want of memory.
+pub data IsTaking (old new : Post) (hand : Option Hand) (result : Result ℕ Refusal) : Type 0 where
+  takes : (signal : Signal) (rest : List Act)
+      → acts_at new ≡ (acts_at old ++ entry_of (number_of old.client) TakeSignal (reply.Signal signal) ∷ []) ++ rest → IsTaking old new hand result
+  keeps : IsSome hand → IsTaking old new hand result
+  finds_none : FailsWithin old call.TakeSignal no.Nothing new → IsTaking old new hand result
+  finds_full : (size : ℕ) → FailsWithin old call.TakeSignal (no.Journal size) new → result ≡ Err (OutOfResource (limit.Journal size))
+      → IsTaking old new hand result
+  lacks_memory : result ≡ Err OutOfMemory → IsTaking old new hand result
+
+-- the order that a round serves: the one that was kept, or the one that it took
+abbrev pub IsOrderServed : Option Hand → Post → Signal → Post → Type 0
+IsOrderServed (Some h) old signal now = (signal ≡ h.signal) × (acts_at now ≡ acts_at old)
+IsOrderServed None old signal now = acts_at now ≡ acts_at old ++ entry_of (number_of old.client) TakeSignal (reply.Signal signal) ∷ []
+
+-- Why a round is refused: for want of memory; or since the journal had no room for the entry by which an order is taken, or for
+-- that by which the round's order is reported.
+pub data IsRoundRefused (old new : Post) (hand : Option Hand) (why : Refusal) : Type 0 where
+  wants_memory : why ≡ OutOfMemory → IsRoundRefused old new hand why
+  full_at_take : (size : ℕ) → why ≡ OutOfResource (limit.Journal size) → FailsWithin old call.TakeSignal (no.Journal size) new
+      → IsRoundRefused old new hand why
+  full_at_report : (size : ℕ) (signal : Signal) (answer : Bool) → why ≡ OutOfResource (limit.Journal size)
+      → (f : FailsWithin old (asked_signal answer signal) (no.Journal size) new) → IsOrderServed hand old signal f.before
+      → IsRoundRefused old new hand why

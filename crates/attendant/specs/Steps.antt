@@ -10,14 +10,15 @@ use Rattle.child_spawner.specs.Spawners.{Asks}
 use Rattle.slab.specs.Slab.{Slab, get, SameValues, Updates}
 use Rattle.drmaa_model.specs.declared.calls.Call.{Call}
 use Rattle.drmaa_model.specs.declared.calls.Call.TheVariants as call
-use Rattle.attendant.specs.Acts.{Act, Duty, TakeLaunch, Started, StartFailed, Exited, ExitUnknown, TakeSignal, SignalDone, SignalFailed, Other, duty_of, Fails, IsNewLaunch, IsSignal, launch_reply, signal_reply, is_launched}
+use Rattle.attendant.specs.Acts.{Act, Duty, TakeLaunch, Started, StartFailed, Exited, ExitUnknown, TakeSignal, SignalDone, SignalFailed, Other, duty_of, IsNewLaunch, IsSignal, launch_reply, signal_reply, is_launched}
+use Rattle.attendant.specs.Posts.{Post, acts_at, Fails, FailsWithin}
 use Rattle.drmaa_model.specs.declared.faults.NoEntry.{NoEntry}
 use Rattle.drmaa_model.specs.declared.faults.NoEntry.TheVariants as no
 use Rattle.drmaa_model.specs.declared.replies.Reply.{Reply}
 use Rattle.drmaa_model.specs.declared.replies.Reply.TheVariants as reply
 use Rattle.drmaa_model.specs.declared.replies.Launch.{Launch}
-use Rattle.drmaa_model.specs.declared.configs.Config.{Config}
-use Rattle.call_history.specs.Clients.{Seat}
+use Rattle.call_history.specs.Clients.{number_of}
+use Rattle.drmaa_types.specs.declared.identifiers.JobId.{JobId}
 use Rattle.attendant.specs.declared.reaper.Held.{Held}
 use Rattle.attendant.specs.declared.launching.Launched.{Launched}
 use Rattle.attendant.specs.declared.launching.Launched.TheVariants as launched
@@ -105,17 +106,38 @@ pub record Nothing {T : Type 0} (mine mine_after : List Act) (asked asked_after 
   pub fate_is : fate_after ≡ fate
   pub same : SameValues old new
 
+-- Why a launch was not taken: the list had no room for a child, and nothing was asked; or the machine made no entry of the
+-- take, though it had a launch.
+pub data IsMissed (old new : Post) (why : Refusal) : Type 0 where
+  no_room : why ≡ OutOfMemory → new ≡ old → IsMissed old new why
+  not_taken : (fault : NoEntry) → fault ≢ no.Nothing → Fails old call.TakeLaunch fault new → MayFail fault why → IsMissed old new why
+
+-- A launch was taken and its child asked for, but the report of the start made no entry.
+pub record MadeUnreported {T : Type 0} (told : T → Option Told) (old new : Post) (asked asked_after : Option (List Asked)) (fate fate_after : ℕ → Fate)
+    (children children_after : Slab (Held T)) : Type 0 where
+  pub launch : Launch
+  pub began : Bool
+  pub made : Made told (number_of old.client) launch began None (acts_at old) (acts_at new) asked asked_after fate fate_after children children_after
+  pub fault : NoEntry
+  pub fails : FailsWithin old (asked_start began launch) fault new
+
+-- A launch was taken and its child asked for, and the start was reported.
+pub record MadeReported {T : Type 0} (told : T → Option Told) (began : Bool) (job : JobId) (old new : Post) (asked asked_after : Option (List Asked)) (fate fate_after : ℕ → Fate)
+    (children children_after : Slab (Held T)) : Type 0 where
+  pub launch : Launch
+  pub of_job : launch.job ≡ job
+  pub reply : Reply
+  pub made : Made told (number_of old.client) launch began (Some reply) (acts_at old) (acts_at new) asked asked_after fate fate_after children children_after
+
 -- what a round of the launcher did, by its answer
-abbrev pub LaunchSteps : {T : Type 0} → (T → Option Told) → ℕ → List Act → List Act → Option (List Asked) → Option (List Asked) → (ℕ → Fate) → (ℕ → Fate)
+abbrev pub LaunchSteps : {T : Type 0} → (T → Option Told) → Post → Post → Option (List Asked) → Option (List Asked) → (ℕ → Fate) → (ℕ → Fate)
     → Slab (Held T) → Slab (Held T) → Result Launched Refusal → Type 0
-LaunchSteps told number mine mine2 asked asked2 fate fate2 old new (Ok launched.Nothing) = Nothing mine mine2 asked asked2 fate fate2 old new
-LaunchSteps told number mine mine2 asked asked2 fate fate2 old new (Ok (launched.Began job)) =
-    (l : Launch) × (r : Reply) × (l.job ≡ job) × Made told number l true (Some r) mine mine2 asked asked2 fate fate2 old new
-LaunchSteps told number mine mine2 asked asked2 fate fate2 old new (Ok (launched.StartFailed job)) =
-    (l : Launch) × (r : Reply) × (l.job ≡ job) × Made told number l false (Some r) mine mine2 asked asked2 fate fate2 old new
-LaunchSteps told number mine mine2 asked asked2 fate fate2 old new (Err why) =
-    Nothing mine mine2 asked asked2 fate fate2 old new
-    ⊎ ((l : Launch) × (began : Bool) × (why ≡ OutOfMemory) × Made told number l began None mine mine2 asked asked2 fate fate2 old new)
+LaunchSteps told old new asked asked2 fate fate2 children children2 (Ok launched.Nothing) = Nothing (acts_at old) (acts_at new) asked asked2 fate fate2 children children2
+LaunchSteps told old new asked asked2 fate fate2 children children2 (Ok (launched.Began job)) = MadeReported told true job old new asked asked2 fate fate2 children children2
+LaunchSteps told old new asked asked2 fate fate2 children children2 (Ok (launched.StartFailed job)) = MadeReported told false job old new asked asked2 fate fate2 children children2
+LaunchSteps told old new asked asked2 fate fate2 children children2 (Err why) =
+    (Nothing (acts_at old) (acts_at new) asked asked2 fate fate2 children children2 × IsMissed old new why)
+    ⊎ (MadeUnreported told old new asked asked2 fate fate2 children children2 × (why ≡ OutOfMemory))
 
 abbrev pub IsNothing : Launched → Type 0
 IsNothing launched.Nothing = Unit {0}
@@ -127,9 +149,8 @@ IsFailedStart launched.Nothing = ⊥
 IsFailedStart (launched.Began job) = ⊥
 IsFailedStart (launched.StartFailed job) = Unit {0}
 
--- Why a round of the launcher is refused: the list had no room for a child, and nothing was asked; or the machine made no
--- entry of the take, though it had a launch; or the report of the start made no entry.
-pub data IsMissed (config : Config) (old new : Seat) (why : Refusal) : Type 0 where
-  no_room : why ≡ OutOfMemory → new ≡ old → IsMissed config old new why
-  not_taken : (fault : NoEntry) → fault ≢ no.Nothing → Fails config new call.TakeLaunch fault → MayFail fault why → IsMissed config old new why
-  not_reported : (l : Launch) (began : Bool) (fault : NoEntry) → Fails config new (asked_start began l) fault → why ≡ OutOfMemory → IsMissed config old new why
+-- Why a round of the launcher is refused: for want of memory, or for a journal that has no room for the entry of the take, of
+-- this size.
+pub data IsLaunchRefused (old new : Post) (why : Refusal) : Type 0 where
+  no_memory : why ≡ OutOfMemory → IsLaunchRefused old new why
+  no_space : (size : ℕ) → why ≡ OutOfResource (limit.Journal size) → Fails old call.TakeLaunch (no.Journal size) new → IsLaunchRefused old new why

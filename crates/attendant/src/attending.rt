@@ -1,12 +1,12 @@
 //! The loops of launcher and reaper.
-ghost use Rattle.std.specs.Prelude.{◌≡◌, OnOk, IsOk, IsTrue, None};
+ghost use Rattle.std.specs.Prelude.{◌≡◌, OnOk, IfErr, IsOk, IsTrue, None};
 ghost use Rattle.slab.specs.Slab.{get};
 ghost use Rattle.turn_lock.specs.Histories.{BeginsWith};
 ghost use Rattle.turn_lock.specs.Tokens.{IsFree};
 ghost use Rattle.call_history.specs.Clients.{seen_of};
-ghost use Rattle.call_history.specs.Clocks.{dial};
-ghost use Rattle.attendant.specs.Acts.{own_acts, IsStillAt};
-ghost use Rattle.attendant.specs.Outside.{Attending, EndsSettled};
+ghost use Rattle.attendant.specs.Acts.{own_acts};
+ghost use Rattle.attendant.specs.Posts.{post, IsStillAt};
+ghost use Rattle.attendant.specs.Outside.{Keeps, Attending, EndsSettled, IsHeldUp};
 
 use crate::launching::launch_once;
 use crate::reaping::{first_of, reap_once};
@@ -17,23 +17,27 @@ use drmaa_types::{Clock, Refusal};
 use std::sync::{Mutex, Wait};
 use std::time::Clock as Pause;
 
-/// How many clients are still at work.
+/// How many clients are still at work. No contract rests on what it answers.
+#[derive(Drop)]
 pub struct Done {
     clients: Mutex<u32>,
 }
 
 impl Done {
+    /// So many clients are at work. It takes no memory.
     pub fn new(clients: u32) -> Done {
         Done {
             clients: Mutex::new(clients),
         }
     }
 
+    /// One client less is at work.
     pub fn client_ended<R: Wait>(&self, rt: &R) {
         let mut clients = self.clients.lock(rt);
         *clients = clients.saturating_sub(1);
     }
 
+    /// Whether no client is at work any more.
     pub fn clients_over<R: Wait>(&self, rt: &R) -> bool {
         *self.clients.lock(rt) == 0
     }
@@ -49,11 +53,14 @@ fn attend_once<R: Wait, S: Spawner, C: Clock>(
 ) -> Result<bool, Refusal>
     requires launcher { IsFree launcher.old.shared.now launcher.old.client }
     requires reaping { IsFree reaping.old.shared.now reaping.old.client }
-    ensures launcher { IsStillAt launcher.old.shared.now launcher.old.client launcher.new.shared.now launcher.new.client }
-    ensures reaping { IsStillAt reaping.old.shared.now reaping.old.client reaping.new.shared.now reaping.new.client }
+    ensures launcher { IsStillAt (post C.given C.least launcher.old) (post C.given C.least launcher.new) }
+    ensures reaping { IsStillAt (post C.given C.least reaping.old) (post C.given C.least reaping.new) }
     ensures attending { Attending S.One.told (S.asked spawner.old) (S.asked spawner.new) (S.fate spawner.old) (S.fate spawner.new)
         (own_acts launcher.old.client) (own_acts launcher.new.client) (own_acts reaping.old.client) (own_acts reaping.new.client)
         (get reaper.old.children) (get reaper.new.children) reaper.old.order reaper.new.order (IsOk result) }
+    ensures err { Keeps S.One.told (S.asked spawner.old) (S.fate spawner.old) (own_acts launcher.old.client) (own_acts reaping.old.client)
+        (get reaper.old.children) reaper.old.order → IfErr result (IsHeldUp (post C.given C.least launcher.old) (post C.given C.least launcher.new)
+        (post C.given C.least reaping.old) (post C.given C.least reaping.new)) }
 {
     let launched = launch_once(rt, launcher, spawner, reaper);
     let reports = reap_once(rt, reaping, reaper);
@@ -66,10 +73,10 @@ fn is_settled<R: Wait, C: Clock>(rt: &R, launcher: &mut Desk<C>, reaping: &mut D
     requires lock { reaping.old.shared.now ≡ launcher.old.shared.now }
     requires launcher { IsFree launcher.old.shared.now launcher.old.client }
     requires reaping { IsFree reaping.old.shared.now reaping.old.client }
-    ensures launcher { IsStillAt launcher.old.shared.now launcher.old.client launcher.new.shared.now launcher.new.client }
+    ensures launcher { IsStillAt (post C.given C.least launcher.old) (post C.given C.least launcher.new) }
     ensures reaping { reaping.new ≡ reaping.old }
     ensures mine { own_acts launcher.new.client ≡ own_acts launcher.old.client }
-    ensures settled { IsTrue result → EndsSettled launcher.old.shared.now.fixed (dial (C.given launcher.new.clock) (C.least launcher.new.clock)) launcher.new.client }
+    ensures settled { IsTrue result → EndsSettled launcher.old.shared.now.fixed (post C.given C.least launcher.new) }
     ensures begins { BeginsWith (seen_of launcher.new.client) (seen_of reaping.new.client) }
 {
     launcher
@@ -78,7 +85,12 @@ fn is_settled<R: Wait, C: Clock>(rt: &R, launcher: &mut Desk<C>, reaping: &mut D
     matches!(launcher.look(rt, Question::Settled), Answer::Settled(true))
 }
 
-/// Launches and reaps in turn, until the clients are over and the machine is settled.
+/// Launches and reaps in turn, with rests, until the clients are over and a look says that the machine is settled. The look comes
+/// after all that the reaper's client has seen. It may go on for good.
+///
+/// # Errors
+///
+/// The first refusal of a round, once the clients are over: `OutOfMemory`, or `OutOfResource` with the journal's size.
 pub fn run_attendant<R: Wait + Pause, S: Spawner, C: Clock>(
     rt: &R,
     launcher: &mut Desk<C>,
@@ -90,12 +102,15 @@ pub fn run_attendant<R: Wait + Pause, S: Spawner, C: Clock>(
     requires lock { reaping.old.shared.now ≡ launcher.old.shared.now }
     requires launcher { IsFree launcher.old.shared.now launcher.old.client }
     requires reaping { IsFree reaping.old.shared.now reaping.old.client }
-    ensures launcher { IsStillAt launcher.old.shared.now launcher.old.client launcher.new.shared.now launcher.new.client }
-    ensures reaping { IsStillAt reaping.old.shared.now reaping.old.client reaping.new.shared.now reaping.new.client }
+    ensures launcher { IsStillAt (post C.given C.least launcher.old) (post C.given C.least launcher.new) }
+    ensures reaping { IsStillAt (post C.given C.least reaping.old) (post C.given C.least reaping.new) }
     ensures attending { Attending S.One.told (S.asked spawner.old) (S.asked spawner.new) (S.fate spawner.old) (S.fate spawner.new)
         (own_acts launcher.old.client) (own_acts launcher.new.client) (own_acts reaping.old.client) (own_acts reaping.new.client)
         (get reaper.old.children) (get reaper.new.children) reaper.old.order reaper.new.order (IsOk result) }
-    ensures settled { OnOk result (EndsSettled launcher.old.shared.now.fixed (dial (C.given launcher.new.clock) (C.least launcher.new.clock)) launcher.new.client) }
+    ensures err { Keeps S.One.told (S.asked spawner.old) (S.fate spawner.old) (own_acts launcher.old.client) (own_acts reaping.old.client)
+        (get reaper.old.children) reaper.old.order → IfErr result (IsHeldUp (post C.given C.least launcher.old) (post C.given C.least launcher.new)
+        (post C.given C.least reaping.old) (post C.given C.least reaping.new)) }
+    ensures settled { OnOk result (EndsSettled launcher.old.shared.now.fixed (post C.given C.least launcher.new)) }
     ensures begins { OnOk result (BeginsWith (seen_of launcher.new.client) (seen_of reaping.new.client)) }
 {
     let mut kept = None;
@@ -123,7 +138,11 @@ pub fn run_attendant<R: Wait + Pause, S: Spawner, C: Clock>(
     unreachable!()
 }
 
-/// Launches and reaps in turn, until the machine is settled.
+/// As `run_attendant`, with no clients to wait for.
+///
+/// # Errors
+///
+/// The first refusal of a round, at once: `OutOfMemory`, or `OutOfResource` with the journal's size.
 pub fn finish<R: Wait + Pause, S: Spawner, C: Clock>(
     rt: &R,
     launcher: &mut Desk<C>,
@@ -134,26 +153,19 @@ pub fn finish<R: Wait + Pause, S: Spawner, C: Clock>(
     requires lock { reaping.old.shared.now ≡ launcher.old.shared.now }
     requires launcher { IsFree launcher.old.shared.now launcher.old.client }
     requires reaping { IsFree reaping.old.shared.now reaping.old.client }
-    ensures launcher { IsStillAt launcher.old.shared.now launcher.old.client launcher.new.shared.now launcher.new.client }
-    ensures reaping { IsStillAt reaping.old.shared.now reaping.old.client reaping.new.shared.now reaping.new.client }
+    ensures launcher { IsStillAt (post C.given C.least launcher.old) (post C.given C.least launcher.new) }
+    ensures reaping { IsStillAt (post C.given C.least reaping.old) (post C.given C.least reaping.new) }
     ensures attending { Attending S.One.told (S.asked spawner.old) (S.asked spawner.new) (S.fate spawner.old) (S.fate spawner.new)
         (own_acts launcher.old.client) (own_acts launcher.new.client) (own_acts reaping.old.client) (own_acts reaping.new.client)
         (get reaper.old.children) (get reaper.new.children) reaper.old.order reaper.new.order (IsOk result) }
-    ensures settled { OnOk result (EndsSettled launcher.old.shared.now.fixed (dial (C.given launcher.new.clock) (C.least launcher.new.clock)) launcher.new.client) }
+    ensures err { Keeps S.One.told (S.asked spawner.old) (S.fate spawner.old) (own_acts launcher.old.client) (own_acts reaping.old.client)
+        (get reaper.old.children) reaper.old.order → IfErr result (IsHeldUp (post C.given C.least launcher.old) (post C.given C.least launcher.new)
+        (post C.given C.least reaping.old) (post C.given C.least reaping.new)) }
+    ensures settled { OnOk result (EndsSettled launcher.old.shared.now.fixed (post C.given C.least launcher.new)) }
     ensures begins { OnOk result (BeginsWith (seen_of launcher.new.client) (seen_of reaping.new.client)) }
 {
-    let mut kept = None;
     for _ in rt.forever() {
-        let idle = match attend_once(rt, launcher, reaping, spawner, reaper) {
-            Ok(idle) => idle,
-            Err(why) => {
-                kept = first_of(kept, why);
-                true
-            }
-        };
-        if let Some(why) = kept {
-            return Err(why);
-        }
+        let idle = attend_once(rt, launcher, reaping, spawner, reaper)?;
         if is_settled(rt, launcher, reaping) {
             return Ok(());
         }

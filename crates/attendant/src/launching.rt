@@ -4,13 +4,12 @@ ghost use Rattle.drmaa_model.specs.declared.calls.Call.{Call};
 ghost use Rattle.drmaa_model.specs.declared.faults.NoEntry.{NoEntry};
 ghost use Rattle.turn_lock.specs.Tokens.{IsFree};
 ghost use Rattle.call_history.specs.Clients.{number_of};
-ghost use Rattle.attendant.specs.Acts.{Act, launch_reply, duty_of, own_acts, Fails, IsStillAt};
+ghost use Rattle.attendant.specs.Acts.{Act, launch_reply, duty_of, own_acts};
+ghost use Rattle.attendant.specs.Posts.{post, IsStillAt, Fails};
 ghost use Rattle.drmaa_types.specs.Counts.{Rose};
 ghost use Rattle.slab.specs.Slab.{get, SameValues, HasRoomFor};
-ghost use Rattle.drmaa_types.specs.declared.refusals.Refusal.{Refusal};
-ghost use Rattle.drmaa_types.specs.declared.refusals.Limit.{Limit};
 ghost use Rattle.attendant.specs.Outside.{Keeps, AgreesOf};
-ghost use Rattle.attendant.specs.Steps.{entry_of, report_call, asked_start, Takes, Reports, PutsAt, LaunchSteps, MayFail, IsNothing, IsFailedStart, IsMissed};
+ghost use Rattle.attendant.specs.Steps.{entry_of, report_call, asked_start, Takes, Reports, PutsAt, LaunchSteps, MayFail, IsNothing, IsFailedStart, IsLaunchRefused};
 
 use crate::asking::ask;
 use crate::{Held, Reaper};
@@ -22,10 +21,13 @@ use slab::Slab;
 use std::sync::Wait;
 
 /// What a round of the launcher came to.
-#[derive(Clone, Copy)]
+#[derive(Clone, Copy, Debug, PartialEq, Eq)]
 pub enum Launched {
+    /// The machine has no launch.
     Nothing,
+    /// The child of this job was started.
     Began(JobId),
+    /// The child of this job could not be started.
     StartFailed(JobId),
 }
 
@@ -51,12 +53,12 @@ fn launch_of(reply: Reply) -> Option<Launch>
 /// Takes a launch, where there is one.
 fn take_launch<R: Wait, C: Clock>(rt: &R, desk: &mut Desk<C>) -> Result<Option<Launch>, Refusal>
     requires { IsFree desk.old.shared.now desk.old.client }
-    ensures desk { IsStillAt desk.old.shared.now desk.old.client desk.new.shared.now desk.new.client }
+    ensures desk { IsStillAt (post C.given C.least desk.old) (post C.given C.least desk.new) }
     ensures taken { IfOk result (λ launch. IfSome launch (Takes (number_of desk.old.client) (own_acts desk.old.client) (own_acts desk.new.client))) }
     ensures nothing { IfOk result (λ launch. IfNone launch
-        ((own_acts desk.new.client ≡ own_acts desk.old.client) × Fails desk.old.shared.now.fixed desk.new.client Call.TakeLaunch NoEntry.Nothing)) }
+        ((own_acts desk.new.client ≡ own_acts desk.old.client) × Fails (post C.given C.least desk.old) Call.TakeLaunch NoEntry.Nothing (post C.given C.least desk.new))) }
     ensures err { IfErr result (λ why. (own_acts desk.new.client ≡ own_acts desk.old.client)
-        × (fault : NoEntry) × (fault ≢ NoEntry.Nothing) × Fails desk.old.shared.now.fixed desk.new.client Call.TakeLaunch fault × MayFail fault why) }
+        × (fault : NoEntry) × (fault ≢ NoEntry.Nothing) × Fails (post C.given C.least desk.old) Call.TakeLaunch fault (post C.given C.least desk.new) × MayFail fault why) }
 {
     match ask(rt, desk, Call::TakeLaunch) {
         Ok(reply) => {
@@ -73,9 +75,9 @@ fn take_launch<R: Wait, C: Clock>(rt: &R, desk: &mut Desk<C>) -> Result<Option<L
 /// Reports whether a launch began. Whether the report is an entry.
 fn report_start<R: Wait, C: Clock>(rt: &R, desk: &mut Desk<C>, launch: &Launch, began: bool) -> bool
     requires { IsFree desk.old.shared.now desk.old.client }
-    ensures desk { IsStillAt desk.old.shared.now desk.old.client desk.new.shared.now desk.new.client }
+    ensures desk { IsStillAt (post C.given C.least desk.old) (post C.given C.least desk.new) }
     ensures made { Reports (number_of desk.old.client) began launch.now result (own_acts desk.old.client) (own_acts desk.new.client) }
-    ensures cause { result ≡ false → (fault : NoEntry) × Fails desk.old.shared.now.fixed desk.new.client (asked_start began launch.now) fault }
+    ensures cause { result ≡ false → (fault : NoEntry) × Fails (post C.given C.least desk.old) (asked_start began launch.now) fault (post C.given C.least desk.new) }
 {
     let call = start_report(launch, began);
     ask(rt, desk, call).is_ok()
@@ -113,16 +115,13 @@ fn launch_round<R: Wait, S: Spawner, C: Clock>(
     reaper: &mut Reaper<S::One>,
 ) -> Result<Launched, Refusal>
     requires { IsFree desk.old.shared.now desk.old.client }
-    ensures desk { IsStillAt desk.old.shared.now desk.old.client desk.new.shared.now desk.new.client }
+    ensures desk { IsStillAt (post C.given C.least desk.old) (post C.given C.least desk.new) }
     ensures order { reaper.new.order ≡ reaper.old.order }
-    ensures steps { LaunchSteps S.One.told (number_of desk.old.client) (own_acts desk.old.client) (own_acts desk.new.client)
+    ensures steps { LaunchSteps S.One.told (post C.given C.least desk.old) (post C.given C.least desk.new)
         (S.asked spawner.old) (S.asked spawner.new) (S.fate spawner.old) (S.fate spawner.new)
         reaper.old.children reaper.new.children result }
     ensures failed { IfOk result (λ launched. IsFailedStart launched → Rose (S.faults spawner.old) (S.faults spawner.new)) }
-    ensures journal { IfErr result (λ why. (size : ℕ) → why ≡ Refusal.OutOfResource (Limit.Journal size)
-        → Fails desk.old.shared.now.fixed desk.new.client Call.TakeLaunch (NoEntry.Journal size)) }
-    ensures missed { IfErr result (IsMissed desk.old.shared.now.fixed desk.old.client desk.new.client) }
-    ensures nothing { IfOk result (λ launched. IsNothing launched → Fails desk.old.shared.now.fixed desk.new.client Call.TakeLaunch NoEntry.Nothing) }
+    ensures nothing { IfOk result (λ launched. IsNothing launched → Fails (post C.given C.least desk.old) Call.TakeLaunch NoEntry.Nothing (post C.given C.least desk.new)) }
 {
     if reaper.children.reserve(1).is_err() {
         return Err(Refusal::OutOfMemory);
@@ -152,7 +151,14 @@ fn launch_round<R: Wait, S: Spawner, C: Clock>(
     }
 }
 
-/// One round of the launcher.
+/// One round of the launcher: takes a launch, starts its child with exactly its words, reports the start, and keeps the child.
+/// Room for the child is made before all this, so want of memory loses none. It may wait for the turn.
+///
+/// # Errors
+///
+/// `OutOfResource` with the journal's size, where the journal has no room for the entry of the take. `OutOfMemory` where the list
+/// has no room, where memory runs out for the take, and where the report of the start makes no entry, as only a stray one may; a
+/// child that began is in the list then too.
 pub fn launch_once<R: Wait, S: Spawner, C: Clock>(
     rt: &R,
     desk: &mut Desk<C>,
@@ -160,9 +166,9 @@ pub fn launch_once<R: Wait, S: Spawner, C: Clock>(
     reaper: &mut Reaper<S::One>,
 ) -> Result<Launched, Refusal>
     requires { IsFree desk.old.shared.now desk.old.client }
-    ensures desk { IsStillAt desk.old.shared.now desk.old.client desk.new.shared.now desk.new.client }
+    ensures desk { IsStillAt (post C.given C.least desk.old) (post C.given C.least desk.new) }
     ensures order { reaper.new.order ≡ reaper.old.order }
-    ensures steps { LaunchSteps S.One.told (number_of desk.old.client) (own_acts desk.old.client) (own_acts desk.new.client)
+    ensures steps { LaunchSteps S.One.told (post C.given C.least desk.old) (post C.given C.least desk.new)
         (S.asked spawner.old) (S.asked spawner.new) (S.fate spawner.old) (S.fate spawner.new)
         reaper.old.children reaper.new.children result }
     ensures keeps { (reaped : List Act) →
@@ -173,10 +179,8 @@ pub fn launch_once<R: Wait, S: Spawner, C: Clock>(
         AgreesOf (S.asked spawner.old) (S.fate spawner.old) (own_acts desk.old.client) reaped →
         AgreesOf (S.asked spawner.new) (S.fate spawner.new) (own_acts desk.new.client) reaped }
     ensures failed { IfOk result (λ launched. IsFailedStart launched → Rose (S.faults spawner.old) (S.faults spawner.new)) }
-    ensures journal { IfErr result (λ why. (size : ℕ) → why ≡ Refusal.OutOfResource (Limit.Journal size)
-        → Fails desk.old.shared.now.fixed desk.new.client Call.TakeLaunch (NoEntry.Journal size)) }
-    ensures missed { IfErr result (IsMissed desk.old.shared.now.fixed desk.old.client desk.new.client) }
-    ensures nothing { IfOk result (λ launched. IsNothing launched → Fails desk.old.shared.now.fixed desk.new.client Call.TakeLaunch NoEntry.Nothing) }
+    ensures err { IfErr result (IsLaunchRefused (post C.given C.least desk.old) (post C.given C.least desk.new)) }
+    ensures nothing { IfOk result (λ launched. IsNothing launched → Fails (post C.given C.least desk.old) Call.TakeLaunch NoEntry.Nothing (post C.given C.least desk.new)) }
 {
     launch_round(rt, desk, spawner, reaper)
 }

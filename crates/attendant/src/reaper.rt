@@ -29,6 +29,8 @@ pub struct Reaper<T> {
 }
 
 impl<T> Reaper<T> {
+    /// No children, and no order in hand. It takes no memory: the allocator is kept for the list of children, which takes its room
+    /// when a launch asks for it.
     pub fn new(alloc: Global) -> Reaper<T>
         ensures children { result.children.slots ≡ [] }
         ensures order { result.order ≡ None }

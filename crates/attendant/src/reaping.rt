@@ -1,12 +1,13 @@
 //! The reaper.
 ghost use Rattle.std.specs.Result.{result_ok};
-ghost use Rattle.std.specs.Prelude.{◌≡◌, ◌+◌, ◌-◌, ◌^◌, ◌≤◌, min, unwrap_or, ◌++◌, ◌∷◌, [], true, false, IfOk, IfErr, OnOk, IfSome, IfNone, Option, Some, None, IsTrue, is_ok, IsOk, IsSome, List, ℕ};
+ghost use Rattle.std.specs.Prelude.{◌≡◌, ◌+◌, ◌-◌, ◌^◌, ◌≤◌, min, unwrap_or, ◌++◌, ◌∷◌, [], true, false, IfOk, IfErr, IsErr, OnOk, IfSome, IfNone, Option, Some, None, IsTrue, is_ok, IsOk, IsSome, List, ℕ};
 ghost use Rattle.drmaa_model.specs.declared.calls.Call.{Call};
 ghost use Rattle.drmaa_model.specs.declared.faults.NoEntry.{NoEntry};
 ghost use Rattle.drmaa_model.specs.declared.replies.Reply.{Reply};
 ghost use Rattle.turn_lock.specs.Tokens.{IsFree};
 ghost use Rattle.call_history.specs.Clients.{number_of};
-ghost use Rattle.attendant.specs.Acts.{signal_reply, is_run, TakeSignal, duty_of, own_acts, Fails, IsStillAt};
+ghost use Rattle.attendant.specs.Acts.{signal_reply, is_run, TakeSignal, duty_of, own_acts};
+ghost use Rattle.attendant.specs.Posts.{post, IsStillAt, Fails};
 ghost use Rattle.slab.specs.Slab.{get, SameValues};
 ghost use Rattle.attendant.specs.declared.reaper.Held.{Held};
 ghost use Rattle.child_spawner.specs.declared.fates.Asked.{Asked};
@@ -14,7 +15,7 @@ ghost use Rattle.child_spawner.specs.declared.fates.Fate.{Fate};
 ghost use Rattle.attendant.specs.Outside.{Keeping, Agreeing, Agreed, Polling, Keeps, AgreesOf};
 ghost use Rattle.attendant.specs.Runs.{IsUnanswered};
 ghost use Rattle.attendant.specs.Steps.{entry_of, MayFail};
-ghost use Rattle.attendant.specs.Rounds.{signal_report, asked_signal, asked_end, SignalReports, Delivers, Serves, PollSteps, hand_without, EndReports, end_call, TakeSteps, PollsPlaces, PollsAll, ServesHand, ServesOrder, ReapSteps};
+ghost use Rattle.attendant.specs.Rounds.{signal_report, asked_signal, asked_end, IsRefusedBy, SignalReports, Delivers, Serves, PollSteps, is_over, hand_without, EndReports, end_call, TakeSteps, PollsPlaces, LosesEnd, PollsAll, ServesHand, ServesOrder, ReapSteps, IsTaking, IsRoundRefused};
 
 use crate::asking::ask;
 use crate::launching::refusal_of;
@@ -46,13 +47,13 @@ fn signal_of(reply: Reply) -> Option<Signal>
 /// Takes an order, where there is one.
 fn take_signal<R: Wait, C: Clock>(rt: &R, desk: &mut Desk<C>) -> Result<Option<Signal>, Refusal>
     requires { IsFree desk.old.shared.now desk.old.client }
-    ensures desk { IsStillAt desk.old.shared.now desk.old.client desk.new.shared.now desk.new.client }
+    ensures desk { IsStillAt (post C.given C.least desk.old) (post C.given C.least desk.new) }
     ensures taken { IfOk result (λ signal. IfSome signal (λ s. own_acts desk.new.client
         ≡ own_acts desk.old.client ++ entry_of (number_of desk.old.client) TakeSignal (Reply.Signal s) ∷ [])) }
     ensures nothing { IfOk result (λ signal. IfNone signal
-        ((own_acts desk.new.client ≡ own_acts desk.old.client) × Fails desk.old.shared.now.fixed desk.new.client Call.TakeSignal NoEntry.Nothing)) }
+        ((own_acts desk.new.client ≡ own_acts desk.old.client) × Fails (post C.given C.least desk.old) Call.TakeSignal NoEntry.Nothing (post C.given C.least desk.new))) }
     ensures err { IfErr result (λ why. (own_acts desk.new.client ≡ own_acts desk.old.client)
-        × (fault : NoEntry) × Fails desk.old.shared.now.fixed desk.new.client Call.TakeSignal fault × MayFail fault why) }
+        × IsRefusedBy (post C.given C.least desk.old) Call.TakeSignal (post C.given C.least desk.new) why) }
 {
     match ask(rt, desk, Call::TakeSignal) {
         Ok(reply) => {
@@ -127,9 +128,9 @@ fn report_signal<R: Wait, C: Clock>(
     answer: bool,
 ) -> Result<(), Refusal>
     requires { IsFree desk.old.shared.now desk.old.client }
-    ensures desk { IsStillAt desk.old.shared.now desk.old.client desk.new.shared.now desk.new.client }
+    ensures desk { IsStillAt (post C.given C.least desk.old) (post C.given C.least desk.new) }
     ensures made { SignalReports (number_of desk.old.client) answer signal (is_ok result) (own_acts desk.old.client) (own_acts desk.new.client) }
-    ensures err { IfErr result (λ why. (fault : NoEntry) × Fails desk.old.shared.now.fixed desk.new.client (asked_signal answer signal) fault × MayFail fault why) }
+    ensures err { IfErr result (IsRefusedBy (post C.given C.least desk.old) (asked_signal answer signal) (post C.given C.least desk.new)) }
 {
     match ask(rt, desk, report_of(signal, answer)) {
         Ok(_) => Ok(()),
@@ -168,16 +169,25 @@ fn end_of(job: JobId, attempt: u32, exit: Option<Exit>) -> Call
     }
 }
 
-fn without(order: Option<Hand>, job: JobId, attempt: u32) -> Option<Hand>
-    ensures { result ≡ hand_without job attempt order }
+/// Whether an order is over once a run has ended: it is of that run, and the end is reported or the order was not delivered.
+fn is_over(hand: Hand, job: JobId, attempt: u32, reported: bool) -> bool
+    ensures { result ≡ is_over reported job attempt hand }
+{
+    let is_of_run = hand.signal.job.0 == job.0 && hand.signal.attempt == attempt;
+    is_of_run && (reported || hand.answer.is_none())
+}
+
+/// The order in hand, unless it is over.
+fn without(order: Option<Hand>, job: JobId, attempt: u32, reported: bool) -> Option<Hand>
+    ensures { result ≡ hand_without reported job attempt order }
 {
     match order {
-        Some(hand) if hand.signal.job.0 == job.0 && hand.signal.attempt == attempt => None,
+        Some(hand) if is_over(hand, job, attempt, reported) => None,
         _ => order,
     }
 }
 
-/// Reports an end. Whether the report is an entry; the order of the run is then dropped.
+/// Reports an end. Whether the report is an entry. An order of the run is dropped if it is, or if it was not delivered.
 fn report_end<R: Wait, C: Clock>(
     rt: &R,
     desk: &mut Desk<C>,
@@ -187,16 +197,13 @@ fn report_end<R: Wait, C: Clock>(
     exit: Option<Exit>,
 ) -> bool
     requires { IsFree desk.old.shared.now desk.old.client }
-    ensures desk { IsStillAt desk.old.shared.now desk.old.client desk.new.shared.now desk.new.client }
+    ensures desk { IsStillAt (post C.given C.least desk.old) (post C.given C.least desk.new) }
     ensures made { EndReports (number_of desk.old.client) job attempt exit result (own_acts desk.old.client) (own_acts desk.new.client) order.old order.new }
+    ensures cause { result ≡ false → (fault : NoEntry) × Fails (post C.given C.least desk.old) (asked_end job attempt exit) fault (post C.given C.least desk.new) }
 {
-    match ask(rt, desk, end_of(job, attempt, exit)) {
-        Ok(_) => {
-            *order = without(*order, job, attempt);
-            true
-        }
-        Err(_) => false,
-    }
+    let reported = ask(rt, desk, end_of(job, attempt, exit)).is_ok();
+    *order = without(*order, job, attempt, reported);
+    reported
 }
 
 /// Takes an order, where none is in hand.
@@ -206,11 +213,9 @@ fn take_order<R: Wait, C: Clock>(
     order: &mut Option<Hand>,
 ) -> Result<(), Refusal>
     requires { IsFree desk.old.shared.now desk.old.client }
-    ensures desk { IsStillAt desk.old.shared.now desk.old.client desk.new.shared.now desk.new.client }
-    ensures steps { TakeSteps (number_of desk.old.client) (own_acts desk.old.client) (own_acts desk.new.client) order.old order.new }
-    ensures nothing { OnOk result (order.new ≡ None → Fails desk.old.shared.now.fixed desk.new.client Call.TakeSignal NoEntry.Nothing) }
-    ensures err { IfErr result (λ why. (order.old ≡ None) × (order.new ≡ None) × (own_acts desk.new.client ≡ own_acts desk.old.client)
-        × (fault : NoEntry) × Fails desk.old.shared.now.fixed desk.new.client Call.TakeSignal fault × MayFail fault why) }
+    ensures desk { IsStillAt (post C.given C.least desk.old) (post C.given C.least desk.new) }
+    ensures steps { TakeSteps (post C.given C.least desk.old) (post C.given C.least desk.new) order.old order.new result }
+    ensures err { IsErr result → order.new ≡ None }
 {
     if order.is_none() {
         if let Some(signal) = take_signal(rt, desk)? {
@@ -232,8 +237,8 @@ fn serve_hand<R: Wait, T: Child, C: Clock>(
 ) -> Result<u32, Refusal>
     requires sits { IsFree desk.old.shared.now desk.old.client }
     requires hand { reaper.old.order ≡ Some hand }
-    ensures desk { IsStillAt desk.old.shared.now desk.old.client desk.new.shared.now desk.new.client }
-    ensures steps { ServesHand T.told T.faults (number_of desk.old.client) hand (own_acts desk.old.client) (own_acts desk.new.client) reaper.old.children reaper.new.children reaper.new.order result }
+    ensures desk { IsStillAt (post C.given C.least desk.old) (post C.given C.least desk.new) }
+    ensures steps { ServesHand T.told T.faults (post C.given C.least desk.old) (post C.given C.least desk.new) hand reaper.old.children reaper.new.children reaper.new.order result }
     ensures keeping { Keeping T.told (own_acts desk.old.client) (own_acts desk.new.client) (get reaper.old.children) (get reaper.new.children) reaper.old.order reaper.new.order }
     ensures agreeing { Agreeing (own_acts desk.old.client) (own_acts desk.new.client) }
     ensures unanswered { OnOk result (IsUnanswered reaper.new.order) }
@@ -256,8 +261,8 @@ fn serve_order<R: Wait, T: Child, C: Clock>(
     reaper: &mut Reaper<T>,
 ) -> Result<u32, Refusal>
     requires { IsFree desk.old.shared.now desk.old.client }
-    ensures desk { IsStillAt desk.old.shared.now desk.old.client desk.new.shared.now desk.new.client }
-    ensures steps { ServesOrder T.told T.faults (number_of desk.old.client) (own_acts desk.old.client) (own_acts desk.new.client) reaper.old.children reaper.new.children reaper.old.order reaper.new.order result }
+    ensures desk { IsStillAt (post C.given C.least desk.old) (post C.given C.least desk.new) }
+    ensures steps { ServesOrder T.told T.faults (post C.given C.least desk.old) (post C.given C.least desk.new) reaper.old.children reaper.new.children reaper.old.order reaper.new.order result }
     ensures keeping { Keeping T.told (own_acts desk.old.client) (own_acts desk.new.client) (get reaper.old.children) (get reaper.new.children) reaper.old.order reaper.new.order }
     ensures agreeing { Agreeing (own_acts desk.old.client) (own_acts desk.new.client) }
     ensures unanswered { OnOk result (IsUnanswered reaper.new.order) }
@@ -277,9 +282,10 @@ fn poll_at<R: Wait, T: Child + Drop, C: Clock>(
     key: usize,
 ) -> Result<u32, Refusal>
     requires { IsFree desk.old.shared.now desk.old.client }
-    ensures place { PollsPlaces T.told T.faults key (key + 1) (own_acts desk.old.client) (own_acts desk.new.client) (get reaper.old.children) (get reaper.new.children) (unwrap_or (result_ok result) 0) (IsOk result) }
+    ensures place { PollsPlaces T.told T.faults key (key + 1) (own_acts desk.old.client) (own_acts desk.new.client) (get reaper.old.children) (get reaper.new.children) reaper.old.order reaper.new.order (unwrap_or (result_ok result) 0) (IsOk result) }
+    ensures lost { IfErr result (LosesEnd T.told T.faults (post C.given C.least desk.old) (post C.given C.least desk.new) (get reaper.old.children) (get reaper.new.children)) }
     ensures one { IfOk result (λ count. count ≤ 1) }
-    ensures desk { IsStillAt desk.old.shared.now desk.old.client desk.new.shared.now desk.new.client }
+    ensures desk { IsStillAt (post C.given C.least desk.old) (post C.given C.least desk.new) }
     ensures polling { Polling T.told (own_acts desk.old.client) (own_acts desk.new.client) (get reaper.old.children) (get reaper.new.children) reaper.old.order reaper.new.order }
 {
     match poll_child(&mut reaper.children, key) {
@@ -301,8 +307,8 @@ fn poll_all<R: Wait, T: Child + Drop, C: Clock>(
     reaper: &mut Reaper<T>,
 ) -> Result<u32, Refusal>
     requires { IsFree desk.old.shared.now desk.old.client }
-    ensures desk { IsStillAt desk.old.shared.now desk.old.client desk.new.shared.now desk.new.client }
-    ensures places { PollsAll T.told T.faults (own_acts desk.old.client) (own_acts desk.new.client) (get reaper.old.children) (get reaper.new.children) result }
+    ensures desk { IsStillAt (post C.given C.least desk.old) (post C.given C.least desk.new) }
+    ensures places { PollsAll T.told T.faults (post C.given C.least desk.old) (post C.given C.least desk.new) (get reaper.old.children) (get reaper.new.children) reaper.old.order reaper.new.order result }
     ensures polling { Polling T.told (own_acts desk.old.client) (own_acts desk.new.client) (get reaper.old.children) (get reaper.new.children) reaper.old.order reaper.new.order }
 {
     let mut reports: u32 = 0;
@@ -321,7 +327,7 @@ fn poll_all<R: Wait, T: Child + Drop, C: Clock>(
 
 /// The refusal that was met first.
 pub(crate) fn first_of(kept: Option<Refusal>, why: Refusal) -> Option<Refusal>
-    ensures { IsSome result }
+    ensures { result ≡ Some (unwrap_or kept why) }
 {
     match kept {
         Some(first) => Some(first),
@@ -329,19 +335,46 @@ pub(crate) fn first_of(kept: Option<Refusal>, why: Refusal) -> Option<Refusal>
     }
 }
 
-/// One round of the reaper.
-pub fn reap_once<R: Wait, T: Child + Drop, C: Clock>(
+/// The steps of a round of the reaper.
+fn reap_round<R: Wait, T: Child + Drop, C: Clock>(
     rt: &R,
     desk: &mut Desk<C>,
     reaper: &mut Reaper<T>,
 ) -> Result<u32, Refusal>
     requires { IsFree desk.old.shared.now desk.old.client }
-    ensures desk { IsStillAt desk.old.shared.now desk.old.client desk.new.shared.now desk.new.client }
-    ensures steps { ReapSteps T.told T.faults (number_of desk.old.client) (own_acts desk.old.client) (own_acts desk.new.client) reaper.old.children reaper.new.children reaper.old.order result }
+    ensures desk { IsStillAt (post C.given C.least desk.old) (post C.given C.least desk.new) }
+    ensures steps { ReapSteps T.told T.faults (post C.given C.least desk.old) (post C.given C.least desk.new) reaper.old.children reaper.new.children reaper.old.order reaper.new.order result }
     ensures keeping { Keeping T.told (own_acts desk.old.client) (own_acts desk.new.client) (get reaper.old.children) (get reaper.new.children) reaper.old.order reaper.new.order }
     ensures agrees { OnOk result (Agreed T.told (own_acts desk.old.client) (own_acts desk.new.client) (get reaper.old.children) reaper.old.order) }
 {
     let served = serve_order(rt, desk, reaper);
     let ended = poll_all(rt, desk, reaper);
     Ok(served?.saturating_add(ended?))
+}
+
+/// One round of the reaper: takes an order where none is in hand, delivers it where its child is there, and reports that; then
+/// polls each child once, and reports each end. The answer is the number of reports. It may wait for the turn.
+///
+/// An order in hand is kept while its child is not in the list, and while its report makes no entry. It is delivered once, and no
+/// other is taken meanwhile. It is dropped with the end of its child: where that is reported, and where it was not delivered.
+///
+/// # Errors
+///
+/// The refusal that was met first, once the polls are done. `OutOfResource` with the journal's size, where the journal has no room
+/// for the entry by which the order is taken or its delivery reported. `OutOfMemory` where memory runs out for these, and where
+/// the report of an end makes no entry, as only a stray one may.
+pub fn reap_once<R: Wait, T: Child + Drop, C: Clock>(
+    rt: &R,
+    desk: &mut Desk<C>,
+    reaper: &mut Reaper<T>,
+) -> Result<u32, Refusal>
+    requires { IsFree desk.old.shared.now desk.old.client }
+    ensures desk { IsStillAt (post C.given C.least desk.old) (post C.given C.least desk.new) }
+    ensures steps { ReapSteps T.told T.faults (post C.given C.least desk.old) (post C.given C.least desk.new) reaper.old.children reaper.new.children reaper.old.order reaper.new.order result }
+    ensures keeping { Keeping T.told (own_acts desk.old.client) (own_acts desk.new.client) (get reaper.old.children) (get reaper.new.children) reaper.old.order reaper.new.order }
+    ensures agrees { OnOk result (Agreed T.told (own_acts desk.old.client) (own_acts desk.new.client) (get reaper.old.children) reaper.old.order) }
+    ensures taking { IsTaking (post C.given C.least desk.old) (post C.given C.least desk.new) reaper.old.order result }
+    ensures err { IfErr result (IsRoundRefused (post C.given C.least desk.old) (post C.given C.least desk.new) reaper.old.order) }
+{
+    reap_round(rt, desk, reaper)
 }

@@ -6,6 +6,7 @@ use Rattle.drmaa_model.specs.declared.replies.Reply.{Reply}
 use Rattle.drmaa_machine.specs.declared.chronicles.Ask.{Ask}
 use Rattle.drmaa_machine.specs.Chronicles.{history_of}
 use Rattle.drmaa_model.specs.History.{IsLegal}
+use Rattle.turn_lock.specs.Histories.{BeginsWith}
 use Rattle.turn_lock.specs.Tokens.{Token, Named, IsFree}
 use Rattle.call_history.specs.Callers.{calls_of}
 
@@ -54,3 +55,13 @@ pub record StaysAt (shared : Named Config) (old : Seat) (shared_after : Named Co
   pub number : number_of new ≡ number_of old
   pub own : KnowsItsOwn new
   pub legal : IsLegal shared.fixed (seen_of new)
+
+-- The desk is still at its machine, and so is its client, who holds no turn, has seen all that it had seen, and, if it did before,
+-- knows its own entries and has seen a legal history.
+pub record IsStillAt (shared : Named Config) (old : Seat) (shared_after : Named Config) (new : Seat) : Type 0 where
+  pub shared_is : shared_after ≡ shared
+  pub client : IsFree shared new
+  pub number : number_of new ≡ number_of old
+  pub begins : BeginsWith (seen_of new) (seen_of old)
+  pub own : KnowsItsOwn old → KnowsItsOwn new
+  pub legal : IsLegal shared.fixed (seen_of old) → IsLegal shared.fixed (seen_of new)

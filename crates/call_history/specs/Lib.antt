@@ -6,3 +6,5 @@ pub mod Calls
 pub mod Turns
 pub mod Refused
 pub mod Looks
+pub mod Timed
+pub mod TimedLaws

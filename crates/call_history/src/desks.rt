@@ -1,10 +1,12 @@
 //! What one thread works with.
-ghost use Rattle.std.specs.Prelude.{◌≡◌, ℕ, IfOk, IfErr, Err};
+ghost use Rattle.std.specs.Prelude.{◌≡◌, ℕ, [], IfOk, IfErr, Err};
 ghost use Rattle.drmaa_model.specs.History.{IsLegal};
+ghost use Rattle.turn_lock.specs.Histories.{BeginsWith};
 ghost use Rattle.turn_lock.specs.Tokens.{IsFree};
-ghost use Rattle.call_history.specs.Clients.{seen_of, number_of, KnowsItsOwn};
+ghost use Rattle.call_history.specs.Clients.{seen_of, mine_of, number_of, KnowsItsOwn};
 ghost use Rattle.call_history.specs.Clocks.{dial};
 ghost use Rattle.call_history.specs.Calls.{IsServed, IsUnserved, IsLookedAt, IsTriedInVain};
+ghost use Rattle.call_history.specs.Timed.{begun_in, IsTimed};
 
 use crate::bells::Bell;
 use crate::machines::{Client, SharedMachine};
@@ -39,6 +41,8 @@ impl<'a, C: Clock> Desk<'a, C> {
             (dial (C.given self.new.clock) (C.least self.new.clock)) self.new.client) }
         ensures own { KnowsItsOwn self.new.client }
         ensures legal { IsLegal self.old.shared.now.fixed (seen_of self.new.client) }
+        ensures begins { BeginsWith (seen_of self.new.client) (seen_of self.old.client) }
+        ensures timed { begun_in call ≡ [] → IsTimed (mine_of self.old.client) (C.given self.old.clock) → IsTimed (mine_of self.new.client) (C.given self.new.clock) }
     {
         let served = self
             .shared
@@ -81,6 +85,7 @@ impl<'a, C: Clock> Desk<'a, C> {
             (dial (C.given self.new.clock) (C.least self.new.clock)) self.new.client }
         ensures own { KnowsItsOwn self.new.client }
         ensures legal { IsLegal self.old.shared.now.fixed (seen_of self.new.client) }
+        ensures timed { IsTimed (mine_of self.old.client) (C.given self.old.clock) → IsTimed (mine_of self.new.client) (C.given self.new.clock) }
     {
         self.shared
             .look(rt, &mut self.client, &mut self.clock, question)

@@ -140,6 +140,13 @@ impl SharedMachine {
         self.learn(to, note);
     }
 
+    /// How many clients are out. The machine can be had back once none is.
+    pub fn left(&self, opener: &MachineOpener) -> u32
+        ensures { result ≡ left_of (retired_of opener.now) }
+    {
+        opener.left()
+    }
+
     /// The machine, once every client is back. Its history is legal, begins with what the opener had seen, has for each client
     /// exactly its entries, and no entry of another number. It takes no memory.
     pub fn close(self, opener: MachineOpener) -> Machine

@@ -13,7 +13,7 @@ use Rattle.drmaa_types.specs.declared.states.Exit.TheVariants as exit
 use Rattle.drmaa_types.specs.declared.states.SignalKind.{SignalKind}
 use Rattle.drmaa_types.specs.declared.states.WaitKind.{WaitKind}
 use Rattle.drmaa_types.specs.declared.states.WaitKind.TheVariants as reached
-use Rattle.drmaa_types.specs.declared.moments.Timeout.TheVariants.{Seconds}
+use Rattle.drmaa_types.specs.declared.moments.Timeout.{Timeout}
 use Rattle.job_template.specs.declared.templates.JobTemplate.{JobTemplate}
 use Rattle.drmaa_model.specs.declared.calls.Call.{Call}
 use Rattle.drmaa_model.specs.declared.calls.Call.TheVariants as call
@@ -152,9 +152,9 @@ abbrev pub ask_info : List (List ℕ × Given) → Ref → Ref → Option Call
 ask_info names session job = number_of names session >>= λ s. number_of names job >>= λ j. Some (call.GetInfo (record { 0 = s }) (record { 0 = j }))
 
 -- a wait that began at this moment
-abbrev pub ask_wait : List (List ℕ × Given) → ℕ → WaitKind → Ref → ℕ → List Ref → Option Call
+abbrev pub ask_wait : List (List ℕ × Given) → ℕ → WaitKind → Ref → Timeout → List Ref → Option Call
 ask_wait names begun kind session timeout jobs =
-    number_of names session >>= λ s. numbers_of names jobs >>= λ js. Some (call.Wait (record { 0 = s }) js kind begun (Seconds timeout))
+    number_of names session >>= λ s. numbers_of names jobs >>= λ js. Some (call.Wait (record { 0 = s }) js kind begun timeout)
 
 abbrev pub ask_reserve : Script → List (List ℕ × Given) → Ref → List ℕ → Option Call
 ask_reserve s names session template =

@@ -2,6 +2,8 @@
 use Rattle.std.specs.Prelude.{◌≡◌, ℕ, ◌+◌, ◌≤◌, ◌==◌, nat_le, min, true, filter, map, ◌⊎◌, List, [], ◌∷◌, ◌++◌, length, take, Option, Some, None, if◌then◌else◌}
 use Rattle.drmaa_types.specs.Moments.{greatest}
 use Rattle.drmaa_types.specs.declared.identifiers.CallerId.{CallerId}
+use Rattle.drmaa_types.specs.declared.moments.Timeout.{Timeout}
+use Rattle.drmaa_types.specs.declared.moments.Timeout.TheVariants.{Seconds, Infinite}
 use Rattle.drmaa_model.specs.declared.calls.Call.{Call}
 use Rattle.drmaa_model.specs.declared.entries.Entry.{Entry}
 use Rattle.drmaa_model.specs.declared.replies.Reply.{Reply}
@@ -65,6 +67,12 @@ names_by s names (l ∷ ls) es =
 abbrev pub setup_names : Script → List Entry → List (List ℕ × Given)
 setup_names s es = names_by s [] (lines_of s.setup) es
 
+-- how many seconds a wait lasts in a play on one thread: one without end is as long as the greatest moment, so that its second
+-- look is at that moment
+abbrev pub seconds_of : Timeout → ℕ
+seconds_of (Seconds seconds) = seconds
+seconds_of Infinite = greatest
+
 -- Whose turn a line is in a play on one thread, or the moment that it sets; a wait has its timeout in seconds.
 pub data Turn : Type 0 where
   sets : (moment : ℕ) → Turn
@@ -102,8 +110,8 @@ turn_of (line.Reap session job) = a_client
 turn_of (line.ReapArray session array) = a_client
 turn_of (line.State session job) = a_client
 turn_of (line.Info session job) = a_client
-turn_of (line.WaitStarted session timeout jobs) = waits timeout
-turn_of (line.WaitTerminated session timeout jobs) = waits timeout
+turn_of (line.WaitStarted session timeout jobs) = waits (seconds_of timeout)
+turn_of (line.WaitTerminated session timeout jobs) = waits (seconds_of timeout)
 turn_of (line.Reserve name session template) = a_client
 turn_of (line.Reservation session reservation) = a_client
 turn_of (line.Reservations session) = a_client

@@ -244,7 +244,7 @@ fn ask_wait(
     begun: Moment,
     kind: WaitKind,
     session: &Ref,
-    timeout: u64,
+    timeout: Timeout,
     jobs: &[Ref],
 ) -> Result<Option<Call>, AllocError>
     ensures { IfOk result (λ c. c ≡ asks.ask_wait names.now begun kind session.now timeout jobs.now) }
@@ -258,7 +258,7 @@ fn ask_wait(
             jobs,
             kind,
             begun,
-            timeout: Timeout::Seconds(timeout),
+            timeout,
         })),
         None => Ok(None),
     }

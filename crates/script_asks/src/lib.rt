@@ -10,3 +10,4 @@ mod templates;
 pub use asking::ask;
 pub use attempts::Attempts;
 pub use given::{Given, with_reply};
+pub use numbers::{number_of, numbers_of};

@@ -50,7 +50,7 @@ fn found(names: &Keyed<Given>, name: &Text) -> Option<Given>
 }
 
 /// The number that a reference stands for. None where its name has none.
-pub(crate) fn number_of(names: &Keyed<Given>, reference: &Ref) -> Option<u64>
+pub fn number_of(names: &Keyed<Given>, reference: &Ref) -> Option<u64>
     ensures { result ≡ asks.number_of names.now reference.now }
 {
     match reference {
@@ -90,7 +90,7 @@ fn items_of(
 }
 
 /// The numbers of these references. None where one has none.
-pub(crate) fn numbers_of(
+pub fn numbers_of(
     alloc: Global,
     names: &Keyed<Given>,
     references: &[Ref],

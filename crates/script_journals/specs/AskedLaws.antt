@@ -15,7 +15,7 @@ use Rattle.text_codec.specs.Formats.{◌>>=◌, checked}
 use Rattle.text_codec.specs.Fields.{always, no_more}
 use Rattle.text_forms.specs.Templates.{is_other, other_form}
 use Rattle.journal_forms.specs.Calls.{has_others}
-use Rattle.drmaa_types.specs.declared.moments.Timeout.TheVariants.{Seconds}
+use Rattle.drmaa_types.specs.declared.moments.Timeout.{Timeout}
 use Rattle.drmaa_types.specs.declared.states.Control.{Control}
 use Rattle.drmaa_types.specs.declared.states.Control.TheVariants as control
 use Rattle.drmaa_types.specs.declared.states.Exit.{Exit}
@@ -208,11 +208,11 @@ info-holds : (names : List (List ℕ × Given)) (session job : Ref) → Holds (a
 unfolding Holds
 info-holds names session job = bind-holds (number_of names session) (λ s. number_of names job >>= λ j. Some (call.GetInfo (record { 0 = s }) (record { 0 = j }))) (λ s. bind-holds (number_of names job) (λ j. Some (call.GetInfo (record { 0 = s }) (record { 0 = j }))) (λ j. refl))
 
-wait-holds : (names : List (List ℕ × Given)) (begun : ℕ) (kind : WaitKind) (session : Ref) (timeout : ℕ) (jobs : List Ref) → Holds (ask_wait names begun kind session timeout jobs)
+wait-holds : (names : List (List ℕ × Given)) (begun : ℕ) (kind : WaitKind) (session : Ref) (timeout : Timeout) (jobs : List Ref) → Holds (ask_wait names begun kind session timeout jobs)
 unfolding Holds
 wait-holds names begun kind session timeout jobs =
-    bind-holds (number_of names session) (λ s. numbers_of names jobs >>= λ js. Some (call.Wait (record { 0 = s }) js kind begun (Seconds timeout))) (λ s.
-    bind-holds (numbers_of names jobs) (λ js. Some (call.Wait (record { 0 = s }) js kind begun (Seconds timeout))) (λ js. refl))
+    bind-holds (number_of names session) (λ s. numbers_of names jobs >>= λ js. Some (call.Wait (record { 0 = s }) js kind begun timeout)) (λ s.
+    bind-holds (numbers_of names jobs) (λ js. Some (call.Wait (record { 0 = s }) js kind begun timeout)) (λ js. refl))
 
 reservation-holds : (names : List (List ℕ × Given)) (session reserved : Ref) → Holds (ask_reservation names session reserved)
 unfolding Holds

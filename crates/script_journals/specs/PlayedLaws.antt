@@ -1,15 +1,13 @@
 -- The journal of a script's play may be printed, and read again.
-use Rattle.std.proofs.Common.{◌≡◌, ℕ, ◌+◌, Bool, true, false, cond, nat_le, List, [], ◌∷◌, ◌++◌, length, map, codes, Option, Some, None, refl, sym, ap, subst, ◌∙◌}
+use Rattle.std.proofs.Common.{◌≡◌, ℕ, ◌+◌, Bool, true, false, cond, nat_le, List, [], ◌∷◌, ◌++◌, length, map, Option, Some, None, refl, sym, ap, subst, ◌∙◌}
 use Rattle.std.specs.List.{AllByRecursion}
 use Rattle.drmaa_types.specs.declared.identifiers.CallerId.{CallerId}
-use Rattle.job_template.specs.declared.templates.JobTemplate.{JobTemplate}
-use Rattle.job_template.specs.declared.templates.ResourceLimit.{ResourceLimit}
 use Rattle.drmaa_model.specs.declared.calls.Call.{Call}
-use Rattle.drmaa_model.specs.declared.calls.Call.TheVariants as call
 use Rattle.drmaa_model.specs.declared.configs.Config.{Config}
+use Rattle.drmaa_model.specs.declared.entries.Entry.{Entry}
 use Rattle.drmaa_model.specs.declared.replies.Reply.{Reply}
 use Rattle.drmaa_model.specs.Effects.{StepAnswer, gives, nothing, not_yet}
-use Rattle.drmaa_model.specs.KeptCalls.{kept, kept_template, kept_limit, is_word}
+use Rattle.drmaa_model.specs.KeptCalls.{kept}
 use Rattle.drmaa_model.specs.RowLaws.{all-push}
 use Rattle.drmaa_model.specs.Size.{size}
 use Rattle.drmaa_model.specs.Steps.{answer}
@@ -31,98 +29,7 @@ use Rattle.script_asks.specs.Plays.Turn.{sets, waits, a_client, the_launcher, th
 use Rattle.script_asks.specs.Replies.{names_after, last_attempt}
 use Rattle.script_journals.specs.AnsweredLaws.{answer-stands}
 use Rattle.script_journals.specs.AskedLaws.{HasOthers, Holds, makes-others, asks-holds}
-
--- ---- what is kept of a call
-
-limit-kept : (l : ResourceLimit) → kept_limit (kept_limit l) ≡ kept_limit l
-limit-kept l =
-    (elim (is_word l.name) as (λ b. is_word l.name ≡ b → kept_limit (cond b l (record l { name = codes "OTHER" })) ≡ cond b l (record l { name = codes "OTHER" })) [
-      | true ↦ λ e. ap (λ b. cond b l (record l { name = codes "OTHER" })) e
-      | false ↦ λ e. refl
-    ]) refl
-
-limits-kept : (ls : List ResourceLimit) → map kept_limit (map kept_limit ls) ≡ map kept_limit ls
-limits-kept [] = refl
-limits-kept (l ∷ ls) = ap (λ x. x ∷ map kept_limit (map kept_limit ls)) (limit-kept l) ∙ ap (λ xs. kept_limit l ∷ xs) (limits-kept ls)
-
-template-kept : (t : JobTemplate) → kept_template (kept_template t) ≡ kept_template t
-template-kept t = ap (λ ls. record t { resource_limits = ls }) (limits-kept t.resource_limits)
-
-kept-twice : (c : Call) → kept (kept c) ≡ kept c
-kept-twice (call.CreateJobSession name) = refl
-kept-twice (call.CreateReservationSession name) = refl
-kept-twice (call.OpenJobSession name) = refl
-kept-twice (call.OpenReservationSession name) = refl
-kept-twice (call.DestroyJobSession name) = refl
-kept-twice (call.DestroyReservationSession name) = refl
-kept-twice call.JobSessionNames = refl
-kept-twice call.ReservationSessionNames = refl
-kept-twice call.OpenMonitoring = refl
-kept-twice (call.CloseSession session) = refl
-kept-twice (call.RunJob session t) = ap (call.RunJob session) (template-kept t)
-kept-twice (call.RunBulk session t indices) = ap (λ u. call.RunBulk session u indices) (template-kept t)
-kept-twice (call.GetJobs session f) = refl
-kept-twice (call.GetJobArray session array) = refl
-kept-twice (call.Control session meant what) = refl
-kept-twice (call.Reap session meant) = refl
-kept-twice (call.GetState session job) = refl
-kept-twice (call.GetInfo session job) = refl
-kept-twice (call.Wait session listed kind begins timeout) = refl
-kept-twice (call.RequestReservation session t) = refl
-kept-twice (call.GetReservation session number) = refl
-kept-twice (call.GetReservations session) = refl
-kept-twice (call.EndReservation session number) = refl
-kept-twice (call.AllJobs session f) = refl
-kept-twice (call.AllReservations session) = refl
-kept-twice (call.AllQueues session) = refl
-kept-twice (call.AllMachines session) = refl
-kept-twice call.Register = refl
-kept-twice call.TakeLaunch = refl
-kept-twice (call.Started job attempt) = refl
-kept-twice (call.StartFailed job attempt) = refl
-kept-twice (call.Exited job attempt exit) = refl
-kept-twice (call.ExitUnknown job attempt) = refl
-kept-twice call.TakeSignal = refl
-kept-twice (call.SignalDone job attempt kind) = refl
-kept-twice (call.SignalFailed job attempt kind) = refl
-
-kept-others : (c : Call) → has_others (kept c) ≡ has_others c
-kept-others (call.CreateJobSession name) = refl
-kept-others (call.CreateReservationSession name) = refl
-kept-others (call.OpenJobSession name) = refl
-kept-others (call.OpenReservationSession name) = refl
-kept-others (call.DestroyJobSession name) = refl
-kept-others (call.DestroyReservationSession name) = refl
-kept-others call.JobSessionNames = refl
-kept-others call.ReservationSessionNames = refl
-kept-others call.OpenMonitoring = refl
-kept-others (call.CloseSession session) = refl
-kept-others (call.RunJob session t) = refl
-kept-others (call.RunBulk session t indices) = refl
-kept-others (call.GetJobs session f) = refl
-kept-others (call.GetJobArray session array) = refl
-kept-others (call.Control session meant what) = refl
-kept-others (call.Reap session meant) = refl
-kept-others (call.GetState session job) = refl
-kept-others (call.GetInfo session job) = refl
-kept-others (call.Wait session listed kind begins timeout) = refl
-kept-others (call.RequestReservation session t) = refl
-kept-others (call.GetReservation session number) = refl
-kept-others (call.GetReservations session) = refl
-kept-others (call.EndReservation session number) = refl
-kept-others (call.AllJobs session f) = refl
-kept-others (call.AllReservations session) = refl
-kept-others (call.AllQueues session) = refl
-kept-others (call.AllMachines session) = refl
-kept-others call.Register = refl
-kept-others call.TakeLaunch = refl
-kept-others (call.Started job attempt) = refl
-kept-others (call.StartFailed job attempt) = refl
-kept-others (call.Exited job attempt exit) = refl
-kept-others (call.ExitUnknown job attempt) = refl
-kept-others call.TakeSignal = refl
-kept-others (call.SignalDone job attempt kind) = refl
-kept-others (call.SignalFailed job attempt kind) = refl
+use Rattle.script_journals.specs.KeptLaws.{kept-twice, kept-others}
 
 -- ---- the play
 
@@ -221,12 +128,20 @@ machine-stands m valid = valid.1
 no-templates : (m : ℕ × (List ℕ × Bool)) → HasOthers (begun m)
 no-templates m = record { jobs = tt; reservations = tt }
 
--- The journal of the play of a script that lines spell may be printed, and read again.
-pub play-printable : (mode : Mode) (lines : List (List ℕ)) (s : Script) → Spells mode lines s → IsPrintable s.config (serial_play s).entries
-play-printable mode lines s is =
+-- The machine of a script that lines spell is one of a journal.
+pub spelled-printable : (mode : Mode) (lines : List (List ℕ)) (s : Script) (es : List Entry) → Spells mode lines s → AllByRecursion MayStand es → IsPrintable s.config es
+spelled-printable mode lines s es is all =
     let same : s.config ≡ config_of is.machine = makes-config mode (begun is.machine) is.parts s is.makes in
     record {
       machine = subst (λ (c : Config). is_machine (machine_of c) ≡ true) (sym same) (machine-stands is.machine is.valid);
       size = ap (λ (c : Config). c.journal) same;
-      entries = play-stands s (makes-others mode (begun is.machine) is.parts s is.makes (no-templates is.machine));
+      entries = all;
     }
+
+-- No template of such a script has an attribute of another form under `other`.
+pub spelled-others : (mode : Mode) (lines : List (List ℕ)) (s : Script) → Spells mode lines s → HasOthers s
+spelled-others mode lines s is = makes-others mode (begun is.machine) is.parts s is.makes (no-templates is.machine)
+
+-- The journal of the play of a script that lines spell may be printed, and read again.
+pub play-printable : (mode : Mode) (lines : List (List ℕ)) (s : Script) → Spells mode lines s → IsPrintable s.config (serial_play s).entries
+play-printable mode lines s is = spelled-printable mode lines s (serial_play s).entries is (play-stands s (spelled-others mode lines s is))

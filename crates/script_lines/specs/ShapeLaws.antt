@@ -1,9 +1,11 @@
 -- The laws of what stands behind the words of lines: a line for each part, and that no line has more that is barred.
-use Rattle.std.proofs.Common.{◌≡◌, ◌^◌, true, [], codes, lit≤, refl, arith}
+use Rattle.std.proofs.Common.{◌≡◌, ℕ, ◌^◌, true, [], Option, Some, None, codes, lit≤, refl, arith}
+use Rattle.drmaa_types.specs.declared.moments.Timeout.{Timeout}
+use Rattle.drmaa_types.specs.declared.moments.Timeout.TheVariants.{Seconds, Infinite}
 use Rattle.text_codec.specs.Formats.{IsFormat, number}
 use Rattle.text_codec.specs.Fields.{AreFields, always, field, repeated, no_more}
 use Rattle.text_codec.specs.Sums.{covers}
-use Rattle.text_codec.specs.FormatLaws.{or_else_laws}
+use Rattle.text_codec.specs.FormatLaws.{mapped_laws, or_else_laws}
 use Rattle.text_codec.specs.FieldLaws.{no_more_laws, field_laws, always_laws, repeated_laws}
 use Rattle.text_codec.specs.BaseLaws.{text_laws, number_laws_64, number_laws_32, number_laws_8, number_avoids}
 use Rattle.text_codec.specs.WordLaws.{name_laws}
@@ -16,7 +18,7 @@ use Rattle.text_words.specs.WordLaws.{state_laws, kind_laws}
 use Rattle.script_lines.specs.Refs.{reference}
 use Rattle.script_lines.specs.RefLaws.{ref_laws}
 use Rattle.script_lines.specs.Lines.{line_barred}
-use Rattle.script_lines.specs.Shapes.{text_fields, name_fields, ref_fields, said_fields, create_fields, open_fields, two_fields, reserve_fields, exit_fields, kind_fields, wait_fields, run_fields, bound_form, index_fields, bulk_fields, sought_fields, filter_fields, jobs_fields}
+use Rattle.script_lines.specs.Shapes.{text_fields, name_fields, ref_fields, said_fields, create_fields, open_fields, two_fields, reserve_fields, exit_fields, kind_fields, make_timeout, timeout_part, timeout_form, wait_fields, run_fields, bound_form, index_fields, bulk_fields, sought_fields, filter_fields, jobs_fields}
 
 pub text_behind : AreFields text_fields
 unfolding text_fields
@@ -61,11 +63,26 @@ pub kind_behind : AreFields kind_fields
 unfolding kind_fields
 kind_behind = always_laws (codes " ") reference _ refl ref_laws (always_laws (codes " ") kind_form _ refl kind_laws no_more_laws)
 
+part_of_made : (x : Option ℕ) → timeout_part (make_timeout x) ≡ x
+part_of_made None = refl
+part_of_made (Some seconds) = refl
+
+made_of_part : (t : Timeout) → make_timeout (timeout_part t) ≡ t
+made_of_part Infinite = refl
+made_of_part (Seconds seconds) = refl
+
+timeout_laws : IsFormat timeout_form
+unfolding timeout_form
+timeout_laws =
+    mapped_laws make_timeout timeout_part _
+    (or_else_laws (codes "infinite") (number (2 ^ 64)) refl number_laws_64 (number_avoids (2 ^ 64) 105 (lit≤ tt) (λ a b. absurd (omega (arith, b))) (codes "nfinite")))
+    (λ x v. part_of_made x) (λ t v. made_of_part t)
+
 pub wait_behind : AreFields wait_fields
 unfolding wait_fields no_more
 wait_behind =
     always_laws (codes " ") reference _ refl ref_laws (
-    always_laws (codes " ") (number (2 ^ 64)) _ refl number_laws_64 (
+    always_laws (codes " ") timeout_form _ refl timeout_laws (
     repeated_laws (codes " ") reference _ ref_laws no_more_laws refl))
 
 pub run_behind : AreFields run_fields

@@ -1,8 +1,10 @@
 -- What stands behind the words of lines: our profile.
-use Rattle.std.specs.Prelude.{ℕ, ◌^◌, List, Option, codes}
+use Rattle.std.specs.Prelude.{ℕ, ◌^◌, List, Option, Some, None, codes}
+use Rattle.drmaa_types.specs.declared.moments.Timeout.{Timeout}
+use Rattle.drmaa_types.specs.declared.moments.Timeout.TheVariants.{Seconds, Infinite}
 use Rattle.drmaa_types.specs.declared.states.JobState.{JobState}
 use Rattle.drmaa_types.specs.declared.states.SignalKind.{SignalKind}
-use Rattle.text_codec.specs.Formats.{Format, number, or_else}
+use Rattle.text_codec.specs.Formats.{Format, number, mapped, or_else}
 use Rattle.text_codec.specs.Fields.{Fields, always, field, repeated, no_more}
 use Rattle.text_codec.specs.Quotes.{text}
 use Rattle.text_codec.specs.Words.{name}
@@ -50,9 +52,21 @@ exit_fields = always (codes " ") reference (always (codes " ") (number (2 ^ 8)) 
 unfoldable pub kind_fields : Fields (Ref × (SignalKind × Unit {0}))
 kind_fields = always (codes " ") reference (always (codes " ") kind_form no_more)
 
--- a session, a timeout in seconds, and jobs
-unfoldable pub wait_fields : Fields (Ref × (ℕ × (List Ref × Unit {0})))
-wait_fields = always (codes " ") reference (always (codes " ") (number (2 ^ 64)) (repeated (codes " ") reference no_more))
+-- how long a wait lasts: a number of seconds, or without end
+abbrev pub make_timeout : Option ℕ → Timeout
+make_timeout None = Infinite
+make_timeout (Some seconds) = Seconds seconds
+
+abbrev pub timeout_part : Timeout → Option ℕ
+timeout_part Infinite = None
+timeout_part (Seconds seconds) = Some seconds
+
+unfoldable pub timeout_form : Format Timeout
+timeout_form = mapped make_timeout timeout_part (or_else (codes "infinite") (number (2 ^ 64)))
+
+-- a session, a timeout, and jobs
+unfoldable pub wait_fields : Fields (Ref × (Timeout × (List Ref × Unit {0})))
+wait_fields = always (codes " ") reference (always (codes " ") timeout_form (repeated (codes " ") reference no_more))
 
 -- a name, a session, a template, and a reservation that may be left out
 unfoldable pub run_fields : Fields (List ℕ × (Ref × (List ℕ × (Option Ref × Unit {0}))))

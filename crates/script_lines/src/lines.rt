@@ -1,6 +1,6 @@
 //! The lines of blocks: what each says.
 use crate::Ref;
-use drmaa_types::{JobState, ListOf, SignalKind, Text};
+use drmaa_types::{JobState, ListOf, SignalKind, Text, Timeout};
 use text_dates::Said;
 
 /// What jobs are listed by; a field that is unset lets every job through.
@@ -161,16 +161,16 @@ pub enum Line {
         session: Ref,
         job: Ref,
     },
-    /// `wait-started S TIMEOUT J..`; the timeout is in seconds.
+    /// `wait-started S TIMEOUT J..`; the timeout is a number of seconds, or `infinite`.
     WaitStarted {
         session: Ref,
-        timeout: u64,
+        timeout: Timeout,
         jobs: ListOf<Ref>,
     },
-    /// `wait-terminated S TIMEOUT J..`; the timeout is in seconds.
+    /// `wait-terminated S TIMEOUT J..`; the timeout is a number of seconds, or `infinite`.
     WaitTerminated {
         session: Ref,
-        timeout: u64,
+        timeout: Timeout,
         jobs: ListOf<Ref>,
     },
     /// `reserve NAME S RTEMPLATE`.

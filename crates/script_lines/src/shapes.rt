@@ -4,7 +4,7 @@ ghost use Rattle.text_codec.specs.Formats.{Answers};
 ghost use Rattle.script_lines.specs.Shapes as shapes;
 
 use crate::Ref;
-use drmaa_types::{ListOf, SignalKind, Text};
+use drmaa_types::{ListOf, SignalKind, Text, Timeout};
 use text_codec::{Cursor, Form, Unread, read_all, read_name, read_set};
 use text_dates::Said;
 use text_words::ReadForm;
@@ -14,6 +14,9 @@ pub(crate) type Indexed = (u32, (u32, (u32, (Option<u32>, (Option<Ref>, ())))));
 
 /// A name, a session, a template, and a reservation.
 pub(crate) type Ran = (Text, (Ref, (Text, (Option<Ref>, ()))));
+
+/// A session, how long the wait lasts, and jobs.
+pub(crate) type Waited = (Ref, (Timeout, (ListOf<Ref>, ())));
 
 /// A name, a session, a template, and the indices.
 pub(crate) type Bulk = (Text, (Ref, (Text, Indexed)));
@@ -121,14 +124,26 @@ pub(crate) fn kind_behind(cursor: &mut Cursor) -> Result<(Ref, (SignalKind, ()))
     Ok((job, (kind, ())))
 }
 
+/// Reads how long a wait lasts: a number of seconds, or `infinite`.
+#[tactic(auto, unfolding(crate::specs::Shapes::timeout_form, text_codec::specs::Formats::mapped, text_codec::specs::Formats::or_else))]
+fn timeout_at(cursor: &mut Cursor) -> Result<Timeout, Unread>
+    ensures { Answers shapes.timeout_form.read cursor.old result cursor.new }
+{
+    if cursor.skip(b"infinite") {
+        return Ok(Timeout::Infinite);
+    }
+    let seconds = cursor.u64()?;
+    Ok(Timeout::Seconds(seconds))
+}
+
 #[tactic(auto, unfolding(crate::specs::Shapes::wait_fields, text_codec::specs::Fields::always, text_codec::specs::Fields::repeated, text_codec::specs::Fields::no_more))]
-pub(crate) fn wait_behind(cursor: &mut Cursor) -> Result<(Ref, (u64, (ListOf<Ref>, ()))), Unread>
+pub(crate) fn wait_behind(cursor: &mut Cursor) -> Result<Waited, Unread>
     ensures { Answers shapes.wait_fields.body.read cursor.old result cursor.new }
 {
     cursor.expect(b" ")?;
     let session = Ref::read(cursor)?;
     cursor.expect(b" ")?;
-    let timeout = cursor.u64()?;
+    let timeout = timeout_at(cursor)?;
     let jobs = read_all(cursor, b" ")?;
     Ok((session, (timeout, (jobs, ()))))
 }

@@ -3,7 +3,7 @@ ghost use Rattle.std.specs.Prelude.{◌≡◌, ◌≤◌};
 ghost use Rattle.script_asks.specs.Plays as plays;
 ghost use Rattle.script_play.specs.Crews.{crew_meant, turn_meant};
 
-use drmaa_types::{CallerId, Moment};
+use drmaa_types::{CallerId, Moment, Timeout};
 use script_lines::Line;
 
 /// The client whose block is played, and the launcher and the reaper, whose numbers are above those of all clients.
@@ -37,6 +37,16 @@ pub fn crew_of(clients: u32, number: u32) -> Crew
     }
 }
 
+/// How many seconds a wait lasts; one without end is as long as the greatest moment.
+fn seconds_of(timeout: Timeout) -> u64
+    ensures { result ≡ plays.seconds_of timeout }
+{
+    match timeout {
+        Timeout::Seconds(seconds) => seconds,
+        Timeout::Infinite => Moment::greatest().number(),
+    }
+}
+
 /// Whose turn a line is.
 pub fn turn_of(line: &Line) -> Turn
     ensures { turn_meant result ≡ plays.turn_of line.now }
@@ -44,7 +54,7 @@ pub fn turn_of(line: &Line) -> Turn
     match line {
         Line::At { moment } => Turn::Sets(moment.moment),
         Line::WaitStarted { timeout, .. } | Line::WaitTerminated { timeout, .. } => {
-            Turn::Waits(*timeout)
+            Turn::Waits(seconds_of(*timeout))
         }
         Line::Launch | Line::Started { .. } | Line::StartFailed { .. } => Turn::Launcher,
         Line::Exit { .. }

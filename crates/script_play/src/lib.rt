@@ -10,4 +10,6 @@ mod players;
 mod serial;
 
 pub use laws::each_script_can_be_played;
-pub use serial::{Played, play};
+pub use names::Names;
+pub use players::beginning;
+pub use serial::{Played, copy_of, play};

@@ -62,7 +62,7 @@ impl Looked {
 
 /// The least moment.
 #[tactic(auto, unfolding(drmaa_types::specs::Moments::greatest))]
-fn beginning() -> Moment
+pub fn beginning() -> Moment
     ensures { result ≡ 0 }
 {
     match Moment::new(0) {

@@ -21,7 +21,7 @@ pub struct Played {
 }
 
 /// This configuration once more.
-fn copy_of(config: &Config) -> Result<Config, AllocError>
+pub fn copy_of(config: &Config) -> Result<Config, AllocError>
     ensures { IfOk result (λ copy. copy ≡ config.now) }
 {
     Ok(Config {

@@ -1,6 +1,8 @@
 -- Which line may stand behind earlier ones: our profile.
 use Rattle.std.specs.Prelude.{◌&&◌, not, Bool, true, false, List, [], Option, Some, None}
 use Rattle.std.specs.List.{list_all}
+use Rattle.drmaa_types.specs.declared.moments.Timeout.{Timeout}
+use Rattle.drmaa_types.specs.declared.moments.Timeout.TheVariants.{Seconds, Infinite}
 use Rattle.script_lines.specs.declared.lines.Line.{Line}
 use Rattle.script_lines.specs.declared.lines.Line.TheVariants as line
 use Rattle.script_text.specs.declared.scripts.Mode.{Mode}
@@ -120,9 +122,170 @@ is_wait line.Signal = false
 is_wait (line.SignalDone job kind) = false
 is_wait (line.SignalFailed job kind) = false
 
--- the lines of this kind of script, in the setup block or a client's: no wait stands in the setup block
+abbrev pub is_infinite : Timeout → Bool
+is_infinite (Seconds seconds) = false
+is_infinite Infinite = true
+
+-- a wait without end
+abbrev pub is_endless_wait : Line → Bool
+is_endless_wait (line.CreateJobs name session) = false
+is_endless_wait (line.CreateReservations name session) = false
+is_endless_wait (line.OpenJobs name session) = false
+is_endless_wait (line.OpenReservations name session) = false
+is_endless_wait (line.DestroyJobs session) = false
+is_endless_wait (line.DestroyReservations session) = false
+is_endless_wait line.NamesJobs = false
+is_endless_wait line.NamesReservations = false
+is_endless_wait (line.Monitor name) = false
+is_endless_wait (line.Close session) = false
+is_endless_wait (line.Run name session template reserved) = false
+is_endless_wait (line.Bulk name session template begin end step bound reserved) = false
+is_endless_wait (line.Jobs session filter) = false
+is_endless_wait (line.Array session array) = false
+is_endless_wait (line.Suspend session job) = false
+is_endless_wait (line.Resume session job) = false
+is_endless_wait (line.Hold session job) = false
+is_endless_wait (line.Release session job) = false
+is_endless_wait (line.Terminate session job) = false
+is_endless_wait (line.SuspendArray session array) = false
+is_endless_wait (line.ResumeArray session array) = false
+is_endless_wait (line.HoldArray session array) = false
+is_endless_wait (line.ReleaseArray session array) = false
+is_endless_wait (line.TerminateArray session array) = false
+is_endless_wait (line.Reap session job) = false
+is_endless_wait (line.ReapArray session array) = false
+is_endless_wait (line.State session job) = false
+is_endless_wait (line.Info session job) = false
+is_endless_wait (line.WaitStarted session timeout jobs) = is_infinite timeout
+is_endless_wait (line.WaitTerminated session timeout jobs) = is_infinite timeout
+is_endless_wait (line.Reserve name session template) = false
+is_endless_wait (line.Reservation session reservation) = false
+is_endless_wait (line.Reservations session) = false
+is_endless_wait (line.Cancel session reservation) = false
+is_endless_wait (line.AllJobs session filter) = false
+is_endless_wait (line.AllReservations session) = false
+is_endless_wait (line.Queues session) = false
+is_endless_wait (line.Machines session) = false
+is_endless_wait line.Register = false
+is_endless_wait (line.At moment) = false
+is_endless_wait line.Launch = false
+is_endless_wait (line.Started job) = false
+is_endless_wait (line.StartFailed job) = false
+is_endless_wait (line.Exit job code) = false
+is_endless_wait (line.ExitSignal job signal) = false
+is_endless_wait (line.ExitUnknown job) = false
+is_endless_wait line.Signal = false
+is_endless_wait (line.SignalDone job kind) = false
+is_endless_wait (line.SignalFailed job kind) = false
+
+-- what a serial script alone has: lines that set the moment, and those of the launcher and of the reaper
+abbrev pub is_serial_line : Line → Bool
+is_serial_line (line.CreateJobs name session) = false
+is_serial_line (line.CreateReservations name session) = false
+is_serial_line (line.OpenJobs name session) = false
+is_serial_line (line.OpenReservations name session) = false
+is_serial_line (line.DestroyJobs session) = false
+is_serial_line (line.DestroyReservations session) = false
+is_serial_line line.NamesJobs = false
+is_serial_line line.NamesReservations = false
+is_serial_line (line.Monitor name) = false
+is_serial_line (line.Close session) = false
+is_serial_line (line.Run name session template reserved) = false
+is_serial_line (line.Bulk name session template begin end step bound reserved) = false
+is_serial_line (line.Jobs session filter) = false
+is_serial_line (line.Array session array) = false
+is_serial_line (line.Suspend session job) = false
+is_serial_line (line.Resume session job) = false
+is_serial_line (line.Hold session job) = false
+is_serial_line (line.Release session job) = false
+is_serial_line (line.Terminate session job) = false
+is_serial_line (line.SuspendArray session array) = false
+is_serial_line (line.ResumeArray session array) = false
+is_serial_line (line.HoldArray session array) = false
+is_serial_line (line.ReleaseArray session array) = false
+is_serial_line (line.TerminateArray session array) = false
+is_serial_line (line.Reap session job) = false
+is_serial_line (line.ReapArray session array) = false
+is_serial_line (line.State session job) = false
+is_serial_line (line.Info session job) = false
+is_serial_line (line.WaitStarted session timeout jobs) = false
+is_serial_line (line.WaitTerminated session timeout jobs) = false
+is_serial_line (line.Reserve name session template) = false
+is_serial_line (line.Reservation session reservation) = false
+is_serial_line (line.Reservations session) = false
+is_serial_line (line.Cancel session reservation) = false
+is_serial_line (line.AllJobs session filter) = false
+is_serial_line (line.AllReservations session) = false
+is_serial_line (line.Queues session) = false
+is_serial_line (line.Machines session) = false
+is_serial_line line.Register = false
+is_serial_line (line.At moment) = true
+is_serial_line line.Launch = true
+is_serial_line (line.Started job) = true
+is_serial_line (line.StartFailed job) = true
+is_serial_line (line.Exit job code) = true
+is_serial_line (line.ExitSignal job signal) = true
+is_serial_line (line.ExitUnknown job) = true
+is_serial_line line.Signal = true
+is_serial_line (line.SignalDone job kind) = true
+is_serial_line (line.SignalFailed job kind) = true
+
+abbrev pub is_register : Line → Bool
+is_register (line.CreateJobs name session) = false
+is_register (line.CreateReservations name session) = false
+is_register (line.OpenJobs name session) = false
+is_register (line.OpenReservations name session) = false
+is_register (line.DestroyJobs session) = false
+is_register (line.DestroyReservations session) = false
+is_register line.NamesJobs = false
+is_register line.NamesReservations = false
+is_register (line.Monitor name) = false
+is_register (line.Close session) = false
+is_register (line.Run name session template reserved) = false
+is_register (line.Bulk name session template begin end step bound reserved) = false
+is_register (line.Jobs session filter) = false
+is_register (line.Array session array) = false
+is_register (line.Suspend session job) = false
+is_register (line.Resume session job) = false
+is_register (line.Hold session job) = false
+is_register (line.Release session job) = false
+is_register (line.Terminate session job) = false
+is_register (line.SuspendArray session array) = false
+is_register (line.ResumeArray session array) = false
+is_register (line.HoldArray session array) = false
+is_register (line.ReleaseArray session array) = false
+is_register (line.TerminateArray session array) = false
+is_register (line.Reap session job) = false
+is_register (line.ReapArray session array) = false
+is_register (line.State session job) = false
+is_register (line.Info session job) = false
+is_register (line.WaitStarted session timeout jobs) = false
+is_register (line.WaitTerminated session timeout jobs) = false
+is_register (line.Reserve name session template) = false
+is_register (line.Reservation session reservation) = false
+is_register (line.Reservations session) = false
+is_register (line.Cancel session reservation) = false
+is_register (line.AllJobs session filter) = false
+is_register (line.AllReservations session) = false
+is_register (line.Queues session) = false
+is_register (line.Machines session) = false
+is_register line.Register = true
+is_register (line.At moment) = false
+is_register line.Launch = false
+is_register (line.Started job) = false
+is_register (line.StartFailed job) = false
+is_register (line.Exit job code) = false
+is_register (line.ExitSignal job signal) = false
+is_register (line.ExitUnknown job) = false
+is_register line.Signal = false
+is_register (line.SignalDone job kind) = false
+is_register (line.SignalFailed job kind) = false
+
+-- The lines of each kind of script, in the setup block or a client's. No wait stands in the setup block. A serial script has
+-- no wait without end, and a script for threads no line of a serial script alone and no `register`.
 abbrev pub belongs : Mode → Bool → Line → Bool
-belongs mode.Serial in_setup l = not (in_setup && is_wait l)
+belongs mode.Serial in_setup l = not (in_setup && is_wait l) && not (is_endless_wait l)
+belongs mode.Threads in_setup l = not (in_setup && is_wait l) && not (is_serial_line l) && not (is_register l)
 
 abbrev pub may_stand : Mode → Bool → Script → List Line → Line → Bool
 may_stand m in_setup s earlier l = belongs m in_setup l && may_follow s earlier l

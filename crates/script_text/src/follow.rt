@@ -8,7 +8,7 @@ use crate::bindings::{
     are_jobs, bound, if_job, is_array, is_job, is_reservation, is_reserved, is_session, is_there,
 };
 use crate::{Block, Mode, Script};
-use drmaa_types::Text;
+use drmaa_types::{Text, Timeout};
 use script_lines::{Filter, Line, Ref};
 
 /// Whether these are a session and a job.
@@ -164,18 +164,64 @@ fn is_free(script: &Script, block: &Block, line: &Line) -> bool
     }
 }
 
+/// Whether a line waits for jobs.
 fn is_wait(line: &Line) -> bool
     ensures { result ≡ follows.is_wait line.now }
 {
     matches!(line, Line::WaitStarted { .. } | Line::WaitTerminated { .. })
 }
 
+fn is_infinite(timeout: Timeout) -> bool
+    ensures { result ≡ follows.is_infinite timeout }
+{
+    matches!(timeout, Timeout::Infinite)
+}
+
+/// Whether a line waits without end.
+fn is_endless_wait(line: &Line) -> bool
+    ensures { result ≡ follows.is_endless_wait line.now }
+{
+    match line {
+        Line::WaitStarted { timeout, .. } | Line::WaitTerminated { timeout, .. } => {
+            is_infinite(*timeout)
+        }
+        _ => false,
+    }
+}
+
+/// Whether a line sets the moment, or is the launcher's or the reaper's: only a serial script has such lines.
+fn is_serial_line(line: &Line) -> bool
+    ensures { result ≡ follows.is_serial_line line.now }
+{
+    matches!(
+        line,
+        Line::At { .. }
+            | Line::Launch
+            | Line::Started { .. }
+            | Line::StartFailed { .. }
+            | Line::Exit { .. }
+            | Line::ExitSignal { .. }
+            | Line::ExitUnknown { .. }
+            | Line::Signal
+            | Line::SignalDone { .. }
+            | Line::SignalFailed { .. }
+    )
+}
+
+fn is_register(line: &Line) -> bool
+    ensures { result ≡ follows.is_register line.now }
+{
+    matches!(line, Line::Register)
+}
+
 /// Whether a line belongs to this kind of script.
 fn belongs(mode: Mode, in_setup: bool, line: &Line) -> bool
     ensures { result ≡ follows.belongs mode in_setup line.now }
 {
+    let waits_in_setup = in_setup && is_wait(line);
     match mode {
-        Mode::Serial => !(in_setup && is_wait(line)),
+        Mode::Serial => !waits_in_setup && !is_endless_wait(line),
+        Mode::Threads => !waits_in_setup && !is_serial_line(line) && !is_register(line),
     }
 }
 

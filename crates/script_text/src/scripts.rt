@@ -9,6 +9,8 @@ use job_template::{JobTemplate, ReservationTemplate};
 pub enum Mode {
     /// For the play of all blocks on one thread, in their order.
     Serial,
+    /// For the play of the clients' blocks beside each other, while a launcher and a reaper tend the jobs.
+    Threads,
 }
 
 /// Job templates under their names, in the order of the script.

@@ -14,6 +14,8 @@ mod lines;
 #[cfg(test)]
 mod messages;
 #[cfg(test)]
+mod modes;
+#[cfg(test)]
 mod readings;
 #[cfg(test)]
 mod script_cuts;

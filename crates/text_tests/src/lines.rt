@@ -1,7 +1,9 @@
 //! How the lines of blocks are spelled, to compare with what was read.
-use drmaa_types::{JobState, SignalKind, Text};
+use drmaa_types::{JobState, SignalKind, Text, Timeout};
 use script_lines::{Filter, Line, Ref};
-use std::alloc::Global;
+use script_text::Block;
+use std::alloc::{AllocGlobal, Global};
+use std::process::Abort;
 use std::test::Fail;
 use text_dates::Said;
 
@@ -99,18 +101,26 @@ fn said_one(alloc: Global, word: &str, one: &Ref) -> Result<String, Fail> {
     said(alloc, word, &[Part::Reference(one)])
 }
 
+/// How long a wait lasts.
+fn timeout_part<'a>(timeout: Timeout) -> Part<'a> {
+    match timeout {
+        Timeout::Seconds(seconds) => Part::Number(seconds),
+        Timeout::Infinite => Part::Word("infinite"),
+    }
+}
+
 /// A line that waits.
 fn said_wait(
     alloc: Global,
     word: &str,
     session: &Ref,
-    timeout: u64,
+    timeout: Timeout,
     jobs: &[Ref],
 ) -> Result<String, Fail> {
     let mut line = said(
         alloc,
         word,
-        &[Part::Reference(session), Part::Number(timeout)],
+        &[Part::Reference(session), timeout_part(timeout)],
     )?;
     for job in jobs {
         push_parts(&mut line, &[Part::Reference(job)])?;
@@ -353,7 +363,7 @@ fn of_requests(alloc: Global, line: &Line) -> Result<String, Fail> {
 }
 
 /// The line, as the rules of lines spell it: here the lines of sessions.
-pub fn spelled(alloc: Global, line: &Line) -> Result<String, Fail> {
+fn spelled(alloc: Global, line: &Line) -> Result<String, Fail> {
     match line {
         Line::CreateJobs { name, session } => said_new(alloc, "create-jobs", name, session),
         Line::CreateReservations { name, session } => said_new(
@@ -389,4 +399,18 @@ pub fn spelled(alloc: Global, line: &Line) -> Result<String, Fail> {
         Line::Register => said(alloc, "register", &[]),
         _ => of_requests(alloc, line),
     }
+}
+
+/// Asserts that a block has these lines, as the rules of lines spell them.
+pub fn assert_block(
+    rt: &(impl Abort + AllocGlobal),
+    block: &Block,
+    lines: &[&'static str],
+) -> Result<(), Fail> {
+    assert_eq!(rt; block.lines().len(), lines.len());
+    for (line, want) in block.lines().iter().zip(lines) {
+        let said = spelled(rt.alloc(), line)?;
+        assert_eq!(rt; said.as_str(), *want);
+    }
+    Ok(())
 }

@@ -1,14 +1,16 @@
 //! Scripts with every line of a block, and what is read of each.
-use crate::lines::spelled;
+use crate::lines::assert_block;
 use script_text::{Mode, read_script};
+use std::alloc::AllocGlobal;
+use std::process::Abort;
 use std::test::Fail;
 
 /// What stands before the lines.
 const FRONT: &str =
-    "# a script\nmachine 65535 \"n\" nosuspend\ntemplate t\nend\nrtemplate f\nend\nsetup\ncreate-jobs s \"é\"\nend\n\nclient\n";
+    "# a script\nmachine 65535 \"n\" nosuspend\ntemplate t\nend\nrtemplate f\nend\nsetup\ncreate-jobs s \"é\"\nrun z s t\nbulk y s t 1 10 4 2\nend\n";
 
-/// A client's lines, each word of a line at least once.
-const LINES: [&str; 55] = [
+/// A client's lines in a script of either kind, each word of such a line at least once.
+const LINES: [&str; 43] = [
     "create-jobs s2 \"one\"",
     "create-jobs s3",
     "create-reservations q \"two\"",
@@ -52,37 +54,74 @@ const LINES: [&str; 55] = [
     "all-reservations m",
     "queues m",
     "machines #5",
+];
+
+/// Lines that a serial script has alone, and `register`.
+const SERIAL_LINES: [&str; 12] = [
     "register",
     "at @100000000000",
     "launch",
-    "started j",
-    "start-failed k",
-    "exit j 255",
-    "exit-signal a.1 9",
+    "started z",
+    "start-failed y.5",
+    "exit z 255",
+    "exit-signal y.1 9",
     "exit-unknown #4",
     "signal",
-    "signal-done j stop",
-    "signal-failed k cont",
+    "signal-done z stop",
+    "signal-failed y.9 cont",
     "signal-failed #1 kill",
 ];
 
-/// Each line is read as what it says: what is read, spelled by the rules of the lines, is the line.
-#[test]
-fn every_line_is_read_as_it_is_spelled(rt: HostRuntime) -> Result<(), Fail> {
-    let mut text = String::from_str(rt.alloc(), FRONT)?;
-    for line in &LINES {
+/// Waits without end, which a script for threads has alone.
+const ENDLESS_WAITS: [&str; 3] = [
+    "wait-started s infinite",
+    "wait-started s infinite z",
+    "wait-terminated #1 infinite z y.5 #7",
+];
+
+/// The text with a client's block more.
+fn push_client(text: &mut String, lines: &[&'static str]) -> Result<(), Fail> {
+    text.push_str("\nclient\n")?;
+    for line in lines {
         text.push_str(line)?;
         text.push_str("\n# behind\n\n")?;
     }
     text.push_str("end\n")?;
-    let script = read_script(rt.alloc(), text.as_str().as_bytes(), Mode::Serial)?;
-    let [block] = script.clients.as_slice() else {
-        return Err("no block".into());
-    };
-    assert_eq!(rt; block.lines().len(), LINES.len());
-    for (line, want) in block.lines().iter().zip(&LINES) {
-        let said = spelled(rt.alloc(), line)?;
-        assert_eq!(rt; said.as_str(), *want);
-    }
     Ok(())
+}
+
+/// Asserts that a script with these two blocks is read, and that each line is read as what it says: what is read, spelled by
+/// the rules of the lines, is the line.
+fn assert_read(
+    rt: &(impl Abort + AllocGlobal),
+    mode: Mode,
+    lines: &[&'static str],
+    further: &[&'static str],
+) -> Result<(), Fail> {
+    let mut text = String::from_str(rt.alloc(), FRONT)?;
+    push_client(&mut text, lines)?;
+    push_client(&mut text, further)?;
+    let script = read_script(rt.alloc(), text.as_str().as_bytes(), mode)?;
+    let [first, second] = script.clients.as_slice() else {
+        return Err("not two blocks".into());
+    };
+    assert_block(rt, first, lines)?;
+    assert_block(rt, second, further)
+}
+
+#[test]
+fn every_line_is_read_as_it_is_spelled(rt: HostRuntime) -> Result<(), Fail> {
+    assert_read(&rt, Mode::Serial, LINES.as_slice(), SERIAL_LINES.as_slice())
+}
+
+#[test]
+fn every_line_of_a_script_for_threads_is_read_as_it_is_spelled(
+    rt: HostRuntime,
+) -> Result<(), Fail> {
+    assert_read(
+        &rt,
+        Mode::Threads,
+        LINES.as_slice(),
+        ENDLESS_WAITS.as_slice(),
+    )
 }

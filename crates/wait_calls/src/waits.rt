@@ -2,9 +2,11 @@
 ghost use Rattle.std.specs.Prelude.{◌≡◌, IfOk, IfErr, Ok};
 ghost use Rattle.drmaa_model.specs.declared.calls.Call.{Call};
 ghost use Rattle.drmaa_model.specs.declared.replies.Reply.{Reply};
+ghost use Rattle.turn_lock.specs.Histories.{BeginsWith};
 ghost use Rattle.turn_lock.specs.Tokens.{IsFree};
-ghost use Rattle.call_history.specs.Clients.{StaysAt};
+ghost use Rattle.call_history.specs.Clients.{seen_of, mine_of, StaysAt};
 ghost use Rattle.call_history.specs.Clocks.{dial};
+ghost use Rattle.call_history.specs.Timed.{IsTimed};
 ghost use Rattle.wait_calls.specs.Waited.{IsWaited, Reaches, Refuses, Tells};
 
 use call_history::{Awaited, Desk, NoEntry, Reply, WaitLook};
@@ -36,6 +38,8 @@ pub fn wait<R: Wait + Pause, C: Clock>(
     ensures err { IfErr result (λ why. IsWaited desk.old.shared.now.fixed (dial (C.given desk.old.clock) (C.least desk.old.clock)) desk.old.client
         (λ begun. Call.Wait session jobs kind begun timeout) (Refuses desk.old.shared.now.fixed desk.old.client why desk.new.client)
         (dial (C.given desk.new.clock) (C.least desk.new.clock)) desk.new.client) }
+    ensures begins { BeginsWith (seen_of desk.new.client) (seen_of desk.old.client) }
+    ensures timed { IsTimed (mine_of desk.old.client) (C.given desk.old.clock) → IsTimed (mine_of desk.new.client) (C.given desk.new.clock) }
 {
     let begun = desk.clock.now();
     let mut awaited = Awaited {

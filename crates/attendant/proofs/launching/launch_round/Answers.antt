@@ -1,45 +1,78 @@
-use Rattle.std.proofs.Common.{inr, ◌∙◌, sym, subst, refl, true, false, Option, append-nil}
+use Rattle.std.proofs.Common.{inl, inr, ◌∙◌, sym, subst, refl, true, false, Option, append-nil}
 use Rattle.std.specs.Prelude.{IfSome}
 use Rattle.drmaa_model.specs.declared.replies.Launch.{Launch}
 use Rattle.call_history.specs.Clients.{number_of}
 use Rattle.attendant.specs.Acts.{own_acts}
-use Rattle.attendant.specs.Steps.{Takes, not_taken, not_reported}
-use Rattle.attendant.proofs.Desks.{fails-at}
+use Rattle.attendant.specs.Posts.{post}
+use Rattle.attendant.specs.Steps.{Takes, not_taken}
+use Rattle.attendant.proofs.Desks.{still-same, still-both, fails-last}
 use Rattle.attendant.proofs.Entries.{reserved_get, reserved_updates}
 use Rattle.attendant.proofs.launching.launch_round.Goals as goal
+
+pub returns-then-is_err-clause-desk : goal.returns-then-is_err-clause-desk
+returns-then-is_err-clause-desk g c = still-same _ c.requires
+
+pub returns-in-Err-clause-steps : goal.returns-in-Err-clause-steps
+returns-in-Err-clause-steps g c =
+    let e = c.in-Err.ensures.err in
+    inl (record { mine_is = e.0; asked_is = refl; fate_is = refl; same = λ k. reserved_get c.args.reaper.now.children c.reserve.new.self c.reserve.ensures.rest_kept k }, not_taken e.1 e.2 e.3 e.4)
+
+pub returns-then-not-made-clause-desk : goal.returns-then-not-made-clause-desk
+returns-then-not-made-clause-desk g c = still-both _ _ _ c.take_launch.ensures.desk c.report_start-made.ensures.desk
+
+pub returns-in-Ok-start-clause-desk : goal.returns-in-Ok-start-clause-desk
+returns-in-Ok-start-clause-desk g c = still-both _ _ _ c.take_launch.ensures.desk c.report_start-made.ensures.desk
+
+pub returns-then-not-report_start-clause-desk : goal.returns-then-not-report_start-clause-desk
+returns-then-not-report_start-clause-desk g c = still-both _ _ _ c.take_launch.ensures.desk c.report_start.ensures.desk
+
+pub returns-clause-desk : goal.returns-clause-desk
+returns-clause-desk g c = still-both _ _ _ c.take_launch.ensures.desk c.report_start.ensures.desk
 
 pub returns-then-not-made-clause-steps : goal.returns-then-not-made-clause-steps
 returns-then-not-made-clause-steps g c =
     let taken : Takes (number_of c.args.desk.now.client) (own_acts c.args.desk.now.client) (own_acts c.take_launch.new.desk.client) c.in-Some.launch =
     subst (λ (o : Option Launch). IfSome o (Takes (number_of c.args.desk.now.client) (own_acts c.args.desk.now.client) (own_acts c.take_launch.new.desk.client))) c.in-Some.is c.in-Ok.ensures.taken in
+    let w = c.if-not-made.ensures.cause refl in
     inr (
-      c.in-Some.launch,
-      true,
-      refl,
       record {
-        is_new = taken.is_new;
-        mine_is = c.if-not-made.ensures.made ∙ taken.mine_is ∙ sym (append-nil _);
-        asked_is = c.in-Ok-start.ensures.asked;
-        fate_is = c.in-Ok-start.ensures.fates;
-        puts = record {
-          child = c.in-Ok-start.child;
-          put = record { key = c.put.ensures.key; was_empty = sym (reserved_get c.args.reaper.now.children c.reserve.new.self c.reserve.ensures.rest_kept c.put.ensures.key) ∙ c.put.ensures.was_empty; updates = reserved_updates c.args.reaper.now.children c.reserve.new.self c.put.new.children c.put.ensures.key _ c.reserve.ensures.rest_kept c.put.ensures.updates };
-          tells = c.in-Ok-start.ensures.child;
+        launch = c.in-Some.launch;
+        began = true;
+        made = record {
+          is_new = taken.is_new;
+          mine_is = c.if-not-made.ensures.made ∙ taken.mine_is ∙ sym (append-nil _);
+          asked_is = c.in-Ok-start.ensures.asked;
+          fate_is = c.in-Ok-start.ensures.fates;
+          puts = record {
+            child = c.in-Ok-start.child;
+            put = record { key = c.put.ensures.key; was_empty = sym (reserved_get c.args.reaper.now.children c.reserve.new.self c.reserve.ensures.rest_kept c.put.ensures.key) ∙ c.put.ensures.was_empty; updates = reserved_updates c.args.reaper.now.children c.reserve.new.self c.put.new.children c.put.ensures.key _ c.reserve.ensures.rest_kept c.put.ensures.updates };
+            tells = c.in-Ok-start.ensures.child;
+          };
         };
+        fault = w.0;
+        fails = fails-last _ (post g.C.Clock.given g.C.Clock.least c.take_launch.new.desk) _ _ _ c.take_launch.ensures.desk c.report_start-made.ensures.desk w.1;
       },
+      refl,
     )
 
-pub returns-in-Err-clause-missed : goal.returns-in-Err-clause-missed
-returns-in-Err-clause-missed g c =
-    let e = c.in-Err.ensures.err in
-    not_taken e.1 e.2 e.3 e.4
-
-pub returns-then-not-made-clause-missed : goal.returns-then-not-made-clause-missed
-returns-then-not-made-clause-missed g c =
-    let w = c.if-not-made.ensures.cause refl in
-    not_reported c.in-Some.launch true w.0 (fails-at _ _ _ _ _ c.take_launch.ensures.desk.shared_is w.1) refl
-
-pub returns-then-not-report_start-clause-missed : goal.returns-then-not-report_start-clause-missed
-returns-then-not-report_start-clause-missed g c =
+pub returns-then-not-report_start-clause-steps : goal.returns-then-not-report_start-clause-steps
+returns-then-not-report_start-clause-steps g c =
+    let taken : Takes (number_of c.args.desk.now.client) (own_acts c.args.desk.now.client) (own_acts c.take_launch.new.desk.client) c.in-Some.launch =
+    subst (λ (o : Option Launch). IfSome o (Takes (number_of c.args.desk.now.client) (own_acts c.args.desk.now.client) (own_acts c.take_launch.new.desk.client))) c.in-Some.is c.in-Ok.ensures.taken in
     let w = c.if-not-report_start.ensures.cause refl in
-    not_reported c.in-Some.launch false w.0 (fails-at _ _ _ _ _ c.take_launch.ensures.desk.shared_is w.1) refl
+    inr (
+      record {
+        launch = c.in-Some.launch;
+        began = false;
+        made = record {
+          is_new = taken.is_new;
+          mine_is = c.if-not-report_start.ensures.made ∙ taken.mine_is ∙ sym (append-nil _);
+          asked_is = c.in-Err-start.ensures.asked;
+          fate_is = c.in-Err-start.ensures.fates;
+          puts = λ k. reserved_get c.args.reaper.now.children c.reserve.new.self c.reserve.ensures.rest_kept k;
+        };
+        fault = w.0;
+        fails = fails-last _ (post g.C.Clock.given g.C.Clock.least c.take_launch.new.desk) _ _ _ c.take_launch.ensures.desk c.report_start.ensures.desk w.1;
+      },
+      refl,
+    )

@@ -5,6 +5,7 @@ use Rattle.turn_lock.specs.Tokens.{IsFree}
 use Rattle.call_history.specs.Clients.{seen_of}
 use Rattle.call_history.specs.Clocks.{dial}
 use Rattle.wait_calls.proofs.Waiting.{so-far-first, over-ok, over-err, early-so-far, early-same, IsOver}
+use Rattle.wait_calls.proofs.Timing.{timed-wait, begins-wait}
 use Rattle.wait_calls.proofs.waits.wait.Goals as goal
 
 pub loop-init : goal.loop-init
@@ -51,3 +52,13 @@ loop-preserved g c =
       subst (λ n. IsFree n c.look_at_wait.new.self.client) inv.2 c.look_at_wait.ensures.client,
       c.look_at_wait.ensures.number ∙ inv.4,
     )
+
+pub returns-in-Over-clause-begins : goal.returns-in-Over-clause-begins
+returns-in-Over-clause-begins g c =
+    begins-wait c.args.desk.now.shared.now.fixed _ _ c.args.desk.now.client c.look_at_wait.new.self.client c.args.session c.args.jobs c.args.kind c.args.timeout c.told.result
+    (returns-in-Over-clause-ok g c) (returns-in-Over-clause-err g c)
+
+pub returns-in-Over-clause-timed : goal.returns-in-Over-clause-timed
+returns-in-Over-clause-timed g c =
+    timed-wait c.args.desk.now.shared.now.fixed _ _ c.args.desk.now.client c.look_at_wait.new.self.client c.args.session c.args.jobs c.args.kind c.args.timeout c.told.result
+    (returns-in-Over-clause-ok g c) (returns-in-Over-clause-err g c)

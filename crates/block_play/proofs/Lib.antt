@@ -1,0 +1,4 @@
+mod Untimed
+mod Made
+mod Awaited
+mod Stretches

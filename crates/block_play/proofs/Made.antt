@@ -1,0 +1,86 @@
+-- What one call says of the play of a line.
+use Rattle.std.proofs.Common.{◌≡◌, ℕ, ◌≤◌, List, [], ◌∷◌, ◌++◌, Option, Some, None, true, false, refl, sym, ap, ◌∙◌, subst, append-nil, arith}
+use Rattle.std.specs.Prelude.{Result, Ok, Err, IfOk, IfErr}
+use Rattle.drmaa_model.specs.declared.calls.Call.{Call}
+use Rattle.drmaa_model.specs.declared.configs.Config.{Config}
+use Rattle.drmaa_model.specs.declared.entries.Entry.{Entry}
+use Rattle.drmaa_model.specs.declared.faults.NoEntry.{NoEntry}
+use Rattle.drmaa_model.specs.declared.faults.NoEntry.TheVariants as fault
+use Rattle.drmaa_model.specs.declared.replies.Reply.{Reply}
+use Rattle.drmaa_model.specs.History.{IsLegal}
+use Rattle.turn_lock.specs.Histories.{BeginsWith}
+use Rattle.turn_lock.specs.Tokens.{Named, IsFree}
+use Rattle.script_lines.specs.declared.lines.Line.{Line}
+use Rattle.script_text.specs.declared.scripts.Script.{Script}
+use Rattle.script_text.specs.Follows.{is_wait}
+use Rattle.script_asks.specs.declared.given.Given.{Given}
+use Rattle.script_asks.specs.Asks.{asks}
+use Rattle.script_asks.specs.Plays.{no_attempt, IsAsked}
+use Rattle.script_asks.specs.Attempts.{attempt_in}
+use Rattle.script_asks.specs.Replies.{names_after}
+use Rattle.call_history.specs.Calls.{entry_by, IsServed, IsUnserved}
+use Rattle.call_history.specs.ClientLaws.{begins-itself}
+use Rattle.call_history.specs.Clients.{Seat, seen_of, mine_of, number_of, KnowsItsOwn, IsStillAt}
+use Rattle.call_history.specs.Clocks.{Dial}
+use Rattle.block_play.specs.declared.stops.Stopped.TheVariants as stopped
+use Rattle.script_text.specs.Follows.{lines_of}
+use Rattle.block_play.specs.Played.{PlaysLine, PlayedLine, PlayedLines, StopsLine, IsFullFor}
+use Rattle.block_play.specs.Played.PlaysLine.{asks_nothing, asks_once}
+use Rattle.block_play.specs.Played.StopsLine.{unmade, unkept}
+
+-- nothing was called
+pub still-there : (shared : Named Config) (seat : Seat) → IsFree shared seat → IsStillAt shared seat shared seat
+still-there shared seat free = record { shared_is = refl; client = free; number = refl; begins = begins-itself (seen_of seat); own = λ o. o; legal = λ l. l }
+
+pub still-at : (shared after : Named Config) (old new : Seat) → after ≡ shared → IsFree shared new → number_of new ≡ number_of old → BeginsWith (seen_of new) (seen_of old) → KnowsItsOwn new
+    → IsLegal shared.fixed (seen_of new) → IsStillAt shared old after new
+still-at shared after old new same free number begins own legal = record { shared_is = same; client = free; number = number; begins = begins; own = λ o. own; legal = λ l. legal }
+
+module _ (s : Script) (names : List (List ℕ × Given)) (l : Line) (before : ℕ) where
+  -- a line that asks nothing
+  pub played-nothing : (mine : List Entry) (least : ℕ) → before ≤ least → asks s names no_attempt 0 l ≡ None → PlayedLine s names l before mine mine names least
+  played-nothing mine least early none = record { added = []; then = before; mine = sym (append-nil mine); plays = asks_nothing none refl refl refl; behind = early }
+
+  asked-now : (number at : ℕ) (c : Call) (reply : Reply) → is_wait l ≡ false → asks s names no_attempt 0 l ≡ Some c → IsAsked s names before l (entry_by number at c reply)
+  asked-now number at c reply quick asked = record { begun = 0; call = c; asked = asked; same = refl; in_time = λ waits. absurd cc }
+
+  -- a line that asks a call that was served
+  pub played-once : (early late : Dial) (old new : Seat) (c : Call) (reply : Reply) (after : List (List ℕ × Given)) → is_wait l ≡ false → asks s names no_attempt 0 l ≡ Some c
+      → IsServed early old c reply late new → after ≡ names_after l reply names → PlayedLine s names l before (mine_of old) (mine_of new) after late.least
+  played-once early late old new c reply after quick asked served then = record {
+    added = entry_by (number_of old) served.at c reply ∷ [];
+    then = served.at;
+    mine = served.made.mine;
+    plays = asks_once (entry_by (number_of old) served.at c reply) c asked refl (asked-now (number_of old) served.at c reply quick asked) then refl;
+    behind = served.read.rising;
+  }
+
+  -- a call that was served, whose reply found no memory
+  pub stopped-once : (config : Config) (early late : Dial) (old new : Seat) (c : Call) (reply : Reply) → is_wait l ≡ false → asks s names no_attempt 0 l ≡ Some c
+      → IsServed early old c reply late new → StopsLine config s names l before old new stopped.Memory
+  stopped-once config early late old new c reply quick asked served =
+      unkept (names_after l reply names) late.least (played-once early late old new c reply (names_after l reply names) quick asked served refl) refl
+
+  -- a call that made no entry
+  pub stopped-full : (config : Config) (early late : Dial) (old new : Seat) (c : Call) (size : ℕ) → asks s names no_attempt 0 l ≡ Some c
+      → IsUnserved config early old c (fault.Journal size) late new → StopsLine config s names l before old new (stopped.Full size)
+  stopped-full config early late old new c size asked none = unmade none.more.mine (record { begun = 0; call = c; at = none.at; asked = asked; none = none.reason })
+
+  pub stopped-short : (config : Config) (early late : Dial) (old new : Seat) (c : Call) (why : NoEntry) → IsUnserved config early old c why late new → StopsLine config s names l before old new stopped.Memory
+  stopped-short config early late old new c why none = unmade none.more.mine tt
+
+  pub stopped-still : (config : Config) (seat : Seat) → StopsLine config s names l before seat seat stopped.Memory
+  stopped-still config seat = unmade refl tt
+
+-- what a line asks of its client, who knows of no launch
+pub asked-of : (s : Script) (given names : List (List ℕ × Given)) (attempts : List (ℕ × ℕ)) (begun : ℕ) (l : Line) (o : Option Call) → given ≡ names → attempts ≡ [] → begun ≡ 0
+    → o ≡ asks s given (attempt_in attempts) begun l → o ≡ asks s names no_attempt 0 l
+asked-of s given names attempts begun l o same none first is =
+    is ∙ (ap (λ (n : List (List ℕ × Given)). asks s n (attempt_in attempts) begun l) same
+    ∙ (ap (λ (a : List (ℕ × ℕ)). asks s names (attempt_in a) begun l) none ∙ ap (λ (b : ℕ). asks s names (attempt_in []) b l) first))
+
+-- a script without a setup block
+pub played-none : (s : Script) (names : List (List ℕ × Given)) (mine : List Entry) (least : ℕ) → s.setup ≡ None → names ≡ [] → PlayedLines s [] (lines_of s.setup) 0 mine mine names least
+played-none s names mine least none new =
+    subst (λ (ls : List Line). PlayedLines s [] ls 0 mine mine names least) (sym (ap lines_of none))
+    (record { added = []; then = 0; mine = sym (append-nil mine); plays = (refl, new, refl); behind = omega arith })

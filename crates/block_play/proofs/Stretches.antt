@@ -1,0 +1,106 @@
+-- Lines that are played, one after the other.
+use Rattle.std.proofs.Common.{◌≡◌, ℕ, ◌+◌, ◌<◌, ◌≤◌, zero, suc, List, [], ◌∷◌, ◌++◌, take, drop, length, slice_index_or, Option, Some, None, refl, sym, ap, ◌∙◌, subst, append_assoc, append-nil, arith}
+use Rattle.std.proofs.Common.{get_or}
+use Rattle.std.proofs.Math.Seq.{take-suc}
+use Rattle.drmaa_model.specs.declared.configs.Config.{Config}
+use Rattle.drmaa_model.specs.declared.entries.Entry.{Entry}
+use Rattle.drmaa_model.specs.History.{IsLegal}
+use Rattle.turn_lock.specs.Tokens.{Named, IsFree}
+use Rattle.script_lines.specs.declared.lines.Line.{Line}
+use Rattle.script_text.specs.declared.scripts.Script.{Script}
+use Rattle.script_asks.specs.declared.given.Given.{Given}
+use Rattle.call_history.specs.ClientLaws.{begins-both}
+use Rattle.call_history.specs.Clients.{Seat, seen_of, mine_of, number_of, IsStillAt}
+use Rattle.block_play.specs.declared.stops.Stopped.{Stopped}
+use Rattle.block_play.specs.declared.stops.Stopped.TheVariants as stopped
+use Rattle.block_play.specs.Played.{PlayedLine, PlayedLines, StopsLine, StopsLines, StopsBefore, IsCause}
+use Rattle.block_play.specs.Played.StopsLine.{unmade, unkept}
+use Rattle.block_play.specs.PlayLaws.{plays-more}
+
+-- ---- a desk over two calls
+
+still-next : (shared last : Named Config) (old mid new : Seat) → IsStillAt shared old shared mid → IsStillAt shared mid last new → IsStillAt shared old last new
+still-next shared last old mid new a b = record {
+  shared_is = b.shared_is;
+  client = b.client;
+  number = b.number ∙ a.number;
+  begins = begins-both (seen_of old) (seen_of mid) (seen_of new) a.begins b.begins;
+  own = λ o. b.own (a.own o);
+  legal = λ l. b.legal (a.legal l);
+}
+
+pub still-both : (shared next last : Named Config) (old mid new : Seat) → IsStillAt shared old next mid → IsStillAt next mid last new → IsStillAt shared old last new
+still-both shared next last old mid new a b =
+    still-next shared last old mid new (subst (λ (n : Named Config). IsStillAt shared old n mid) a.shared_is a) (subst (λ (n : Named Config). IsStillAt n mid last new) a.shared_is b)
+
+-- ---- one line more
+
+pub played-start : (s : Script) (names : List (List ℕ × Given)) (mine : List Entry) (least : ℕ) → PlayedLines s names [] 0 mine mine names least
+played-start s names mine least = record { added = []; then = 0; mine = sym (append-nil mine); plays = (refl, refl, refl); behind = omega arith }
+
+pub played-more : (s : Script) (names mid after : List (List ℕ × Given)) (ls : List Line) (l : Line) (old now new : List Entry) (early late : ℕ) → PlayedLines s names ls 0 old now mid early
+    → ((before : ℕ) → before ≤ early → PlayedLine s mid l before now new after late) → PlayedLines s names (ls ++ l ∷ []) 0 old new after late
+played-more s names mid after ls l old now new early late p line =
+    let q = line p.then p.behind in record {
+      added = p.added ++ q.added;
+      then = q.then;
+      mine = q.mine ∙ (ap (λ (es : List Entry). es ++ q.added) p.mine ∙ append_assoc old p.added q.added);
+      plays = plays-more s names mid after 0 p.then q.then ls l p.added q.added p.plays q.plays;
+      behind = q.behind;
+    }
+
+before-rest : (config : Config) (s : Script) (names : List (List ℕ × Given)) (l : Line) (rest : List Line) (history : List Entry) (why : Stopped) → IsCause config s names l history why → StopsBefore config s names (l ∷ rest) history why
+before-rest config s names l rest history stopped.Memory cause = tt
+before-rest config s names l rest history (stopped.Full size) cause = cause
+
+short-of : (config : Config) (s : Script) (names : List (List ℕ × Given)) (rest : List Line) (history : List Entry) (why : Stopped) → why ≡ stopped.Memory → StopsBefore config s names rest history why
+short-of config s names rest history why is = subst (λ (w : Stopped). StopsBefore config s names rest history w) (sym is) tt
+
+stops-at : (config : Config) (s : Script) (names mid : List (List ℕ × Given)) (all front rest : List Line) (l : Line) (old now new : Seat) (least : ℕ) (why : Stopped) → all ≡ front ++ l ∷ rest
+    → (p : PlayedLines s names front 0 (mine_of old) (mine_of now) mid least) → StopsLine config s mid l p.then now new why → StopsLines config s names all 0 old new why
+stops-at config s names mid all front rest l old now new least why is p (unmade same cause) = record {
+  front = front;
+  back = l ∷ rest;
+  lines = is;
+  after = mid;
+  least = least;
+  played = subst (λ (es : List Entry). PlayedLines s names front 0 (mine_of old) es mid least) (sym same) p;
+  cause = before-rest config s mid l rest (seen_of new) why cause;
+}
+stops-at config s names mid all front rest l old now new least why is p (unkept after late line memory) = record {
+  front = front ++ l ∷ [];
+  back = rest;
+  lines = is ∙ sym (append_assoc front (l ∷ []) rest);
+  after = after;
+  least = late;
+  played = record {
+    added = p.added ++ line.added;
+    then = line.then;
+    mine = line.mine ∙ (ap (λ (es : List Entry). es ++ line.added) p.mine ∙ append_assoc (mine_of old) p.added line.added);
+    plays = plays-more s names mid after 0 p.then line.then front l p.added line.added p.plays line.plays;
+    behind = line.behind;
+  };
+  cause = short-of config s after rest (seen_of new) why memory;
+}
+
+-- the play of a block stops where one of its lines does
+pub stops-lines : (shared next : Named Config) (s : Script) (names mid : List (List ℕ × Given)) (all front rest : List Line) (l : Line) (old now new : Seat) (least : ℕ) (why : Stopped) → next ≡ shared → all ≡ front ++ l ∷ rest
+    → PlayedLines s names front 0 (mine_of old) (mine_of now) mid least → ((before : ℕ) → before ≤ least → StopsLine next.fixed s mid l before now new why) → StopsLines shared.fixed s names all 0 old new why
+stops-lines shared next s names mid all front rest l old now new least why same is p line =
+    stops-at shared.fixed s names mid all front rest l old now new least why is p (subst (λ (n : Named Config). StopsLine n.fixed s mid l p.then now new why) same (line p.then p.behind))
+
+-- ---- places
+
+pub take_one : (xs : List Line) (i : ℕ) (d : Line) → i < length xs → d ≡ get_or xs i d → take (i + 1) xs ≡ take i xs ++ d ∷ []
+take_one xs i d l e = let n : i + 1 ≡ suc i = omega arith in ap (λ (k : ℕ). take k xs) n ∙ take-suc xs i d l ∙ ap (λ (x : Line). take i xs ++ x ∷ []) (sym e)
+
+pub split_at : (xs : List Line) (i : ℕ) (d : Line) → i < length xs → d ≡ get_or xs i d → xs ≡ take i xs ++ d ∷ drop (suc i) xs
+split_at [] i d l e = absurd (omega (arith, l))
+split_at (x ∷ xs) zero d l e = ap (λ (y : Line). y ∷ xs) (sym e)
+split_at (x ∷ xs) (suc i) d l e = ap (λ (ys : List Line). x ∷ ys) (split_at xs i d (omega (arith, l)) e)
+
+pub take_all : (xs : List Line) (i : ℕ) → length xs ≤ i → take i xs ≡ xs
+take_all [] zero l = refl
+take_all [] (suc i) l = refl
+take_all (x ∷ xs) zero l = absurd (omega (arith, l))
+take_all (x ∷ xs) (suc i) l = ap (λ (ys : List Line). x ∷ ys) (take_all xs i (omega (arith, l)))

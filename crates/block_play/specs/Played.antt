@@ -1,0 +1,80 @@
+-- What a client's play of a block has come to: our profile.
+use Rattle.std.specs.Prelude.{◌≡◌, ℕ, ◌≤◌, List, [], ◌∷◌, ◌++◌, take, Option, Some, None, slice_get}
+use Rattle.drmaa_model.specs.declared.calls.Call.{Call}
+use Rattle.drmaa_model.specs.declared.configs.Config.{Config}
+use Rattle.drmaa_model.specs.declared.entries.Entry.{Entry}
+use Rattle.drmaa_model.specs.declared.faults.NoEntry.TheVariants as fault
+use Rattle.drmaa_model.specs.History.{replay}
+use Rattle.drmaa_model.specs.KeptCalls.{kept}
+use Rattle.drmaa_machine.specs.Chronicles.{MakesNone}
+use Rattle.script_lines.specs.declared.lines.Line.{Line}
+use Rattle.script_text.specs.declared.scripts.Script.{Script}
+use Rattle.script_asks.specs.declared.given.Given.{Given}
+use Rattle.script_asks.specs.Asks.{asks}
+use Rattle.script_asks.specs.Plays.{no_attempt, IsAsked}
+use Rattle.script_asks.specs.Replies.{names_after}
+use Rattle.call_history.specs.Clients.{Seat, seen_of, mine_of}
+use Rattle.block_play.specs.declared.stops.Stopped.{Stopped}
+use Rattle.block_play.specs.declared.stops.Stopped.TheVariants as stopped
+
+-- A line was played, with these names and behind an entry of this moment: it asks nothing, or it asks the one entry, whose reply
+-- gives its name a number.
+pub data PlaysLine (s : Script) (names : List (List ℕ × Given)) (before : ℕ) (l : Line) (es : List Entry) (after : List (List ℕ × Given)) (then : ℕ) : Type 0 where
+  asks_nothing : asks s names no_attempt 0 l ≡ None → es ≡ [] → after ≡ names → then ≡ before → PlaysLine s names before l es after then
+  asks_once : (e : Entry) (c : Call) → asks s names no_attempt 0 l ≡ Some c → es ≡ e ∷ [] → IsAsked s names before l e → after ≡ names_after l e.reply names → then ≡ e.at → PlaysLine s names before l es after then
+
+-- Lines were played, one after the other.
+abbrev pub PlaysLines : Script → List (List ℕ × Given) → ℕ → List Line → List Entry → List (List ℕ × Given) → ℕ → Type 0
+PlaysLines s names before [] es after then = (es ≡ []) × (after ≡ names) × (then ≡ before)
+PlaysLines s names before (l ∷ ls) es after then =
+    (first : List Entry) × (rest : List Entry) × (mid : List (List ℕ × Given)) × (at : ℕ) × (es ≡ first ++ rest) × PlaysLine s names before l first mid at × PlaysLines s mid at ls rest after then
+
+-- The client's own entries went on by those of this line, of which the last is at most the least moment that its clock may give.
+pub record PlayedLine (s : Script) (names : List (List ℕ × Given)) (l : Line) (before : ℕ) (old new : List Entry) (after : List (List ℕ × Given)) (least : ℕ) : Type 0 where
+  pub added : List Entry
+  pub then : ℕ
+  pub mine : new ≡ old ++ added
+  pub plays : PlaysLine s names before l added after then
+  pub behind : then ≤ least
+
+-- What a line asks makes no entry after this history, since the journal would have this size.
+pub record IsFullFor (config : Config) (s : Script) (names : List (List ℕ × Given)) (l : Line) (history : List Entry) (size : ℕ) : Type 0 where
+  pub begun : ℕ
+  pub call : Call
+  pub at : ℕ
+  pub asked : asks s names no_attempt begun l ≡ Some call
+  pub none : MakesNone (replay config history) at (kept call) (fault.Journal size)
+
+-- why a line made no entry
+abbrev pub IsCause : Config → Script → List (List ℕ × Given) → Line → List Entry → Stopped → Type 0
+IsCause config s names l history stopped.Memory = Unit {0}
+IsCause config s names l history (stopped.Full size) = IsFullFor config s names l history size
+
+-- The play stopped at a line: it made no entry, for this cause; or it was played, and memory ran out for what its reply gives.
+pub data StopsLine (config : Config) (s : Script) (names : List (List ℕ × Given)) (l : Line) (before : ℕ) (old new : Seat) (why : Stopped) : Type 0 where
+  unmade : mine_of new ≡ mine_of old → IsCause config s names l (seen_of new) why → StopsLine config s names l before old new why
+  unkept : (after : List (List ℕ × Given)) (least : ℕ) → PlayedLine s names l before (mine_of old) (mine_of new) after least → why ≡ stopped.Memory → StopsLine config s names l before old new why
+
+-- The client's own entries went on by those of these lines.
+pub record PlayedLines (s : Script) (names : List (List ℕ × Given)) (ls : List Line) (before : ℕ) (old new : List Entry) (after : List (List ℕ × Given)) (least : ℕ) : Type 0 where
+  pub added : List Entry
+  pub then : ℕ
+  pub mine : new ≡ old ++ added
+  pub plays : PlaysLines s names before ls added after then
+  pub behind : then ≤ least
+
+-- the next line of those that are left made no entry, for this cause
+abbrev pub StopsBefore : Config → Script → List (List ℕ × Given) → List Line → List Entry → Stopped → Type 0
+StopsBefore config s names ls history stopped.Memory = Unit {0}
+StopsBefore config s names [] history (stopped.Full size) = ⊥
+StopsBefore config s names (l ∷ ls) history (stopped.Full size) = IsFullFor config s names l history size
+
+-- The play stopped behind the first of these lines, before the others.
+pub record StopsLines (config : Config) (s : Script) (names : List (List ℕ × Given)) (ls : List Line) (before : ℕ) (old new : Seat) (why : Stopped) : Type 0 where
+  pub front : List Line
+  pub back : List Line
+  pub lines : ls ≡ front ++ back
+  pub after : List (List ℕ × Given)
+  pub least : ℕ
+  pub played : PlayedLines s names front before (mine_of old) (mine_of new) after least
+  pub cause : StopsBefore config s after back (seen_of new) why

@@ -1,0 +1,5 @@
+//! Programs of pages, word for word, as tests.
+#![tactic(auto)]
+
+#[cfg(test)]
+mod first_job;

@@ -1,0 +1,94 @@
+//! Plays of a setup block and of a client's block.
+ghost use Rattle.std.specs.Prelude.{◌≡◌, ◌≤◌};
+ghost use Rattle.turn_lock.specs.Tokens.{IsFree};
+
+use crate::machines::{closed, desk, machine};
+use block_play::{Stopped, play_block, play_setup};
+use call_history::{Bell, Desk};
+use drmaa_types::StepClock;
+use journal_text::journal_bytes;
+use script_text::{Mode, Script, read_script};
+use std::alloc::{AllocGlobal, Global};
+use std::process::Abort;
+use std::sync::Wait;
+use std::test::Fail;
+use std::time::Clock as Pause;
+
+const SCRIPT: &str =
+    "machine 4 \"node1\" suspend\ntemplate t\ncommand \"true\"\nend\nsetup\ncreate-jobs z \"nightly\"\nend\nclient\nopen-jobs s \"nightly\"\nrun j s t\nwait-started s 1 j\nterminate s j\nwait-terminated s infinite j\nstate s j\nend\n";
+
+/// The first client reads 0 from its clock, the second 10, 11 and so on; a wait reads its beginning, and then its look.
+const JOURNAL: &str =
+    "drmaa-journal 1 4 \"node1\" suspend\n1 0 @0 create-jobs \"nightly\" = session 1\n2 1 @10 open-jobs \"nightly\" = session 2\n3 1 @11 run 2 {command \"true\"} = job 1\n4 1 @13 wait-started 2 @12 1 [1] = refused 3\n5 1 @14 terminate 2 1 = ok\n6 1 @16 wait-terminated 2 @15 infinite [1] = reached 1\n7 1 @17 state 2 1 = state FAILED\nend 7\n";
+
+/// The setup block by the first client, and then the one client's block by the second, who has seen it.
+fn played<R: Wait + Pause>(
+    rt: &R,
+    alloc: Global,
+    script: &Script,
+    first: &mut Desk<StepClock>,
+    second: &mut Desk<StepClock>,
+) -> Result<(), Stopped>
+    requires same { second.old.shared.now ≡ first.old.shared.now }
+    requires first { IsFree first.old.shared.now first.old.client }
+    requires second { IsFree first.old.shared.now second.old.client }
+    ensures first { IsFree first.old.shared.now first.new.client }
+    ensures second { IsFree first.old.shared.now second.new.client }
+{
+    let names = match play_setup(rt, alloc, script, first) {
+        Ok(names) => names,
+        Err(why) => return Err(why),
+    };
+    first
+        .shared
+        .hand_over(&mut first.client, &mut second.client);
+    match script.clients.as_slice() {
+        [block] => match play_block(rt, alloc, script, second, names, block.lines()) {
+            Ok(_) => Ok(()),
+            Err(why) => Err(why),
+        },
+        _ => Err(Stopped::Memory),
+    }
+}
+
+/// Asserts how the play of the script ends on a machine with a journal of this size, and its journal.
+fn assert_played<R: Abort + AllocGlobal + Wait + Pause>(
+    rt: &R,
+    journal: u64,
+    ended: Result<(), Stopped>,
+    text: &str,
+) -> Result<(), Fail>
+    requires { 1 ≤ journal × journal ≤ 4000000 }
+{
+    let alloc = rt.alloc();
+    let script = read_script(alloc, SCRIPT.as_bytes(), Mode::Threads)?;
+    let (shared, mut opener) = machine(rt, alloc, journal);
+    let bell = Bell::silent();
+    let one = shared.open_client(&mut opener);
+    let other = shared.open_client(&mut opener);
+    let mut first = desk(&shared, one, &bell, 0, 0);
+    let mut second = desk(&shared, other, &bell, 10, 1);
+    assert_eq!(rt; played(rt, alloc, &script, &mut first, &mut second), ended);
+    shared.retire(&mut opener, first.client);
+    shared.retire(&mut opener, second.client);
+    let machine = closed(rt, shared, opener);
+    let bytes = journal_bytes(alloc, machine.config(), machine.entries())?;
+    assert_eq!(rt; bytes.as_slice(), text.as_bytes());
+    Ok(())
+}
+
+#[test]
+fn a_client_plays_its_block_with_the_names_of_setup(rt: HostRuntime) -> Result<(), Fail> {
+    assert_played(&rt, 4_000_000, Ok(()), JOURNAL)
+}
+
+/// A session has the size 1, each further one as much, and a job 2.
+#[test]
+fn a_play_stops_where_the_journal_is_full(rt: HostRuntime) -> Result<(), Fail> {
+    assert_played(
+        &rt,
+        3,
+        Err(Stopped::Full { size: 4 }),
+        "drmaa-journal 1 4 \"node1\" suspend\n1 0 @0 create-jobs \"nightly\" = session 1\n2 1 @10 open-jobs \"nightly\" = session 2\nend 2\n",
+    )
+}

@@ -1,0 +1,9 @@
+//! Tests of named sessions and of their jobs.
+#![tactic(auto)]
+
+#[cfg(test)]
+mod jobs;
+#[cfg(test)]
+mod machines;
+#[cfg(test)]
+mod sessions;
