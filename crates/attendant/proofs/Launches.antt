@@ -385,16 +385,24 @@ tells_of_same : {T : Type 0} (told : T → Option Told) (launcher reaper : List 
 tells_of_same told launcher reaper None fate old new hand same t = tt
 tells_of_same told launcher reaper (Some starts) fate old new hand same t = tells_same told starts fate launcher reaper old new hand same t
 
+-- a launch keeps what is kept whether the spawner tells or not
+made_tends : {T : Type 0} (told : T → Option Told) (n : ℕ) (l : Launch) (began : Bool) (answer : Option Reply) (mine mine2 reaper : List Act) (asked asked2 : Option (List Asked)) (fate fate2 : ℕ → Fate)
+    (old new : Slab (Held T)) (hand : Option Hand)
+    → Made told n l began answer mine mine2 asked asked2 fate fate2 old new → Tends mine reaper (get old) hand → Tends mine2 reaper (get new) hand
+made_tends told n l began answer mine mine2 reaper asked asked2 fate fate2 old new hand m t =
+    let f = fresh mine reaper (get old) hand t l.job l.attempt m.is_new in
+    let one = tends_launch n l mine reaper (get old) hand m.is_new t in
+    let all = tends_report n began l answer (mine ++ entry_of n TakeLaunch (reply.Launch l) ∷ []) reaper (get old) hand (launched_now n l mine) (last_launch_more None mine _) one in
+    subst (λ (x : List Act). Tends x reaper (get new) hand) (sym m.mine_is) (tends_puts told l began asked2 fate2 _ reaper old new hand m.puts (any_kept (launches_run l.job l.attempt) (mine ++ entry_of n TakeLaunch (reply.Launch l) ∷ []) (reports_of n began l answer) (launched_now n l mine)) f all)
+
 -- all that a launch keeps
 pub made_keeps : {T : Type 0} (told : T → Option Told) (n : ℕ) (l : Launch) (began : Bool) (answer : Option Reply) (mine mine2 reaper : List Act) (asked asked2 : Option (List Asked)) (fate fate2 : ℕ → Fate)
     (old new : Slab (Held T)) (hand : Option Hand)
     → Made told n l began answer mine mine2 asked asked2 fate fate2 old new → Keeps told asked fate mine reaper (get old) hand → Keeps told asked2 fate2 mine2 reaper (get new) hand
 made_keeps told n l began answer mine mine2 reaper asked asked2 fate fate2 old new hand m k =
     let f = fresh mine reaper (get old) hand k.tends l.job l.attempt m.is_new in
-    let one = tends_launch n l mine reaper (get old) hand m.is_new k.tends in
-    let all = tends_report n began l answer (mine ++ entry_of n TakeLaunch (reply.Launch l) ∷ []) reaper (get old) hand (launched_now n l mine) (last_launch_more None mine _) one in
     record {
-      tends = subst (λ (x : List Act). Tends x reaper (get new) hand) (sym m.mine_is) (tends_puts told l began asked2 fate2 _ reaper old new hand m.puts (any_kept (launches_run l.job l.attempt) (mine ++ entry_of n TakeLaunch (reply.Launch l) ∷ []) (reports_of n began l answer) (launched_now n l mine)) f all);
+      tends = made_tends told n l began answer mine mine2 reaper asked asked2 fate fate2 old new hand m k.tends;
       tells = subst (λ (x : List Act). TellsOf told asked2 fate2 x reaper (get new) hand) (sym m.mine_is)
           (tells_of told n l began answer mine reaper asked asked2 fate fate2 old new hand f m.asked_is m.fate_is m.puts k.tells);
     }
@@ -405,10 +413,14 @@ pub made_agrees : {T : Type 0} (told : T → Option Told) (n : ℕ) (l : Launch)
 made_agrees told n l began r mine mine2 reaper asked asked2 fate fate2 old new hand m k a =
     subst (λ (x : List Act). AgreesOf asked2 fate2 x reaper) (sym m.mine_is) (agrees_of told n l began r mine reaper asked asked2 fate fate2 (get old) hand m.is_new m.asked_is m.fate_is k.tends k.tells a)
 
+nothing_tends : {T : Type 0} (mine mine2 reaper : List Act) (asked asked2 : Option (List Asked)) (fate fate2 : ℕ → Fate) (old new : Slab (Held T)) (hand : Option Hand)
+    → Nothing mine mine2 asked asked2 fate fate2 old new → Tends mine reaper (get old) hand → Tends mine2 reaper (get new) hand
+nothing_tends mine mine2 reaper asked asked2 fate fate2 old new hand n t = subst (λ (x : List Act). Tends x reaper (get new) hand) (sym n.mine_is) (tends_same mine reaper old new hand n.same t)
+
 nothing_keeps : {T : Type 0} (told : T → Option Told) (mine mine2 reaper : List Act) (asked asked2 : Option (List Asked)) (fate fate2 : ℕ → Fate) (old new : Slab (Held T)) (hand : Option Hand)
     → Nothing mine mine2 asked asked2 fate fate2 old new → Keeps told asked fate mine reaper (get old) hand → Keeps told asked2 fate2 mine2 reaper (get new) hand
 nothing_keeps told mine mine2 reaper asked asked2 fate fate2 old new hand n k = record {
-  tends = subst (λ (x : List Act). Tends x reaper (get new) hand) (sym n.mine_is) (tends_same mine reaper old new hand n.same k.tends);
+  tends = nothing_tends mine mine2 reaper asked asked2 fate fate2 old new hand n k.tends;
   tells = subst (λ (x : List Act). TellsOf told asked2 fate2 x reaper (get new) hand) (sym n.mine_is)
       (subst (λ (f : ℕ → Fate). TellsOf told asked2 f mine reaper (get new) hand) (sym n.fate_is)
       (subst (λ (a : Option (List Asked)). TellsOf told a fate mine reaper (get new) hand) (sym n.asked_is)
@@ -421,6 +433,17 @@ nothing_agrees mine mine2 reaper asked asked2 fate fate2 old new n a =
     subst (λ (x : List Act). AgreesOf asked2 fate2 x reaper) (sym n.mine_is)
     (subst (λ (f : ℕ → Fate). AgreesOf asked2 f mine reaper) (sym n.fate_is)
     (subst (λ (q : Option (List Asked)). AgreesOf q fate mine reaper) (sym n.asked_is) a))
+
+-- a round of the launcher, whether the spawner tells or not
+pub round_tends : {T : Type 0} (told : T → Option Told) (before after : Post) (reaper : List Act) (asked asked2 : Option (List Asked)) (fate fate2 : ℕ → Fate) (old new : Slab (Held T)) (hand : Option Hand)
+    (r : Result Launched Refusal) → LaunchSteps told before after asked asked2 fate fate2 old new r → Tends (acts_at before) reaper (get old) hand → Tends (acts_at after) reaper (get new) hand
+round_tends told before after reaper asked asked2 fate fate2 old new hand (Ok launched.Nothing) s k = nothing_tends (acts_at before) (acts_at after) reaper asked asked2 fate fate2 old new hand s k
+round_tends told before after reaper asked asked2 fate fate2 old new hand (Ok (launched.Began job)) s k = made_tends told (number_of before.client) s.launch true (Some s.reply) (acts_at before) (acts_at after) reaper asked asked2 fate fate2 old new hand s.made k
+round_tends told before after reaper asked asked2 fate fate2 old new hand (Ok (launched.StartFailed job)) s k = made_tends told (number_of before.client) s.launch false (Some s.reply) (acts_at before) (acts_at after) reaper asked asked2 fate fate2 old new hand s.made k
+round_tends told before after reaper asked asked2 fate fate2 old new hand (Err why) s k = elim s [
+  | inl none ↦ nothing_tends (acts_at before) (acts_at after) reaper asked asked2 fate fate2 old new hand none.0 k
+  | inr m ↦ made_tends told (number_of before.client) m.0.launch m.0.began None (acts_at before) (acts_at after) reaper asked asked2 fate fate2 old new hand m.0.made k
+]
 
 -- a round of the launcher keeps what is kept
 pub round_keeps : {T : Type 0} (told : T → Option Told) (before after : Post) (reaper : List Act) (asked asked2 : Option (List Asked)) (fate fate2 : ℕ → Fate) (old new : Slab (Held T)) (hand : Option Hand)

@@ -16,7 +16,7 @@ use Rattle.attendant.specs.Posts.{Post, acts_at, IsStillAt}
 use Rattle.attendant.specs.Runs.{owed}
 use Rattle.attendant.specs.Steps.{entry_of, IsLaunchRefused, no_memory, no_space}
 use Rattle.attendant.specs.Rounds.{IsOrderServed, IsRoundRefused, wants_memory, full_at_take, full_at_report}
-use Rattle.attendant.specs.Outside.{Attending, IsHeldUp, out_of_memory, full_at_launch, full_at_order, full_at_answer}
+use Rattle.attendant.specs.Outside.{Tends, Keeping, Attending, IsHeldUp, out_of_memory, full_at_launch, full_at_order, full_at_answer}
 use Rattle.attendant.proofs.Desks.{still-same, still-free, fails-on, fails-from}
 use Rattle.attendant.proofs.Entries.{owed_more}
 use Rattle.attendant.proofs.Causes.{fails-now}
@@ -25,9 +25,15 @@ use Rattle.attendant.proofs.Causes.{fails-now}
 pub attending_on : {T : Type 0} (told : T → Option Told) (q0 q1 q2 : Option (List Asked)) (f0 f1 f2 : ℕ → Fate) (l0 l1 l2 r0 r1 r2 : List Act) (a0 a1 a2 : ℕ → Option (Held T)) (h0 h1 h2 : Option Hand) (C D E : Type 0)
     → (E → C) → (E → D) → Attending told q0 q1 f0 f1 l0 l1 r0 r1 a0 a1 h0 h1 C → Attending told q1 q2 f1 f2 l1 l2 r1 r2 a1 a2 h1 h2 D → Attending told q0 q2 f0 f2 l0 l2 r0 r2 a0 a2 h0 h2 E
 attending_on told q0 q1 q2 f0 f1 f2 l0 l1 l2 r0 r1 r2 a0 a1 a2 h0 h1 h2 C D E left right p q = record {
+  tends = λ t. q.tends (p.tends t);
   keeps = λ k. q.keeps (p.keeps k);
   agrees = λ clean k a. q.agrees (right clean) (p.keeps k) (p.agrees (left clean) k a);
 }
+
+-- a round of the reaper, whether the spawner tells or not
+pub reaping_tends : {T : Type 0} (told : T → Option Told) (fate : ℕ → Fate) (launcher r0 r1 : List Act) (a0 a1 : ℕ → Option (Held T)) (h0 h1 : Option Hand)
+    → Keeping told r0 r1 a0 a1 h0 h1 → Tends launcher r0 a0 h0 → Tends launcher r1 a1 h1
+reaping_tends told fate launcher r0 r1 a0 a1 h0 h1 k t = (k.keeps launcher None fate (record { tends = t; tells = tt })).tends
 
 pub launch_held : (l0 l1 r0 r1 : Post) (why : Refusal) → IsFree l0.shared l0.client → IsStillAt l0 l1 → IsLaunchRefused l0 l1 why → IsHeldUp l0 l1 r0 r1 why
 launch_held l0 l1 r0 r1 why free still (no_memory w) = out_of_memory w

@@ -6,7 +6,7 @@ ghost use Rattle.turn_lock.specs.Tokens.{IsFree};
 ghost use Rattle.call_history.specs.Clients.{seen_of};
 ghost use Rattle.attendant.specs.Acts.{own_acts};
 ghost use Rattle.attendant.specs.Posts.{post, IsStillAt};
-ghost use Rattle.attendant.specs.Outside.{Keeps, Attending, EndsSettled, IsHeldUp};
+ghost use Rattle.attendant.specs.Outside.{Tends, Attending, EndsSettled, IsHeldUp};
 
 use crate::launching::launch_once;
 use crate::reaping::{first_of, reap_once};
@@ -58,8 +58,7 @@ fn attend_once<R: Wait, S: Spawner, C: Clock>(
     ensures attending { Attending S.One.told (S.asked spawner.old) (S.asked spawner.new) (S.fate spawner.old) (S.fate spawner.new)
         (own_acts launcher.old.client) (own_acts launcher.new.client) (own_acts reaping.old.client) (own_acts reaping.new.client)
         (get reaper.old.children) (get reaper.new.children) reaper.old.order reaper.new.order (IsOk result) }
-    ensures err { Keeps S.One.told (S.asked spawner.old) (S.fate spawner.old) (own_acts launcher.old.client) (own_acts reaping.old.client)
-        (get reaper.old.children) reaper.old.order → IfErr result (IsHeldUp (post C.given C.least launcher.old) (post C.given C.least launcher.new)
+    ensures err { Tends (own_acts launcher.old.client) (own_acts reaping.old.client) (get reaper.old.children) reaper.old.order → IfErr result (IsHeldUp (post C.given C.least launcher.old) (post C.given C.least launcher.new)
         (post C.given C.least reaping.old) (post C.given C.least reaping.new)) }
 {
     let launched = launch_once(rt, launcher, spawner, reaper);
@@ -107,8 +106,7 @@ pub fn run_attendant<R: Wait + Pause, S: Spawner, C: Clock>(
     ensures attending { Attending S.One.told (S.asked spawner.old) (S.asked spawner.new) (S.fate spawner.old) (S.fate spawner.new)
         (own_acts launcher.old.client) (own_acts launcher.new.client) (own_acts reaping.old.client) (own_acts reaping.new.client)
         (get reaper.old.children) (get reaper.new.children) reaper.old.order reaper.new.order (IsOk result) }
-    ensures err { Keeps S.One.told (S.asked spawner.old) (S.fate spawner.old) (own_acts launcher.old.client) (own_acts reaping.old.client)
-        (get reaper.old.children) reaper.old.order → IfErr result (IsHeldUp (post C.given C.least launcher.old) (post C.given C.least launcher.new)
+    ensures err { Tends (own_acts launcher.old.client) (own_acts reaping.old.client) (get reaper.old.children) reaper.old.order → IfErr result (IsHeldUp (post C.given C.least launcher.old) (post C.given C.least launcher.new)
         (post C.given C.least reaping.old) (post C.given C.least reaping.new)) }
     ensures settled { OnOk result (EndsSettled launcher.old.shared.now.fixed (post C.given C.least launcher.new)) }
     ensures begins { OnOk result (BeginsWith (seen_of launcher.new.client) (seen_of reaping.new.client)) }
@@ -158,8 +156,7 @@ pub fn finish<R: Wait + Pause, S: Spawner, C: Clock>(
     ensures attending { Attending S.One.told (S.asked spawner.old) (S.asked spawner.new) (S.fate spawner.old) (S.fate spawner.new)
         (own_acts launcher.old.client) (own_acts launcher.new.client) (own_acts reaping.old.client) (own_acts reaping.new.client)
         (get reaper.old.children) (get reaper.new.children) reaper.old.order reaper.new.order (IsOk result) }
-    ensures err { Keeps S.One.told (S.asked spawner.old) (S.fate spawner.old) (own_acts launcher.old.client) (own_acts reaping.old.client)
-        (get reaper.old.children) reaper.old.order → IfErr result (IsHeldUp (post C.given C.least launcher.old) (post C.given C.least launcher.new)
+    ensures err { Tends (own_acts launcher.old.client) (own_acts reaping.old.client) (get reaper.old.children) reaper.old.order → IfErr result (IsHeldUp (post C.given C.least launcher.old) (post C.given C.least launcher.new)
         (post C.given C.least reaping.old) (post C.given C.least reaping.new)) }
     ensures settled { OnOk result (EndsSettled launcher.old.shared.now.fixed (post C.given C.least launcher.new)) }
     ensures begins { OnOk result (BeginsWith (seen_of launcher.new.client) (seen_of reaping.new.client)) }

@@ -8,7 +8,7 @@ ghost use Rattle.attendant.specs.Acts.{Act, launch_reply, duty_of, own_acts};
 ghost use Rattle.attendant.specs.Posts.{post, IsStillAt, Fails};
 ghost use Rattle.drmaa_types.specs.Counts.{Rose};
 ghost use Rattle.slab.specs.Slab.{get, SameValues, HasRoomFor};
-ghost use Rattle.attendant.specs.Outside.{Keeps, AgreesOf};
+ghost use Rattle.attendant.specs.Outside.{Tends, Keeps, AgreesOf};
 ghost use Rattle.attendant.specs.Steps.{entry_of, report_call, asked_start, Takes, Reports, PutsAt, LaunchSteps, MayFail, IsNothing, IsFailedStart, IsLaunchRefused};
 
 use crate::asking::ask;
@@ -171,6 +171,8 @@ pub fn launch_once<R: Wait, S: Spawner, C: Clock>(
     ensures steps { LaunchSteps S.One.told (post C.given C.least desk.old) (post C.given C.least desk.new)
         (S.asked spawner.old) (S.asked spawner.new) (S.fate spawner.old) (S.fate spawner.new)
         reaper.old.children reaper.new.children result }
+    ensures tends { (reaped : List Act) → Tends (own_acts desk.old.client) reaped (get reaper.old.children) reaper.old.order →
+        Tends (own_acts desk.new.client) reaped (get reaper.new.children) reaper.new.order }
     ensures keeps { (reaped : List Act) →
         Keeps S.One.told (S.asked spawner.old) (S.fate spawner.old) (own_acts desk.old.client) reaped (get reaper.old.children) reaper.old.order →
         Keeps S.One.told (S.asked spawner.new) (S.fate spawner.new) (own_acts desk.new.client) reaped (get reaper.new.children) reaper.new.order }

@@ -9,7 +9,7 @@ pub loop-init : goal.loop-init
 loop-init g c = record {
   launcher = still-same _ c.requires.launcher;
   reaping = still-same _ c.requires.reaping;
-  attending = record { keeps = λ k. k; agrees = λ clean k a. a };
+  attending = record { tends = λ t. t; keeps = λ k. k; agrees = λ clean k a. a };
 }
 
 pub returns-in_err-idle-clause-launcher : goal.returns-in_err-idle-clause-launcher
@@ -22,7 +22,7 @@ pub returns-in_err-idle-clause-err : goal.returns-in_err-idle-clause-err
 returns-in_err-idle-clause-err g c k =
     let i = c.loop.invariant in
     let p = err_from_is_err_and c.from_residual.result c.from_residual.ensures.1 in
-    rw (p.1, p.2) (held_from _ _ _ _ _ _ _ i.launcher i.reaping (c.in_err-idle.ensures.err (i.attending.keeps k)))
+    rw (p.1, p.2) (held_from _ _ _ _ _ _ _ i.launcher i.reaping (c.in_err-idle.ensures.err (i.attending.tends k)))
 
 pub returns-then-is_settled-clause-launcher : goal.returns-then-is_settled-clause-launcher
 returns-then-is_settled-clause-launcher g c = still-both _ _ _ (still-both _ _ _ c.loop.invariant.launcher c.attend_once.ensures.launcher) c.is_settled.ensures.launcher

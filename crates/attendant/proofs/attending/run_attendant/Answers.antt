@@ -17,7 +17,7 @@ pub loop-init : goal.loop-init
 loop-init g c = record {
   launcher = still-same _ c.requires.launcher;
   reaping = still-same _ c.requires.reaping;
-  attending = record { keeps = λ k. k; agrees = λ clean k a. a };
+  attending = record { tends = λ t. t; keeps = λ k. k; agrees = λ clean k a. a };
   held = λ k. tt;
 }
 
@@ -34,7 +34,7 @@ returns-in-Some-kept-clause-err g c k =
     let h : IfSome c.match-attend_once.kept (IsHeldUp (post g.C.Clock.given g.C.Clock.least c.args.launcher.now) (post g.C.Clock.given g.C.Clock.least c.attend_once.new.launcher) (post g.C.Clock.given g.C.Clock.least c.args.reaping.now) (post g.C.Clock.given g.C.Clock.least c.attend_once.new.reaping)) = elim c.match-attend_once.branch [
       | in-Ok w ↦ kept_some c.loop.kept c.match-attend_once.kept _ _ w.kept-is (λ why. held_on _ _ _ _ _ _ why e.launcher e.reaping) (i.held k)
       | in-Err w ↦ first_some c.loop.kept c.match-attend_once.kept w.in-Err.why _ _ (w.kept-is ∙ w.first_of-kept.ensures) (λ why. held_on _ _ _ _ _ _ why e.launcher e.reaping) (i.held k)
-          (held_from _ _ _ _ _ _ _ i.launcher i.reaping (w.in-Err.ensures.err (i.attending.keeps k)))
+          (held_from _ _ _ _ _ _ _ i.launcher i.reaping (w.in-Err.ensures.err (i.attending.tends k)))
     ] in
     rw c.in-Some-kept.is at h
 
@@ -63,7 +63,7 @@ loop-preserved-then-idle g c =
       held = λ k. IfSome_then c.match-attend_once.kept (let h : IfSome c.match-attend_once.kept (IsHeldUp (post g.C.Clock.given g.C.Clock.least c.args.launcher.now) (post g.C.Clock.given g.C.Clock.least c.attend_once.new.launcher) (post g.C.Clock.given g.C.Clock.least c.args.reaping.now) (post g.C.Clock.given g.C.Clock.least c.attend_once.new.reaping)) = elim c.match-attend_once.branch [
         | in-Ok w ↦ kept_some c.loop.kept c.match-attend_once.kept _ _ w.kept-is (λ why. held_on _ _ _ _ _ _ why e.launcher e.reaping) (i.held k)
         | in-Err w ↦ first_some c.loop.kept c.match-attend_once.kept w.in-Err.why _ _ (w.kept-is ∙ w.first_of-kept.ensures) (λ why. held_on _ _ _ _ _ _ why e.launcher e.reaping) (i.held k)
-            (held_from _ _ _ _ _ _ _ i.launcher i.reaping (w.in-Err.ensures.err (i.attending.keeps k)))
+            (held_from _ _ _ _ _ _ _ i.launcher i.reaping (w.in-Err.ensures.err (i.attending.tends k)))
       ] in h) (λ why h. held_on _ _ _ _ _ _ why s.launcher s.reaping h);
     }
 
@@ -86,6 +86,6 @@ loop-preserved g c =
       held = λ k. IfSome_then c.match-attend_once.kept (let h : IfSome c.match-attend_once.kept (IsHeldUp (post g.C.Clock.given g.C.Clock.least c.args.launcher.now) (post g.C.Clock.given g.C.Clock.least c.attend_once.new.launcher) (post g.C.Clock.given g.C.Clock.least c.args.reaping.now) (post g.C.Clock.given g.C.Clock.least c.attend_once.new.reaping)) = elim c.match-attend_once.branch [
         | in-Ok w ↦ kept_some c.loop.kept c.match-attend_once.kept _ _ w.kept-is (λ why. held_on _ _ _ _ _ _ why e.launcher e.reaping) (i.held k)
         | in-Err w ↦ first_some c.loop.kept c.match-attend_once.kept w.in-Err.why _ _ (w.kept-is ∙ w.first_of-kept.ensures) (λ why. held_on _ _ _ _ _ _ why e.launcher e.reaping) (i.held k)
-            (held_from _ _ _ _ _ _ _ i.launcher i.reaping (w.in-Err.ensures.err (i.attending.keeps k)))
+            (held_from _ _ _ _ _ _ _ i.launcher i.reaping (w.in-Err.ensures.err (i.attending.tends k)))
       ] in h) (λ why h. held_on _ _ _ _ _ _ why s.launcher s.reaping h);
     }

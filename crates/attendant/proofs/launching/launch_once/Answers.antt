@@ -1,5 +1,8 @@
-use Rattle.attendant.proofs.Launches.{round_keeps, round_agrees, launch_refused}
+use Rattle.attendant.proofs.Launches.{round_tends, round_keeps, round_agrees, launch_refused}
 use Rattle.attendant.proofs.launching.launch_once.Goals as goal
+
+pub returns-clause-tends : goal.returns-clause-tends
+returns-clause-tends g c reaped t = rw c.launch_round.ensures.order (round_tends _ _ _ reaped _ _ _ _ _ _ _ _ c.launch_round.ensures.steps t)
 
 pub returns-clause-keeps : goal.returns-clause-keeps
 returns-clause-keeps g c reaped k = rw c.launch_round.ensures.order (round_keeps _ _ _ reaped _ _ _ _ _ _ _ _ c.launch_round.ensures.steps k)

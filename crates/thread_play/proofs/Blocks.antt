@@ -1,0 +1,79 @@
+-- What the play of a block says of its client's entries.
+use Rattle.std.proofs.Common.{◌≡◌, ℕ, List, [], ◌∷◌, ◌++◌, Option, Some, None, refl, sym, ap, ◌∙◌, subst, append_assoc, append-nil}
+use Rattle.std.specs.Prelude.{Result, Ok, Err, IfOk, IfErr}
+use Rattle.drmaa_model.specs.declared.configs.Config.{Config}
+use Rattle.drmaa_model.specs.declared.entries.Entry.{Entry}
+use Rattle.call_history.specs.Clients.{Seat, seen_of, mine_of}
+use Rattle.script_lines.specs.declared.lines.Line.{Line}
+use Rattle.script_text.specs.declared.scripts.Script.{Script}
+use Rattle.script_asks.specs.declared.given.Given.{Given}
+use Rattle.script_text.specs.Follows.{lines_of}
+use Rattle.script_asks.specs.Plays.{Plays, names_by, setup_names}
+use Rattle.block_play.specs.declared.stops.Stopped.{Stopped}
+use Rattle.block_play.specs.declared.stops.Stopped.TheVariants as stopped
+use Rattle.block_play.specs.Played.{IsFullFor, PlayedLines, StopsBefore, StopsLines}
+use Rattle.block_play.specs.PlayLaws.{plays-asked, plays-names}
+use Rattle.thread_play.specs.Stages.{StopsAt, PlaysOn}
+
+abbrev pub Names : Type 0
+Names = List (List ℕ × Given)
+
+-- the entries of a client that had made none
+pub made-all : (old new added : List Entry) → old ≡ [] → new ≡ old ++ added → added ≡ new
+made-all old new added none is = sym (is ∙ ap (λ (l : List Entry). l ++ added) none)
+
+pub played-all : (s : Script) (names after : Names) (ls : List Line) (old new : List Entry) (least : ℕ) → old ≡ [] → PlayedLines s names ls 0 old new after least → Plays s names 0 ls new
+played-all s names after ls old new least none p =
+    subst (λ (es : List Entry). Plays s names 0 ls es) (made-all old new p.added none p.mine) (plays-asked s names after 0 p.then ls p.added p.plays)
+
+pub played-names : (s : Script) (names after : Names) (ls : List Line) (old new : List Entry) (least : ℕ) → old ≡ [] → PlayedLines s names ls 0 old new after least → after ≡ names_by s names ls new
+played-names s names after ls old new least none p =
+    sym (plays-names s names after 0 p.then ls p.added p.plays) ∙ ap (λ (es : List Entry). names_by s names ls es) (made-all old new p.added none p.mine)
+
+stops-full : (config : Config) (s : Script) (names after : Names) (ls front back : List Line) (old : List Entry) (new : Seat) (least size : ℕ) → old ≡ [] → ls ≡ front ++ back
+    → PlayedLines s names front 0 old (mine_of new) after least → StopsBefore config s after back (seen_of new) (stopped.Full size) → StopsAt config s names ls (mine_of new) (seen_of new) size
+stops-full config s names after ls front [] old new least size none is p stops = absurd stops
+stops-full config s names after ls front (l ∷ back) old new least size none is p stops = record {
+  front = front;
+  line = l;
+  back = back;
+  lines = is;
+  played = played-all s names after front old (mine_of new) least none p;
+  full = subst (λ (n : Names). IsFullFor config s n l (seen_of new) size) (played-names s names after front old (mine_of new) least none p) stops;
+}
+
+stops-on : (A : Type 0) (config : Config) (s : Script) (names : Names) (ls : List Line) (old new : Seat) (why : Stopped) → mine_of old ≡ []
+    → StopsLines config s names ls 0 old new why → PlaysOn {A = A} config s names ls (mine_of new) (seen_of new) (Err why)
+stops-on A config s names ls old new stopped.Memory none p = tt
+stops-on A config s names ls old new (stopped.Full size) none p = stops-full config s names p.after ls p.front p.back (mine_of old) new p.least size none p.lines p.played p.cause
+
+-- a block that was played, by a client that had made nothing
+pub plays-on : (config : Config) (s : Script) (names : Names) (ls : List Line) (old new : Seat) (least : ℕ) (r : Result Names Stopped) → mine_of old ≡ []
+    → IfOk r (λ after. PlayedLines s names ls 0 (mine_of old) (mine_of new) after least) → IfErr r (λ why. StopsLines config s names ls 0 old new why)
+    → PlaysOn config s names ls (mine_of new) (seen_of new) r
+plays-on config s names ls old new least (Ok after) none good bad = played-all s names after ls (mine_of old) (mine_of new) least none good
+plays-on config s names ls old new least (Err why) none good bad = stops-on Names config s names ls old new why none bad
+
+-- whatever an end that is none tells
+pub plays-told : (A B : Type 0) (config : Config) (s : Script) (names : Names) (ls : List Line) (own seen : List Entry) (why : Stopped) → PlaysOn {A = A} config s names ls own seen (Err why) → PlaysOn {A = B} config s names ls own seen (Err why)
+plays-told A B config s names ls own seen stopped.Memory p = tt
+plays-told A B config s names ls own seen (stopped.Full size) p = p
+
+-- the names that setup gave
+pub names-of : (s : Script) (old new : List Entry) (least : ℕ) (r : Result Names Stopped) → old ≡ [] → IfOk r (λ after. PlayedLines s [] (lines_of s.setup) 0 old new after least)
+    → IfOk r (λ names. names ≡ setup_names s new)
+names-of s old new least (Ok after) none good = played-names s [] after (lines_of s.setup) old new least none good
+names-of s old new least (Err why) none good = tt
+
+-- an end that tells less
+pub ends-well : (A B : Type 0) (config : Config) (s : Script) (names : Names) (ls : List Line) (own seen : List Entry) (r : Result A Stopped) (q : Result B Stopped) (a : A) (b : B) → r ≡ Ok a → q ≡ Ok b
+    → PlaysOn config s names ls own seen r → PlaysOn config s names ls own seen q
+ends-well A B config s names ls own seen r q a b is same p =
+    let done : Plays s names 0 ls own = subst (λ (x : Result A Stopped). PlaysOn config s names ls own seen x) is p in
+    subst (λ (x : Result B Stopped). PlaysOn config s names ls own seen x) (sym same) done
+
+pub ends-early : (A B : Type 0) (config : Config) (s : Script) (names : Names) (ls : List Line) (own seen : List Entry) (r : Result A Stopped) (q : Result B Stopped) (why : Stopped) → r ≡ Err why → q ≡ Err why
+    → PlaysOn config s names ls own seen r → PlaysOn config s names ls own seen q
+ends-early A B config s names ls own seen r q why is same p =
+    subst (λ (x : Result B Stopped). PlaysOn config s names ls own seen x) (sym same)
+    (plays-told A B config s names ls own seen why (subst (λ (x : Result A Stopped). PlaysOn config s names ls own seen x) is p))

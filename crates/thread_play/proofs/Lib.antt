@@ -1,0 +1,10 @@
+pub mod Lists
+pub mod Beginnings
+pub mod Blocks
+pub mod Clients
+pub mod Callers
+pub mod Posts
+pub mod Endings
+pub mod Making
+pub mod Whole
+pub mod Printable

@@ -1,0 +1,288 @@
+-- From the parts of a run to what all leave.
+use Rattle.std.proofs.Common.{◌≡◌, ◌≢◌, ◌⊎◌, inl, inr, ℕ, suc, ◌+◌, ◌<◌, ◌≤◌, List, [], ◌∷◌, ◌++◌, map, set, replicate, length, slice_index_or, Option, Some, None, refl, sym, ap, ◌∙◌, subst, append_assoc, append-nil, length-append, arith}
+use Rattle.std.specs.Prelude.{IfSome, Result, Ok, Err, IsOk}
+use Rattle.std.specs.List.{slice_get}
+use Rattle.child_spawner.specs.declared.fates.Asked.{Asked}
+use Rattle.child_spawner.specs.declared.fates.Fate.{Fate}
+use Rattle.child_spawner.specs.Children.{Told}
+use Rattle.drmaa_types.specs.declared.refusals.Refusal.{Refusal}
+use Rattle.drmaa_types.specs.declared.refusals.Refusal.TheVariants.{OutOfResource}
+use Rattle.drmaa_types.specs.declared.refusals.Limit.TheVariants as limit
+use Rattle.drmaa_model.specs.declared.configs.Config.{Config}
+use Rattle.drmaa_model.specs.declared.entries.Entry.{Entry}
+use Rattle.turn_lock.specs.Histories.{BeginsWith}
+use Rattle.turn_lock.specs.Tokens.{Named, BelongsTo, IsFree}
+use Rattle.call_history.specs.Clients.{Seat, seen_of, mine_of, number_of, retired_of, KnowsItsOwn}
+use Rattle.call_history.specs.ClientLaws.{begins-itself, begins-both}
+use Rattle.call_history.specs.Timed.{IsTimed}
+use Rattle.script_lines.specs.declared.lines.Line.{Line}
+use Rattle.script_text.specs.declared.scripts.Script.{Script}
+use Rattle.script_asks.specs.declared.given.Given.{Given}
+use Rattle.attendant.specs.declared.reaper.Held.{Held}
+use Rattle.attendant.specs.declared.reaper.Hand.{Hand}
+use Rattle.attendant.specs.Acts.{acts_of, own_acts, Act}
+use Rattle.attendant.specs.Posts.{Post}
+use Rattle.attendant.specs.Outside.{Tends, Keeps, AgreesOf, IsHeldUp}
+use Rattle.block_play.specs.declared.stops.Stopped.{Stopped}
+use Rattle.block_play.specs.declared.stops.Stopped.TheVariants as stopped
+use Rattle.thread_play.specs.declared.pairs.Pair.{Pair}
+use Rattle.thread_play.specs.declared.workers.Worker.{Worker}
+use Rattle.thread_play.specs.Stages.{PlaysOn, IsNew, IsHired, Hired, HasPlayed, HavePlayed, Dismissed, EndsAs, worse, worst, with_back}
+use Rattle.thread_play.specs.Pairs.{launcher_at, reaping_at, HasAttended, HasSettled, HasEnded, AreReleased}
+use Rattle.thread_play.specs.Others.{IsBack, IsEnded, IsFullAtEnd, by_attendant, by_client, EndsWhole, Ends, Others}
+use Rattle.thread_play.proofs.Lists.{replicate-more, length-replicated, set-between, length-mapped, some-item}
+use Rattle.thread_play.proofs.Clients.{Lists, own_lists, hired-count, with_back-all, worst-none, worst-full, MetBy, FullEnds}
+use Rattle.thread_play.proofs.Callers.{launcher-at-once, reaper-at-once}
+use Rattle.thread_play.proofs.Posts.{still-timed, none-timed}
+use Rattle.thread_play.proofs.Endings.{full-held, whole-ok}
+
+-- a client that was opened last
+pub record IsOpened (shared : Named Config) (o p : Seat) (client : Seat) : Type 0 where
+  pub opener : BelongsTo shared p
+  pub retired : retired_of p ≡ retired_of o ++ None ∷ []
+  pub seen : seen_of p ≡ seen_of o
+  pub number : number_of client ≡ length (retired_of o)
+  pub begins : seen_of client ≡ seen_of o
+  pub mine : mine_of client ≡ []
+  pub own : KnowsItsOwn client
+
+-- before the first round all is kept
+pub record Nothing {T : Type 0} (told : T → Option Told) (at : ℕ → Option (Held T)) : Type 0 where
+  pub untold : (fate : ℕ → Fate) → Keeps told None fate [] [] at None
+  pub keeps : (fate : ℕ → Fate) → Keeps told (Some []) fate [] [] at None
+  pub agrees : (fate : ℕ → Fate) → AgreesOf (Some []) fate [] []
+
+-- the stop that a size stands for
+abbrev pub stop_at : Option ℕ → Option Stopped
+stop_at None = None
+stop_at (Some size) = Some (stopped.Full size)
+
+begins-same : (a b c : List Entry) → BeginsWith a b → b ≡ c → BeginsWith a c
+begins-same a b c h is = subst (BeginsWith a) is h
+
+module _ {C T : Type 0} (given : C → Option (List ℕ)) (least : C → ℕ) (told : T → Option Told) (s : Script) (names : List (List ℕ × Given)) (shared : Named Config)
+    (o p0 p1 p2 p3 p4 : Seat) (ws vs : List (Worker C)) (pa pb pc pd : Pair C)
+    (asked asked1 asked2 : Option (List Asked)) (fate fate1 fate2 : ℕ → Fate) (at0 at1 at2 : ℕ → Option (Held T)) (hand0 hand1 hand2 : Option Hand)
+    (r : Result (Unit {0}) Refusal) (end : Result (Unit {0}) Stopped) (ended after : Option Stopped) (clocks0 clocks1 clocks2 : List C)
+    (first : length (retired_of o) ≡ 1) (hired : Hired given shared o p0 ws) (count : length ws ≡ length s.clients)
+    (ol : IsOpened shared p0 p1 pa.launcher) (or : IsOpened shared p1 p2 pa.reaping) (start : Nothing told at0) (no_hand : hand0 ≡ None)
+    (a : HasAttended given least told shared pa pb asked asked1 fate fate1 at0 at1 hand0 hand1 r) (played : HavePlayed given shared s names ws vs) (ends_so : EndsAs r end)
+    (d : Dismissed shared p2 p3 pb.launcher pc.launcher vs) (clock_l : pc.launcher_clock ≡ pb.launcher_clock) (same_r : pc.reaping ≡ pb.reaping) (clock_r : pc.reaping_clock ≡ pb.reaping_clock)
+    (worst_is : ended ≡ worst (worse None end) vs)
+    (e : HasEnded given least told shared pc pd asked1 asked2 fate1 fate2 at1 at2 hand1 hand2 ended after) (rel : AreReleased shared p3 p4 pd)
+    (clocks_d : clocks1 ≡ clocks0 ++ map (λ (w : Worker C). w.clock) vs) (clocks_r : clocks2 ≡ (clocks1 ++ pd.launcher_clock ∷ []) ++ pd.reaping_clock ∷ []) where
+  -- ---- what was seen
+
+  seen-o : seen_of p2 ≡ seen_of o
+  seen-o = or.seen ∙ (ol.seen ∙ hired.seen)
+
+  begins-o : BeginsWith (seen_of p4) (seen_of o)
+  begins-o = begins-same (seen_of p4) (seen_of p2) (seen_of o) (begins-both (seen_of p2) (seen_of p3) (seen_of p4) d.seen rel.begins) seen-o
+
+  -- the launcher's client, from its opening to its return
+  bc : BeginsWith (seen_of pc.launcher) (seen_of pb.launcher)
+  bc = d.launcher.begins
+
+  cd : BeginsWith (seen_of pd.launcher) (seen_of pc.launcher)
+  cd = e.launcher.begins
+
+  known-first : BeginsWith (seen_of pd.launcher) (seen_of o)
+  known-first = begins-same (seen_of pd.launcher) (seen_of pa.launcher) (seen_of o)
+      (begins-both (seen_of pa.launcher) (seen_of pb.launcher) (seen_of pd.launcher) a.launcher.begins (begins-both (seen_of pb.launcher) (seen_of pc.launcher) (seen_of pd.launcher) bc cd))
+      (ol.begins ∙ hired.seen)
+
+  launcher-b : BeginsWith (seen_of p4) (seen_of pb.launcher)
+  launcher-b = begins-both (seen_of pb.launcher) (seen_of pd.launcher) (seen_of p4) (begins-both (seen_of pb.launcher) (seen_of pc.launcher) (seen_of pd.launcher) bc cd) rel.launcher
+
+  reaping-b : BeginsWith (seen_of p4) (seen_of pb.reaping)
+  reaping-b = begins-same (seen_of p4) (seen_of pc.reaping) (seen_of pb.reaping) (begins-both (seen_of pc.reaping) (seen_of pd.reaping) (seen_of p4) e.reaping.begins rel.reaping) (ap (λ (x : Seat). seen_of x) same_r)
+
+  -- ---- what launcher and reaper keep
+
+  launcher-acts : own_acts pc.launcher ≡ own_acts pb.launcher
+  launcher-acts = ap (λ (es : List Entry). acts_of es) d.mine
+
+  reaping-acts : own_acts pc.reaping ≡ own_acts pb.reaping
+  reaping-acts = ap (λ (x : Seat). own_acts x) same_r
+
+  launcher-none : own_acts pa.launcher ≡ []
+  launcher-none = ap (λ (es : List Entry). acts_of es) ol.mine
+
+  reaping-none : own_acts pa.reaping ≡ []
+  reaping-none = ap (λ (es : List Entry). acts_of es) or.mine
+
+  -- from no entries to those that the two began with
+  at-start : (P : List Act → List Act → Option Hand → Type 0) → P [] [] None → P (own_acts pa.launcher) (own_acts pa.reaping) hand0
+  at-start P p = subst (λ (l : List Act). P l (own_acts pa.reaping) hand0) (sym launcher-none) (subst (λ (l : List Act). P [] l hand0) (sym reaping-none) (subst (λ (h : Option Hand). P [] [] h) (sym no_hand) p))
+
+  -- from what the two had to what they go on with
+  at-end : (P : List Act → List Act → Type 0) → P (own_acts pb.launcher) (own_acts pb.reaping) → P (own_acts pc.launcher) (own_acts pc.reaping)
+  at-end P p = subst (λ (l : List Act). P l (own_acts pc.reaping)) (sym launcher-acts) (subst (λ (l : List Act). P (own_acts pb.launcher) l) (sym reaping-acts) p)
+
+  tends-a : Tends (own_acts pa.launcher) (own_acts pa.reaping) at0 hand0
+  tends-a = at-start (λ l m h. Tends l m at0 h) (start.untold fate).tends
+
+  tends-b : Tends (own_acts pb.launcher) (own_acts pb.reaping) at1 hand1
+  tends-b = a.attending.tends tends-a
+
+  tends-c : Tends (own_acts pc.launcher) (own_acts pc.reaping) at1 hand1
+  tends-c = at-end (λ l m. Tends l m at1 hand1) tends-b
+
+  tends-d : Tends (own_acts pd.launcher) (own_acts pd.reaping) at2 hand2
+  tends-d = e.attending.tends tends-c
+
+  keeps-a : asked ≡ Some [] → Keeps told asked fate (own_acts pa.launcher) (own_acts pa.reaping) at0 hand0
+  keeps-a none = subst (λ (q : Option (List Asked)). Keeps told q fate (own_acts pa.launcher) (own_acts pa.reaping) at0 hand0) (sym none) (at-start (λ l m h. Keeps told (Some []) fate l m at0 h) (start.keeps fate))
+
+  keeps-c : asked ≡ Some [] → Keeps told asked1 fate1 (own_acts pc.launcher) (own_acts pc.reaping) at1 hand1
+  keeps-c none = at-end (λ l m. Keeps told asked1 fate1 l m at1 hand1) (a.attending.keeps (keeps-a none))
+
+  keeps-d : asked ≡ Some [] → Keeps told asked2 fate2 (own_acts pd.launcher) (own_acts pd.reaping) at2 hand2
+  keeps-d none = e.attending.keeps (keeps-c none)
+
+  agrees-a : asked ≡ Some [] → AgreesOf asked fate (own_acts pa.launcher) (own_acts pa.reaping)
+  agrees-a none = subst (λ (q : Option (List Asked)). AgreesOf q fate (own_acts pa.launcher) (own_acts pa.reaping)) (sym none) (at-start (λ l m h. AgreesOf (Some []) fate l m) (start.agrees fate))
+
+  well : after ≡ None → (worse None end ≡ None) × ((i : ℕ) (v : Worker C) → i < length vs → (slice_index_or vs i v).ended ≡ Ok tt)
+  well none = worst-none (worse None end) vs (sym worst_is ∙ (e.whole none).0)
+
+  agrees-d : after ≡ None → asked ≡ Some [] → AgreesOf asked2 fate2 (own_acts pd.launcher) (own_acts pd.reaping)
+  agrees-d none q =
+      e.attending.agrees none (keeps-c q) (at-end (λ l m. AgreesOf asked1 fate1 l m) (a.attending.agrees (whole-ok given least told shared r end ends_so (well none).0) (keeps-a q) (agrees-a q)))
+
+  -- ---- the clients
+
+  vs-count : length vs ≡ length s.clients
+  vs-count = played.count ∙ count
+
+  in-ws : (i : ℕ) → i < length vs → i < length ws
+  in-ws i h = let c = played.count in omega arith
+
+  client-number : (i : ℕ) (v : Worker C) → i < length vs → number_of (slice_index_or vs i v).client ≡ i + 1
+  client-number i v h =
+      let w = some-item ws i (in-ws i h) in
+      let hp = played.each i v (in-ws i h) in
+      let n = (hired.each i v (in-ws i h)).client.number_is in
+      hp.still.number ∙ n
+
+  sufficed : (full : Option ℕ) → after ≡ stop_at full → (i : ℕ) (v : Worker C) → i < length vs → (slice_index_or vs i v).ended ≢ Err stopped.Memory
+  sufficed None is i v h bad = let good = (well is).1 i v h in absurd (cc)
+  sufficed (Some size) is i v h bad = elim (e.full size tends-c is) [
+    | inl before ↦ (worst-full (worse None end) vs size (sym worst_is ∙ before)).sufficed i v h bad
+    | inr then ↦ (let good = (worst-none (worse None end) vs (sym worst_is ∙ then.0)).1 i v h in absurd (cc))
+  ]
+
+  client-ended : (full : Option ℕ) → after ≡ stop_at full → (i : ℕ) (v : Worker C) → i < length vs → IsEnded given shared.fixed s names i (slice_index_or vs i v)
+  client-ended full is i v h =
+      let hi = hired.each i v (in-ws i h) in
+      let hp = played.each i v (in-ws i h) in
+      record {
+        back = record {
+          number_is = client-number i v h;
+          own = hp.still.own hi.client.own;
+          timed = hp.timed (none-timed (given (slice_index_or ws i v).clock) (mine_of (slice_index_or ws i v).client) hi.client.mine);
+        };
+        sufficed = sufficed full is i v h;
+        played = λ block at. hp.played hi.client.mine block (subst (λ (k : ℕ). slice_get s.clients k ≡ Some block) (sym hi.place_is) at);
+      }
+
+  -- ---- launcher and reaper
+
+  launcher-number : number_of pd.launcher ≡ length s.clients + 1
+  launcher-number = e.launcher.number ∙ (d.launcher.number ∙ (a.launcher.number ∙ (ol.number ∙ (let n = hired-count given shared o p0 ws hired in let c = count in let f = first in omega arith))))
+
+  opened-count : length (retired_of p1) ≡ length (retired_of p0) + 1
+  opened-count = ap length ol.retired ∙ length-append (retired_of p0) (None ∷ [])
+
+  reaping-first : number_of pa.reaping ≡ length s.clients + 2
+  reaping-first = or.number ∙ (let n = hired-count given shared o p0 ws hired in let c = count in let f = first in let m = opened-count in omega arith)
+
+  reaping-middle : number_of pc.reaping ≡ length s.clients + 2
+  reaping-middle = ap (λ (x : Seat). number_of x) same_r ∙ (a.reaping.number ∙ reaping-first)
+
+  own-middle : KnowsItsOwn pc.reaping
+  own-middle = subst (λ (x : Seat). KnowsItsOwn x) (sym same_r) (a.reaping.own or.own)
+
+  launcher-timed : IsTimed (mine_of pd.launcher) (given pd.launcher_clock)
+  launcher-timed =
+      let one : IsTimed (mine_of pb.launcher) (given pb.launcher_clock) = still-timed (launcher_at given least shared pa) (launcher_at given least shared pb) a.launcher (launcher-at-once [] (mine_of pb.launcher) tends-b.launches) (none-timed (given pa.launcher_clock) (mine_of pa.launcher) ol.mine) in
+      let two : IsTimed (mine_of pc.launcher) (given pc.launcher_clock) = subst (λ (es : List Entry). IsTimed es (given pc.launcher_clock)) (sym d.mine) (subst (λ (c : C). IsTimed (mine_of pb.launcher) (given c)) (sym clock_l) one) in
+      still-timed (launcher_at given least shared pc) (launcher_at given least shared pd) e.launcher (launcher-at-once [] (mine_of pd.launcher) tends-d.launches) two
+
+  reaping-timed : IsTimed (mine_of pd.reaping) (given pd.reaping_clock)
+  reaping-timed =
+      let one : IsTimed (mine_of pb.reaping) (given pb.reaping_clock) = still-timed (reaping_at given least shared pa) (reaping_at given least shared pb) a.reaping (reaper-at-once [] (mine_of pb.reaping) tends-b.reports) (none-timed (given pa.reaping_clock) (mine_of pa.reaping) or.mine) in
+      let two : IsTimed (mine_of pc.reaping) (given pc.reaping_clock) = subst (λ (x : Seat). IsTimed (mine_of x) (given pc.reaping_clock)) (sym same_r) (subst (λ (c : C). IsTimed (mine_of pb.reaping) (given c)) (sym clock_r) one) in
+      still-timed (reaping_at given least shared pc) (reaping_at given least shared pd) e.reaping (reaper-at-once [] (mine_of pd.reaping) tends-d.reports) two
+
+  -- ---- the lists of those that are back
+
+  front-size : length (retired_of o ++ own_lists vs) ≡ length s.clients + 1
+  front-size = let a = length-append (retired_of o) (own_lists vs) in let b = length-mapped (λ (w : Worker C). Some (mine_of w.client)) vs in let c = vs-count in let f = first in omega arith
+
+  lists : retired_of p4 ≡ retired_of o ++ (own_lists vs ++ Some (mine_of pd.launcher) ∷ Some (mine_of pd.reaping) ∷ [])
+  lists =
+      let nones : Lists = replicate (length vs) None in
+      let n : length ws ≡ length vs = sym played.count in
+      let two : retired_of p2 ≡ retired_of o ++ (nones ++ None ∷ None ∷ []) =
+      or.retired ∙ (ap (λ (l : Lists). l ++ None ∷ []) (ol.retired ∙ ap (λ (l : Lists). l ++ None ∷ []) (hired.retired ∙ ap (λ (k : ℕ). retired_of o ++ replicate k None) n))
+      ∙ (append_assoc (retired_of o ++ nones) (None ∷ []) (None ∷ []) ∙ append_assoc (retired_of o) nones (None ∷ None ∷ []))) in
+      let three : retired_of p3 ≡ (retired_of o ++ own_lists vs) ++ None ∷ None ∷ [] =
+      d.retired ∙ (ap (λ (l : Lists). with_back l vs) two
+      ∙ (with_back-all (retired_of o) (None ∷ None ∷ []) vs (λ i v h. let k = client-number i v h in let f = first in omega arith) ∙ sym (append_assoc (retired_of o) (own_lists vs) (None ∷ None ∷ [])))) in
+      let ml = Some (mine_of pd.launcher) in
+      let mr = Some (mine_of pd.reaping) in
+      let four : set (retired_of p3) (number_of pd.launcher) ml ≡ (retired_of o ++ own_lists vs) ++ ml ∷ None ∷ [] =
+      ap (λ (l : Lists). set l (number_of pd.launcher) ml) three ∙ set-between (retired_of o ++ own_lists vs) None ml (None ∷ []) (number_of pd.launcher) (launcher-number ∙ sym front-size) in
+      let longer = length-append (retired_of o ++ own_lists vs) (ml ∷ []) in
+      let size = front-size in
+      let last : number_of pd.reaping ≡ length ((retired_of o ++ own_lists vs) ++ ml ∷ []) = (let k : number_of pd.reaping ≡ length s.clients + 2 = e.reaping.number ∙ reaping-middle in omega arith) in
+      rel.retired ∙ (ap (λ (l : Lists). set l (number_of pd.reaping) mr) (four ∙ sym (append_assoc (retired_of o ++ own_lists vs) (ml ∷ []) (None ∷ [])))
+      ∙ (set-between ((retired_of o ++ own_lists vs) ++ ml ∷ []) None mr [] (number_of pd.reaping) last
+      ∙ (append_assoc (retired_of o ++ own_lists vs) (ml ∷ []) (mr ∷ []) ∙ append_assoc (retired_of o) (own_lists vs) (ml ∷ mr ∷ []))))
+
+  all-clocks : clocks2 ≡ clocks0 ++ (map (λ (w : Worker C). w.clock) vs ++ pd.launcher_clock ∷ pd.reaping_clock ∷ [])
+  all-clocks =
+      let theirs = map (λ (w : Worker C). w.clock) vs in
+      clocks_r ∙ (append_assoc clocks1 (pd.launcher_clock ∷ []) (pd.reaping_clock ∷ [])
+      ∙ (ap (λ (l : List C). l ++ pd.launcher_clock ∷ pd.reaping_clock ∷ []) clocks_d ∙ append_assoc clocks0 theirs (pd.launcher_clock ∷ pd.reaping_clock ∷ [])))
+
+  -- ---- how it ended
+
+  ends-by : (full : Option ℕ) → after ≡ stop_at full → Ends shared (length s.clients + 2) p4 vs (launcher_at given least shared pd) pd.reaping full
+  ends-by None is = let so = (e.whole is).1 in record { ended = (well is).1; settled = so.settled; begins = so.begins }
+  ends-by (Some size) is = elim (e.full size tends-c is) [
+    | inl before ↦ elim ((worst-full (worse None end) vs size (sym worst_is ∙ before)).cause) [
+      | inl attendants ↦ by_attendant (launcher_at given least shared pa) (launcher_at given least shared pb) (reaping_at given least shared pa) (reaping_at given least shared pb) refl refl or.own reaping-first
+          (full-held given least told shared pa pb r end size ends_so attendants (a.held_up tends-a)) launcher-b reaping-b
+      | inr met ↦ by_client met.place met.item met.within met.met
+    ]
+    | inr then ↦ by_attendant (launcher_at given least shared pc) (launcher_at given least shared pd) (reaping_at given least shared pc) (reaping_at given least shared pd) refl refl own-middle reaping-middle then.1 rel.launcher rel.reaping
+  ]
+
+  pub others-made : (full : Option ℕ) → after ≡ stop_at full → Others given told s names shared o p4 asked asked2 fate2 clocks0 clocks2 full
+  others-made full is = record {
+    opener = rel.opener;
+    begins = begins-o;
+    ws = vs;
+    count = vs-count;
+    clients = client-ended full is;
+    launcher = launcher_at given least shared pd;
+    launcher_clock = pd.launcher_clock;
+    launcher_given = refl;
+    launcher_back = record { number_is = launcher-number; own = e.launcher.own (d.launcher.own (a.launcher.own ol.own)); timed = launcher-timed };
+    reaping = pd.reaping;
+    reaping_clock = pd.reaping_clock;
+    reaping_back = record { number_is = e.reaping.number ∙ reaping-middle; own = e.reaping.own own-middle; timed = reaping-timed };
+    retired = lists;
+    clocks_are = all-clocks;
+    known = rel.launcher;
+    known_first = known-first;
+    known_clients = λ i v h. begins-both (seen_of (slice_index_or vs i v).client) (seen_of pc.launcher) (seen_of pd.launcher) (d.told i v h) cd;
+    at = at2;
+    hand = hand2;
+    tends = tends-d;
+    keeps = keeps-d;
+    agrees = λ none. agrees-d (is ∙ ap stop_at none);
+    ends = ends-by full is;
+  }

@@ -1,0 +1,442 @@
+-- From what all callers leave to the one history.
+use Rattle.std.proofs.Common.{◌≡◌, ◌≢◌, ◌⊎◌, inl, inr, ℕ, zero, suc, ◌+◌, ◌<◌, ◌≤◌, Bool, true, List, [], ◌∷◌, ◌++◌, map, length, slice_index_or, Option, Some, None, refl, sym, ap, ◌∙◌, subst, append_assoc, append-nil, length-append, arith}
+use Rattle.std.specs.Prelude.{IfSome, Result, Ok, Err}
+use Rattle.std.specs.List.{slice_get, AllByRecursion}
+use Rattle.std.proofs.lemmas.Option.{slice_get_within, get_or_from_slice_get, slice_get-get_or}
+use Rattle.child_spawner.specs.declared.fates.Asked.{Asked}
+use Rattle.child_spawner.specs.declared.fates.Fate.{Fate}
+use Rattle.child_spawner.specs.Children.{Told}
+use Rattle.drmaa_types.specs.declared.refusals.Refusal.{Refusal}
+use Rattle.drmaa_types.specs.declared.refusals.Refusal.TheVariants.{OutOfResource, OutOfMemory}
+use Rattle.drmaa_types.specs.declared.refusals.Limit.TheVariants as limit
+use Rattle.drmaa_model.specs.declared.calls.Call.{Call}
+use Rattle.drmaa_model.specs.declared.calls.Call.TheVariants as call
+use Rattle.drmaa_model.specs.declared.configs.Config.{Config}
+use Rattle.drmaa_model.specs.declared.entries.Entry.{Entry}
+use Rattle.drmaa_model.specs.declared.faults.NoEntry.{NoEntry}
+use Rattle.drmaa_model.specs.declared.faults.NoEntry.TheVariants as no
+use Rattle.drmaa_model.specs.declared.looks.Answer.TheVariants as answer
+use Rattle.drmaa_model.specs.Consistent.{IsConsistent}
+use Rattle.drmaa_model.specs.Fit.{IsFit}
+use Rattle.drmaa_model.specs.History.{IsLegal, replay}
+use Rattle.drmaa_model.specs.Order.{settled}
+use Rattle.drmaa_model.specs.Plan.{Plan}
+use Rattle.drmaa_model.specs.SettledLaws.{IsQuiet}
+use Rattle.drmaa_model.specs.Time.{advance, advance_plan}
+use Rattle.drmaa_model.specs.declared.replies.Signal.{Signal}
+use Rattle.drmaa_model.specs.KeptCalls.{kept}
+use Rattle.drmaa_machine.specs.Chronicles.{MakesNone}
+use Rattle.attendant.specs.Rounds.{asked_signal}
+use Rattle.drmaa_types.specs.Readings.{Reads}
+use Rattle.turn_lock.specs.Histories.{BeginsWith, left_of}
+use Rattle.turn_lock.specs.Tokens.{Named, BelongsTo}
+use Rattle.call_history.specs.Callers.{calls_of}
+use Rattle.call_history.specs.Clients.{Seat, seen_of, mine_of, number_of, retired_of, KnowsItsOwn, SeesMore}
+use Rattle.call_history.specs.ClientLaws.{begins-itself, begins-both}
+use Rattle.call_history.specs.Timed.{IsTimed}
+use Rattle.script_lines.specs.declared.lines.Line.{Line}
+use Rattle.script_text.specs.declared.scripts.Script.{Script}
+use Rattle.script_text.specs.Follows.{lines_of}
+use Rattle.script_asks.specs.declared.given.Given.{Given}
+use Rattle.script_asks.specs.Plays.{Plays, PlaysPart, names_by, setup_names}
+use Rattle.attendant.specs.declared.reaper.Held.{Held}
+use Rattle.attendant.specs.declared.reaper.Hand.{Hand}
+use Rattle.attendant.specs.Acts.{acts_of, own_acts, Each, is_launched}
+use Rattle.attendant.specs.Posts.{Post, acts_at, FailsWithin}
+use Rattle.attendant.specs.Runs.{is_ended, owed}
+use Rattle.attendant.specs.Outside.{Tends, Keeps, AgreesOf, IsHeldUp, out_of_memory, full_at_launch, full_at_order, full_at_answer, EndsSettled, IsLaunchersEntry, IsReapersEntry}
+use Rattle.attendant.specs.Whole.{AgreesWithOutside, AreAlone}
+use Rattle.block_play.specs.declared.stops.Stopped.{Stopped}
+use Rattle.block_play.specs.declared.stops.Stopped.TheVariants as stopped
+use Rattle.block_play.specs.Played.{IsFullFor}
+use Rattle.script_journals.specs.Calls.{IsClientsEntry}
+use Rattle.thread_play.specs.declared.firsts.First.{First}
+use Rattle.thread_play.specs.declared.workers.Worker.{Worker}
+use Rattle.thread_play.specs.Stages.{StopsAt, PlaysOn, IsFirst}
+use Rattle.thread_play.specs.Others.{IsBack, IsEnded, IsFullAtEnd, by_attendant, by_client, EndsWhole, Ends, Others}
+use Rattle.thread_play.specs.Runs.{IsForThreads, launcher_of, reaper_of, names_given, IsRun, PlaysAll, IsSettledAt, IsAtRest, IsCutShort, PlaysUpTo, MeetsSize, IsMet, by_block, by_launch, by_order, by_answer, IsStopped, in_setup, behind_setup, IsWhole, EndsBy, HasRun}
+use Rattle.thread_play.proofs.Lists.{at-between, at-front, length-mapped, map-at, some-item}
+use Rattle.thread_play.proofs.Beginnings.{calls-append, calls-begin, begins-shorter, none-before, alone, nothing-after}
+use Rattle.thread_play.proofs.Clients.{Lists, own_lists}
+use Rattle.thread_play.proofs.Callers.{by-caller, are-alone}
+
+-- what the machine that is had back says of its history
+pub record IsClosed (config : Config) (o : Seat) (history : List Entry) : Type 0 where
+  pub legal : IsLegal config history
+  pub seen : BeginsWith history (seen_of o)
+  pub lists : (number : ℕ) (own : List Entry) → slice_index_or (retired_of o) number None ≡ Some own → calls_of history number ≡ own
+  pub strangers : (number : ℕ) → length (retired_of o) ≤ number → calls_of history number ≡ []
+
+-- what is true of every legal history
+pub record Laws (s : Script) : Type 0 where
+  pub prefix : (front back : List Entry) → IsLegal s.config (front ++ back) → IsLegal s.config front
+  pub consistent : (history : List Entry) → IsLegal s.config history → IsConsistent (replay s.config history)
+  pub quiet : (entry at : ℕ) (p : Plan) → IsFit p → settled (advance_plan entry at p) ≡ true → IsQuiet p
+  pub whole : (names : List (List ℕ × Given)) (before : ℕ) (block : List Line) (es : List Entry) → ((block ≡ lines_of s.setup) ⊎ ((n : ℕ) × (slice_get s.clients n ≡ Some block)))
+      → Plays s names before block es → AllByRecursion IsClientsEntry es
+
+pub fits-all : (s : Script) (history : List Entry) → Laws s → IsLegal s.config history → (front back : List Entry) → history ≡ front ++ back → IsConsistent (replay s.config front)
+fits-all s history laws legal front back is = laws.consistent front (laws.prefix front back (subst (IsLegal s.config) is legal))
+
+-- ---- a run that was stopped within setup
+
+cut-first : (s : Script) (names : List (List ℕ × Given)) (block : List Line) (own seen history : List Entry) (size : ℕ) (config : Config) → config ≡ s.config → BeginsWith history seen
+    → StopsAt config s names block own seen size → IsCutShort s names block own history size
+cut-first s names block own seen history size config is begins c = record {
+  front = c.front;
+  line = c.line;
+  back = c.back;
+  lines = c.lines;
+  played = c.played;
+  seen = seen;
+  begins = begins;
+  full = subst (λ (f : Config). IsFullFor f s (names_by s names c.front own) c.line seen size) is c.full;
+}
+
+each-none : (P : _) (es : List Entry) → es ≡ [] → Each P (acts_of es)
+each-none P es none = subst (λ (l : List Entry). Each P (acts_of l)) (sym none) tt
+
+module _ {C : Type 0} (given : C → Option (List ℕ)) (s : Script) (shared : Named Config) (o : Seat) (f : First C) (first : IsFirst given s shared o f) (history : List Entry)
+    (laws : Laws s) (config_is : shared.fixed ≡ s.config) (closed : IsClosed shared.fixed o history) where
+  first-own : calls_of history 0 ≡ first.own
+  first-own = closed.lists 0 first.own (ap (λ (l : Lists). slice_index_or l 0 None) first.retired)
+
+  first-others : (k : ℕ) → 1 ≤ k → calls_of history k ≡ []
+  first-others k above = closed.strangers k (subst (λ (l : Lists). length l ≤ k) (sym first.retired) above)
+
+  first-begins : BeginsWith history first.own
+  first-begins = begins-both first.own (seen_of o) history first.seen closed.seen
+
+  timed-first : (k : ℕ) (c : C) → slice_get (f.clock ∷ []) k ≡ Some c → IsTimed (calls_of history k) (given c)
+  timed-first zero c at = let same : f.clock ≡ c = cc in subst (λ (x : C). IsTimed (calls_of history 0) (given x)) same (subst (λ (es : List Entry). IsTimed es (given f.clock)) (sym first-own) first.timed)
+  timed-first (suc k) c at = absurd (cc)
+
+  pub stopped-first : (asked asked2 : Option (List Asked)) (fate : ℕ → Fate) (size : ℕ) (clocks : List C) → f.played ≡ Err (stopped.Full size) → clocks ≡ f.clock ∷ []
+      → HasRun given s history asked asked2 fate clocks (Some size)
+  stopped-first asked asked2 fate size clocks is are =
+      let legal = subst (λ (c : Config). IsLegal c history) config_is closed.legal in
+      let none : (k : ℕ) → 1 ≤ k → calls_of history k ≡ [] = first-others in
+      let stops : StopsAt shared.fixed s [] (lines_of s.setup) first.own first.own size = subst (λ (r : _). PlaysOn shared.fixed s [] (lines_of s.setup) first.own first.own r) is first.played in
+      record {
+        run = record {
+          legal = legal;
+          fits = fits-all s history laws legal;
+          setup_first = subst (BeginsWith history) (sym first-own) first-begins;
+          launcher = each-none IsLaunchersEntry (calls_of history (launcher_of s)) (none (launcher_of s) (omega arith));
+          reaper = each-none IsReapersEntry (calls_of history (reaper_of s)) (none (reaper_of s) (omega arith));
+          ended = λ job attempt ends. absurd (let e = none (reaper_of s) (omega arith) in let t = subst (λ (l : List Entry). is_ended job attempt (acts_of l) ≡ true) e ends in cc);
+          strangers = λ k above. none k (omega arith);
+        };
+        timed = λ k c at. timed-first k c (subst (λ (l : List C). slice_get l k ≡ Some c) are at);
+        ends = in_setup (subst (λ (es : List Entry). IsCutShort s [] (lines_of s.setup) es history size) (sym first-own) (cut-first s [] (lines_of s.setup) first.own first.own history size shared.fixed config_is first-begins stops))
+            (λ k above. none k (omega arith)) (ap length are);
+      }
+
+-- ---- a run behind setup
+
+last-of : (config : Config) (history : List Entry) (before : Option (List ℕ)) (at : ℕ) (after : Option (List ℕ)) → Reads before at after → settled (advance (replay config history) at).plan ≡ true → IfSome after (IsSettledAt config history)
+last-of config history before at None reads now = tt
+last-of config history None at (Some readings) reads now = absurd reads
+last-of config history (Some earlier) at (Some readings) reads now = record { earlier = earlier; last = at; are = reads; settled_is = now }
+
+-- a settled look, as a machine at rest
+at-rest : (s : Script) (config : Config) (history : List Entry) (launcher : Post) → Laws s → config ≡ s.config → IsLegal s.config history → history ≡ seen_of launcher.client → EndsSettled config launcher
+    → IsAtRest s.config history launcher.clock.given
+at-rest s config history launcher laws config_is legal same e =
+    let l = e.look in
+    let told : answer.Settled true ≡ answer.Settled (settled (advance (replay config (seen_of launcher.client)) l.at).plan) = l.told in
+    let here : settled (advance (replay config (seen_of launcher.client)) l.at).plan ≡ true = cc in
+    let now : settled (advance (replay s.config history) l.at).plan ≡ true = subst (λ (es : List Entry). settled (advance (replay s.config es) l.at).plan ≡ true) (sym same)
+    (subst (λ (c : Config). settled (advance (replay c (seen_of launcher.client)) l.at).plan ≡ true) config_is here) in
+    record {
+      quiet = laws.quiet ((replay s.config history).entries + 1) l.at (replay s.config history).plan (laws.consistent history legal).fit now;
+      last = last-of s.config history e.before.given l.at launcher.clock.given l.read.told now;
+    }
+
+-- a call that met the size, as the whole history has it
+meets : (s : Script) (shared : Named Config) (l0 l1 : Post) (asked : Call) (size : ℕ) (history : List Entry) → shared.fixed ≡ s.config → l0.shared ≡ shared → BeginsWith history (seen_of l1.client)
+    → FailsWithin l0 asked (no.Journal size) l1 → MeetsSize s.config history asked size
+meets s shared l0 l1 asked size history config_is at_lock begins f = record {
+  seen = seen_of f.after.client;
+  begins = begins-both (seen_of f.after.client) (seen_of l1.client) history f.to_new.begins begins;
+  at = f.fails.at;
+  none = subst (λ (c : Config). MakesNone (replay c (seen_of f.after.client)) f.fails.at (kept asked) (no.Journal size)) (ap (λ (n : Named Config). n.fixed) (f.from_old.shared_is ∙ at_lock) ∙ config_is) f.fails.reason;
+}
+
+-- the entries of a caller that made none by its last call
+still-own : (old new : Seat) → KnowsItsOwn old → (m : SeesMore old new) → calls_of (seen_of new) (number_of old) ≡ mine_of old
+still-own old new own m =
+    ap (λ (l : List Entry). calls_of l (number_of old)) m.seen
+    ∙ (calls-append (seen_of old) m.between (number_of old)
+    ∙ (ap (λ (l : List Entry). calls_of (seen_of old) (number_of old) ++ l) m.others ∙ (append-nil (calls_of (seen_of old) (number_of old)) ∙ sym own)))
+
+held-met : (s : Script) (shared : Named Config) (l0 l1 r0 r1 : Post) (size : ℕ) (history : List Entry) → shared.fixed ≡ s.config → l0.shared ≡ shared → r0.shared ≡ shared
+    → KnowsItsOwn r0.client → number_of r0.client ≡ reaper_of s → BeginsWith history (seen_of l1.client) → BeginsWith history (seen_of r1.client)
+    → (why : Refusal) → why ≡ OutOfResource (limit.Journal size) → IsHeldUp l0 l1 r0 r1 why → IsMet s history size
+unfolding meets
+held-met s shared l0 l1 r0 r1 size history config_is at_l at_r own number bl br why is (out_of_memory w) = absurd (cc)
+held-met s shared l0 l1 r0 r1 size history config_is at_l at_r own number bl br why is (full_at_launch n w f) =
+    let same : n ≡ size = cc in subst (IsMet s history) same (by_launch (meets s shared l0 l1 call.TakeLaunch n history config_is at_l bl f))
+held-met s shared l0 l1 r0 r1 size history config_is at_l at_r own number bl br why is (full_at_order n w f) =
+    let same : n ≡ size = cc in subst (IsMet s history) same (by_order (meets s shared r0 r1 call.TakeSignal n history config_is at_r br f))
+held-met s shared l0 l1 r0 r1 size history config_is at_l at_r own number bl br why is (full_at_answer n signal a w f owes) =
+    let same : n ≡ size = cc in
+    subst (IsMet s history) same (by_answer signal a (meets s shared r0 r1 (asked_signal a signal) n history config_is at_r br f)
+    (ap (λ (es : List Entry). owed (acts_of es)) (ap (λ (k : ℕ). calls_of (seen_of f.after.client) k) (sym (f.from_old.number ∙ number)) ∙ still-own f.before.client f.after.client (f.from_old.own own) f.fails.more) ∙ owes))
+
+left-own : {C : Type 0} (ws : List (Worker C)) (rest : Lists) → left_of (own_lists ws ++ rest) ≡ left_of rest
+left-own [] rest = refl
+left-own (w ∷ ws) rest = left-own ws rest
+
+-- how the play of a client's block stands in the whole history
+up-to : {A : Type 0} (s : Script) (shared : Named Config) (names : List (List ℕ × Given)) (block : List Line) (client : Seat) (history : List Entry) → shared.fixed ≡ s.config → BeginsWith history (seen_of client)
+    → (r : Result A Stopped) → r ≢ Err stopped.Memory → PlaysOn shared.fixed s names block (mine_of client) (seen_of client) r → PlaysUpTo s names block (mine_of client) history
+up-to s shared names block client history config_is begins (Ok a) not p = inl p
+up-to s shared names block client history config_is begins (Err stopped.Memory) not p = absurd (not refl)
+up-to s shared names block client history config_is begins (Err (stopped.Full size)) not p = inr (size, cut-first s names block (mine_of client) (seen_of client) history size shared.fixed config_is begins p)
+
+module _ {C T : Type 0} (given : C → Option (List ℕ)) (told : T → Option Told) (s : Script) (names : List (List ℕ × Given)) (shared : Named Config) (o p : Seat) (f : First C)
+    (first : IsFirst given s shared o f) (names_are : names ≡ setup_names s first.own) (played : Plays s [] 0 (lines_of s.setup) first.own)
+    (asked asked2 : Option (List Asked)) (fate : ℕ → Fate) (clocks : List C) (full : Option ℕ) (x : Others given told s names shared o p asked asked2 fate (f.clock ∷ []) clocks full) where
+  front-size : length (Some first.own ∷ own_lists x.ws) ≡ length s.clients + 1
+  front-size = let a = length-mapped (λ (w : Worker C). Some (mine_of w.client)) x.ws in let b = x.count in omega arith
+
+  shape : retired_of p ≡ (Some first.own ∷ own_lists x.ws) ++ Some (mine_of x.launcher.client) ∷ Some (mine_of x.reaping) ∷ []
+  shape = x.retired ∙ ap (λ (l : Lists). l ++ (own_lists x.ws ++ Some (mine_of x.launcher.client) ∷ Some (mine_of x.reaping) ∷ [])) first.retired
+
+  pub none-left : left_of (retired_of p) ≡ 0
+  none-left = ap (λ (l : Lists). left_of l) shape ∙ left-own x.ws (Some (mine_of x.launcher.client) ∷ Some (mine_of x.reaping) ∷ [])
+
+  module _ (history : List Entry) (laws : Laws s) (config_is : shared.fixed ≡ s.config) (closed : IsClosed shared.fixed p history) where
+    -- ---- the entries of each caller
+
+    of-setup : calls_of history 0 ≡ first.own
+    of-setup = closed.lists 0 first.own (ap (λ (l : Lists). slice_index_or l 0 None) shape)
+
+    of-client : (i : ℕ) (d : Worker C) → i < length x.ws → calls_of history (i + 1) ≡ mine_of (slice_index_or x.ws i d).client
+    of-client i d below =
+        let next : i + 1 ≡ suc i = omega arith in
+        let size = length-mapped (λ (w : Worker C). Some (mine_of w.client)) x.ws in
+        closed.lists (i + 1) (mine_of (slice_index_or x.ws i d).client)
+        (ap (λ (l : Lists). slice_index_or l (i + 1) None) shape
+        ∙ (ap (λ (k : ℕ). slice_index_or ((Some first.own ∷ own_lists x.ws) ++ Some (mine_of x.launcher.client) ∷ Some (mine_of x.reaping) ∷ []) k None) next
+        ∙ (at-front (own_lists x.ws) (Some (mine_of x.launcher.client) ∷ Some (mine_of x.reaping) ∷ []) None i (omega arith)
+        ∙ map-at (λ (w : Worker C). Some (mine_of w.client)) x.ws i d None below)))
+
+    of-launcher : calls_of history (length s.clients + 1) ≡ mine_of x.launcher.client
+    of-launcher = closed.lists (length s.clients + 1) (mine_of x.launcher.client)
+        (ap (λ (l : Lists). slice_index_or l (length s.clients + 1) None) shape
+        ∙ at-between (Some first.own ∷ own_lists x.ws) (Some (mine_of x.launcher.client)) None (Some (mine_of x.reaping) ∷ []) (length s.clients + 1) (sym front-size))
+
+    of-reaper : calls_of history (length s.clients + 2) ≡ mine_of x.reaping
+    of-reaper =
+        let longer = length-append (Some first.own ∷ own_lists x.ws) (Some (mine_of x.launcher.client) ∷ []) in
+        let size = front-size in
+        closed.lists (length s.clients + 2) (mine_of x.reaping)
+        (ap (λ (l : Lists). slice_index_or l (length s.clients + 2) None) (shape ∙ sym (append_assoc (Some first.own ∷ own_lists x.ws) (Some (mine_of x.launcher.client) ∷ []) (Some (mine_of x.reaping) ∷ [])))
+        ∙ at-between ((Some first.own ∷ own_lists x.ws) ++ Some (mine_of x.launcher.client) ∷ []) (Some (mine_of x.reaping)) None [] (length s.clients + 2) (omega arith))
+
+    of-others : (k : ℕ) → length s.clients + 2 < k → calls_of history k ≡ []
+    of-others k above = closed.strangers k (
+        let a = ap length shape in
+        let b = length-append (Some first.own ∷ own_lists x.ws) (Some (mine_of x.launcher.client) ∷ Some (mine_of x.reaping) ∷ []) in
+        let c = front-size in omega arith)
+
+    -- ---- what stands in beginnings
+
+    known : BeginsWith history (seen_of x.launcher.client)
+    known = begins-both (seen_of x.launcher.client) (seen_of p) history x.known closed.seen
+
+    first-known : BeginsWith history first.own
+    first-known = begins-both first.own (seen_of p) history (begins-both first.own (seen_of o) (seen_of p) first.seen x.begins) closed.seen
+
+    client-known : (i : ℕ) (d : Worker C) → i < length x.ws → BeginsWith history (seen_of (slice_index_or x.ws i d).client)
+    client-known i d below = begins-both (seen_of (slice_index_or x.ws i d).client) (seen_of x.launcher.client) history (x.known_clients i d below) known
+
+    enough : (k : ℕ) (seen : List Entry) → BeginsWith (seen_of x.launcher.client) seen → calls_of history k ≡ calls_of seen k → length (calls_of history k) ≤ length (calls_of (seen_of x.launcher.client) k)
+    enough k seen b same = let e = ap length same in let h = begins-shorter (calls_of (seen_of x.launcher.client) k) (calls_of seen k) (calls-begin (seen_of x.launcher.client) seen k b) in omega arith
+
+    all-seen : BeginsWith (seen_of x.launcher.client) (seen_of x.reaping) → history ≡ seen_of x.launcher.client
+    all-seen reaped = nothing-after history (seen_of x.launcher.client) known
+        (by-caller (λ k. length (calls_of history k) ≤ length (calls_of (seen_of x.launcher.client) k)) (length s.clients)
+        (enough 0 first.own (begins-both first.own (seen_of o) (seen_of x.launcher.client) first.seen x.known_first) (of-setup ∙ sym first.alone))
+        (λ i h. let below : i < length x.ws = (let c = x.count in omega arith) in
+        let d = some-item x.ws i below in
+        let b = (x.clients i d below).back in
+        enough (i + 1) (seen_of (slice_index_or x.ws i d).client) (x.known_clients i d below)
+        (of-client i d below ∙ (b.own ∙ ap (λ (k : ℕ). calls_of (seen_of (slice_index_or x.ws i d).client) k) b.number_is)))
+        (enough (length s.clients + 1) (seen_of x.launcher.client) (begins-itself (seen_of x.launcher.client))
+        (of-launcher ∙ (x.launcher_back.own ∙ ap (λ (k : ℕ). calls_of (seen_of x.launcher.client) k) x.launcher_back.number_is)))
+        (enough (length s.clients + 2) (seen_of x.reaping) reaped
+        (of-reaper ∙ (x.reaping_back.own ∙ ap (λ (k : ℕ). calls_of (seen_of x.reaping) k) x.reaping_back.number_is)))
+        (λ k above. let e = ap length (of-others k above) in omega arith))
+
+    -- ---- the run
+
+    legal : IsLegal s.config history
+    legal = subst (λ (c : Config). IsLegal c history) config_is closed.legal
+
+    launches : Each IsLaunchersEntry (acts_of (calls_of history (launcher_of s)))
+    launches = subst (λ (es : List Entry). Each IsLaunchersEntry (acts_of es)) (sym of-launcher) x.tends.launches
+
+    reports : Each IsReapersEntry (acts_of (calls_of history (reaper_of s)))
+    reports = subst (λ (es : List Entry). Each IsReapersEntry (acts_of es)) (sym of-reaper) x.tends.reports
+
+    is-run : IsRun s history
+    is-run = record {
+      legal = legal;
+      fits = fits-all s history laws legal;
+      setup_first = subst (BeginsWith history) (sym of-setup) first-known;
+      launcher = launches;
+      reaper = reports;
+      ended = λ job attempt ends. subst (λ (es : List Entry). is_launched job attempt (acts_of es) ≡ true) (sym of-launcher)
+          (x.tends.ended job attempt (subst (λ (es : List Entry). is_ended job attempt (acts_of es) ≡ true) of-reaper ends));
+      strangers = of-others;
+    }
+
+    -- ---- the clocks
+
+    clocks-size : length clocks ≡ length s.clients + 3
+    clocks-size =
+        let a = ap length x.clocks_are in
+        let b = length-append (map (λ (w : Worker C). w.clock) x.ws) (x.launcher_clock ∷ x.reaping_clock ∷ []) in
+        let c = length-mapped (λ (w : Worker C). w.clock) x.ws in
+        let d = x.count in omega arith
+
+    -- a clock at a place, as a list that is indexed has it
+    at-place : (k : ℕ) (c : C) → slice_get clocks k ≡ Some c → slice_index_or (f.clock ∷ (map (λ (w : Worker C). w.clock) x.ws ++ x.launcher_clock ∷ x.reaping_clock ∷ [])) k c ≡ c
+    at-place k c at = ap (λ (l : List C). slice_index_or l k c) (sym x.clocks_are) ∙ get_or_from_slice_get clocks k c c at
+
+    launcher-place : (c : C) → slice_get clocks (length s.clients + 1) ≡ Some c → x.launcher_clock ≡ c
+    launcher-place c at =
+        let size = length-mapped (λ (w : Worker C). w.clock) x.ws in
+        let count = x.count in
+        sym (at-between (f.clock ∷ map (λ (w : Worker C). w.clock) x.ws) x.launcher_clock c (x.reaping_clock ∷ []) (length s.clients + 1) (omega arith)) ∙ at-place (length s.clients + 1) c at
+
+    reaper-place : (c : C) → slice_get clocks (length s.clients + 2) ≡ Some c → x.reaping_clock ≡ c
+    reaper-place c at =
+        let size = length-mapped (λ (w : Worker C). w.clock) x.ws in
+        let count = x.count in
+        let longer = length-append (f.clock ∷ map (λ (w : Worker C). w.clock) x.ws) (x.launcher_clock ∷ []) in
+        sym (ap (λ (l : List C). slice_index_or l (length s.clients + 2) c) (sym (append_assoc (f.clock ∷ map (λ (w : Worker C). w.clock) x.ws) (x.launcher_clock ∷ []) (x.reaping_clock ∷ [])))
+        ∙ at-between ((f.clock ∷ map (λ (w : Worker C). w.clock) x.ws) ++ x.launcher_clock ∷ []) x.reaping_clock c [] (length s.clients + 2) (omega arith)) ∙ at-place (length s.clients + 2) c at
+
+    client-place : (i : ℕ) (d : Worker C) → i < length x.ws → (c : C) → slice_get clocks (i + 1) ≡ Some c → (slice_index_or x.ws i d).clock ≡ c
+    client-place i d below c at =
+        let next : i + 1 ≡ suc i = omega arith in
+        let size = length-mapped (λ (w : Worker C). w.clock) x.ws in
+        sym (ap (λ (k : ℕ). slice_index_or (f.clock ∷ (map (λ (w : Worker C). w.clock) x.ws ++ x.launcher_clock ∷ x.reaping_clock ∷ [])) k c) next
+        ∙ (at-front (map (λ (w : Worker C). w.clock) x.ws) (x.launcher_clock ∷ x.reaping_clock ∷ []) c i (omega arith)
+        ∙ map-at (λ (w : Worker C). w.clock) x.ws i d c below)) ∙ at-place (i + 1) c at
+
+    timed-by : (k : ℕ) (own : List Entry) (mine c : C) → IsTimed own (given mine) → mine ≡ c → calls_of history k ≡ own → IsTimed (calls_of history k) (given c)
+    timed-by k own mine c t same is = subst (λ (es : List Entry). IsTimed es (given c)) (sym is) (subst (λ (y : C). IsTimed own (given y)) same t)
+
+    all-timed : (k : ℕ) → (c : C) → slice_get clocks k ≡ Some c → IsTimed (calls_of history k) (given c)
+    all-timed = by-caller (λ k. (c : C) → slice_get clocks k ≡ Some c → IsTimed (calls_of history k) (given c)) (length s.clients)
+        (λ c at. timed-by 0 first.own f.clock c first.timed (at-place 0 c at) of-setup)
+        (λ i h c at. let below : i < length x.ws = (let n = x.count in omega arith) in
+        let d = some-item x.ws i below in
+        timed-by (i + 1) (mine_of (slice_index_or x.ws i d).client) (slice_index_or x.ws i d).clock c (x.clients i d below).back.timed (client-place i d below c at) (of-client i d below))
+        (λ c at. timed-by (length s.clients + 1) (mine_of x.launcher.client) x.launcher_clock c
+        (subst (λ (g : Option (List ℕ)). IsTimed (mine_of x.launcher.client) g) (sym x.launcher_given) x.launcher_back.timed) (launcher-place c at) of-launcher)
+        (λ c at. timed-by (length s.clients + 2) (mine_of x.reaping) x.reaping_clock c x.reaping_back.timed (reaper-place c at) of-reaper)
+        (λ k above c at. absurd (let h = slice_get_within clocks k c at in let z = clocks-size in omega arith))
+
+    -- ---- the blocks
+
+    names-given : names ≡ names_given s history
+    names-given = names_are ∙ ap (λ (es : List Entry). setup_names s es) (sym of-setup)
+
+    setup-played : Plays s [] 0 (lines_of s.setup) (calls_of history 0)
+    setup-played = subst (λ (es : List Entry). Plays s [] 0 (lines_of s.setup) es) (sym of-setup) played
+
+    client-within : (i : ℕ) (block : List Line) → slice_get s.clients i ≡ Some block → i < length x.ws
+    client-within i block at = let h = slice_get_within s.clients i block at in let n = x.count in omega arith
+
+    up-to-all : (i : ℕ) (block : List Line) → slice_get s.clients i ≡ Some block → PlaysUpTo s (names_given s history) block (calls_of history (i + 1)) history
+    up-to-all i block at =
+        let below = client-within i block at in
+        let d = some-item x.ws i below in
+        let e = x.clients i d below in
+        subst (λ (ns : List (List ℕ × Given)). PlaysUpTo s ns block (calls_of history (i + 1)) history) names-given
+        (subst (λ (es : List Entry). PlaysUpTo s names block es history) (sym (of-client i d below))
+        (up-to s shared names block (slice_index_or x.ws i d).client history config_is (client-known i d below) (slice_index_or x.ws i d).ended e.sufficed (e.played block at)))
+
+    whole-client : ((i : ℕ) (d : Worker C) → i < length x.ws → (slice_index_or x.ws i d).ended ≡ Ok tt) → (i : ℕ) (block : List Line) → slice_get s.clients i ≡ Some block
+        → Plays s (names_given s history) 0 block (calls_of history (i + 1))
+    whole-client well i block at =
+        let below = client-within i block at in
+        let d = some-item x.ws i below in
+        let w = slice_index_or x.ws i d in
+        let done : Plays s names 0 block (mine_of w.client) = subst (λ (r : Result (Unit {0}) Stopped). PlaysOn shared.fixed s names block (mine_of w.client) (seen_of w.client) r) (well i d below) ((x.clients i d below).played block at) in
+        subst (λ (ns : List (List ℕ × Given)). Plays s ns 0 block (calls_of history (i + 1))) names-given
+        (subst (λ (es : List Entry). Plays s names 0 block es) (sym (of-client i d below)) done)
+
+    -- ---- the outside
+
+    alone-all : PlaysAll s history → AreAlone (length s.clients + 1) (length s.clients + 2) (acts_of history)
+    alone-all all = are-alone (length s.clients) history
+        (by-caller (λ k. k < length s.clients + 1 → AllByRecursion IsClientsEntry (calls_of history k)) (length s.clients)
+        (λ h. laws.whole [] 0 (lines_of s.setup) (calls_of history 0) (inl refl) all.setup)
+        (λ i below h. let block = slice_index_or s.clients i [] in let at = slice_get-get_or s.clients i [] below in
+        laws.whole (names_given s history) 0 block (calls_of history (i + 1)) (inr (i, at)) (all.clients i block at))
+        (λ h. absurd (omega arith)) (λ h. absurd (omega arith)) (λ k above h. absurd (omega arith)))
+        launches reports of-others
+
+    agreed : ((starts : List Asked) (es : List Entry) (at : ℕ → Option (Held T)) (hand : Option Hand) → AreAlone (length s.clients + 1) (length s.clients + 2) (acts_of es)
+        → Keeps told (Some starts) fate (acts_of (calls_of es (length s.clients + 1))) (acts_of (calls_of es (length s.clients + 2))) at hand
+        → AgreesOf (Some starts) fate (acts_of (calls_of es (length s.clients + 1))) (acts_of (calls_of es (length s.clients + 2))) → AgreesWithOutside starts fate (acts_of es))
+        → AreAlone (length s.clients + 1) (length s.clients + 2) (acts_of history) → (then : Option (List Asked))
+        → Keeps told then fate (own_acts x.launcher.client) (own_acts x.reaping) x.at x.hand → AgreesOf then fate (own_acts x.launcher.client) (own_acts x.reaping)
+        → IfSome then (λ starts. AgreesWithOutside starts fate (acts_of history))
+    agreed law lone None k a = tt
+    agreed law lone (Some starts) k a =
+        law starts history x.at x.hand lone
+        (subst (λ (es : List Entry). Keeps told (Some starts) fate (acts_of es) (acts_of (calls_of history (length s.clients + 2))) x.at x.hand) (sym of-launcher)
+        (subst (λ (es : List Entry). Keeps told (Some starts) fate (own_acts x.launcher.client) (acts_of es) x.at x.hand) (sym of-reaper) k))
+        (subst (λ (es : List Entry). AgreesOf (Some starts) fate (acts_of es) (acts_of (calls_of history (length s.clients + 2)))) (sym of-launcher)
+        (subst (λ (es : List Entry). AgreesOf (Some starts) fate (own_acts x.launcher.client) (acts_of es)) (sym of-reaper) a))
+
+    -- ---- the ends
+
+    callers-are : length clocks ≡ reaper_of s + 1
+    callers-are = let z = clocks-size in omega arith
+
+    cut-client : (size i : ℕ) (d : Worker C) → i < length x.ws → (slice_index_or x.ws i d).ended ≡ Err (stopped.Full size) → IsMet s history size
+    cut-client size i d below is =
+        let w = slice_index_or x.ws i d in
+        let block = slice_index_or s.clients i [] in
+        let at = slice_get-get_or s.clients i [] (let c = x.count in let h = below in omega arith) in
+        let stops : StopsAt shared.fixed s names block (mine_of w.client) (seen_of w.client) size =
+        subst (λ (r : Result (Unit {0}) Stopped). PlaysOn shared.fixed s names block (mine_of w.client) (seen_of w.client) r) is ((x.clients i d below).played block at) in
+        by_block i block at (subst (λ (ns : List (List ℕ × Given)). IsCutShort s ns block (calls_of history (i + 1)) history size) names-given
+        (subst (λ (es : List Entry). IsCutShort s names block es history size) (sym (of-client i d below))
+        (cut-first s names block (mine_of w.client) (seen_of w.client) history size shared.fixed config_is (client-known i d below) stops)))
+
+    met-by : (size : ℕ) → IsFullAtEnd shared (length s.clients + 2) p x.ws size → IsMet s history size
+    met-by size (by_attendant l0 l1 r0 r1 at_l at_r own number held bl br) =
+        held-met s shared l0 l1 r0 r1 size history config_is at_l at_r own number (begins-both (seen_of l1.client) (seen_of p) history bl closed.seen)
+        (begins-both (seen_of r1.client) (seen_of p) history br closed.seen) (OutOfResource (limit.Journal size)) refl held
+    met-by size (by_client i d below is) = cut-client size i d below is
+
+    ends-of : ((starts : List Asked) (es : List Entry) (at : ℕ → Option (Held T)) (hand : Option Hand) → AreAlone (length s.clients + 1) (length s.clients + 2) (acts_of es)
+        → Keeps told (Some starts) fate (acts_of (calls_of es (length s.clients + 1))) (acts_of (calls_of es (length s.clients + 2))) at hand
+        → AgreesOf (Some starts) fate (acts_of (calls_of es (length s.clients + 1))) (acts_of (calls_of es (length s.clients + 2))) → AgreesWithOutside starts fate (acts_of es))
+        → (r : Option ℕ) → full ≡ r → Ends shared (length s.clients + 2) p x.ws x.launcher x.reaping r → EndsBy given s history asked asked2 fate clocks r
+    ends-of law None is e =
+        let all : PlaysAll s history = record { setup = setup-played; clients = whole-client e.ended } in
+        let rest = at-rest s shared.fixed history x.launcher laws config_is legal (all-seen e.begins) e.settled in
+        record {
+          plays = all;
+          callers = callers-are;
+          rest = λ c at. subst (λ (y : C). IsAtRest s.config history (given y)) (launcher-place c at) (subst (λ (g : Option (List ℕ)). IsAtRest s.config history g) (sym x.launcher_given) rest);
+          outside = λ none. agreed law (alone-all all) asked2 (x.keeps none) (x.agrees is none);
+        }
+    ends-of law (Some size) is e = behind_setup setup-played up-to-all (met-by size e) callers-are
+
+    pub has-run : ((starts : List Asked) (es : List Entry) (at : ℕ → Option (Held T)) (hand : Option Hand) → AreAlone (length s.clients + 1) (length s.clients + 2) (acts_of es)
+        → Keeps told (Some starts) fate (acts_of (calls_of es (length s.clients + 1))) (acts_of (calls_of es (length s.clients + 2))) at hand
+        → AgreesOf (Some starts) fate (acts_of (calls_of es (length s.clients + 1))) (acts_of (calls_of es (length s.clients + 2))) → AgreesWithOutside starts fate (acts_of es))
+        → HasRun given s history asked asked2 fate clocks full
+    has-run law = record { run = is-run; timed = all-timed; ends = ends-of law full refl x.ends }

@@ -1,0 +1,109 @@
+use Rattle.std.proofs.Common.{◌≡◌, ◌+◌, ◌<◌, ◌≤◌, ℕ, List, [], ◌∷◌, length-append, Option, Some, None, length, ap, refl, sym, ◌∙◌, subst, arith, slice_index_or}
+use Rattle.std.specs.Prelude.{Result, Ok, IfOk}
+use Rattle.slab.specs.Slab.{Slab, get}
+use Rattle.call_history.specs.Clients.{retired_of}
+use Rattle.block_play.specs.declared.stops.Stopped.{Stopped}
+use Rattle.thread_play.specs.declared.pairs.Pair.{Pair}
+use Rattle.thread_play.specs.declared.workers.Worker.{Worker}
+use Rattle.thread_play.specs.Stages.{HavePlayed, worse, worst}
+use Rattle.thread_play.specs.Others.{Others}
+use Rattle.thread_play.proofs.Clients.{hired-count}
+use Rattle.thread_play.proofs.Making.{Nothing, stop_at, others-made}
+use Rattle.thread_play.proofs.runs.play_others.Goals as goal
+use Rattle.thread_play.proofs.runs.play_others.Goals.{After-drop-reaper-in-None, After-drop-reaper-in-Some-Full}
+
+pub open_client-requires-clause-room : goal.open_client-requires-clause-room
+open_client-requires-clause-room g c =
+    let n = hired-count g.K.One.Clock.given c.args.shared.now c.args.opener.now c.hire.new.opener c.in_ok-workers.workers.items c.in_ok-workers.ensures.hired in
+    let k = c.in_ok-workers.ensures.count in
+    let first = c.requires.first in
+    let few = c.requires.few in
+    omega arith
+
+pub open_client-requires-2-clause-room : goal.open_client-requires-2-clause-room
+open_client-requires-2-clause-room g c =
+    let n = hired-count g.K.One.Clock.given c.args.shared.now c.args.opener.now c.hire.new.opener c.in_ok-workers.workers.items c.in_ok-workers.ensures.hired in
+    let k = c.in_ok-workers.ensures.count in
+    let first = c.requires.first in
+    let few = c.requires.few in
+    let m = ap length c.open_client.ensures.retired in
+    let l = length-append (retired_of c.hire.new.opener) (None ∷ []) in
+    omega arith
+
+pub play_beside-attended-requires-clause-workers : goal.play_beside-attended-requires-clause-workers
+play_beside-attended-requires-clause-workers g c κs within k d below =
+    let h = c.in_ok-workers.ensures.hired.each k d below in
+    record { free = h.client.free; block = (let n = c.in_ok-workers.ensures.count in let p = h.place_is in omega arith) }
+
+-- what holds at Ok
+at-ok : {A E : Type 0} (r : Result A E) (a : A) (P : Type 0) → IfOk r (λ x. P) → r ≡ Ok a → P
+at-ok r a P h is = subst (λ (x : _). IfOk x (λ y. P)) is h
+
+pub dismiss-ended-requires-clause-each : goal.dismiss-ended-requires-clause-each
+dismiss-ended-requires-clause-each g c k d below =
+    let played : HavePlayed g.K.One.Clock.given c.args.shared.now c.args.script.now c.args.names.now c.in_ok-workers.workers.items c.play_beside-attended.new.workers.items =
+    at-ok c.play_beside-attended.result.1 c.in_ok-played.field-0 _ c.play_beside-attended.ensures.workers c.in_ok-played.was in
+    (played.each k d (let n = played.count in omega arith)).still.client
+
+no-child : {X : Type 0} (children : Slab X) → children.slots ≡ [] → (k : ℕ) → get children k ≡ None
+no-child {X = X} children none k = ap (λ (l : List (Option X)). slice_index_or l k None) none
+
+pub returns-in-None : goal.returns-in-None
+returns-in-None g c =
+    let pa : Pair g.row.K-One.Denot = record { launcher = c.open_client.result; launcher_clock = c.clock.result; reaping = c.open_client-2.result; reaping_clock = c.clock-2.result } in
+    let pb = c.play_beside-attended.result.0.pair in
+    let pc : Pair g.row.K-One.Denot = record pb { launcher = c.dismiss-ended.new.launcher } in
+    let at0 = get c.new-reaper.result.children in
+    let none : (k : ℕ) → at0 k ≡ None = no-child c.new-reaper.result.children c.new-reaper.ensures.children in
+    let laws = c.nothing_is_kept.ensures in
+    let played : HavePlayed g.K.One.Clock.given c.args.shared.now c.args.script.now c.args.names.now c.in_ok-workers.workers.items c.play_beside-attended.new.workers.items =
+    at-ok c.play_beside-attended.result.1 c.in_ok-played.field-0 _ c.play_beside-attended.ensures.workers c.in_ok-played.was in
+    let ol = c.open_client.ensures in
+    let or = c.open_client-2.ensures in
+    others-made g.K.One.Clock.given g.K.One.Clock.least g.S.One.Child.told c.args.script.now c.args.names.now c.args.shared.now
+    c.args.opener.now c.hire.new.opener c.open_client.new.opener c.open_client-2.new.opener c.dismiss-ended.new.opener c.release.new.opener
+    c.in_ok-workers.workers.items c.play_beside-attended.new.workers.items pa pb pc c.end_others-pair.result.0
+    (g.S.Spawner.asked c.args.spawner.now) (g.S.Spawner.asked c.play_beside-attended.new.spawner) (g.S.Spawner.asked c.end_others-pair.new.spawner)
+    (g.S.Spawner.fate c.args.spawner.now) (g.S.Spawner.fate c.play_beside-attended.new.spawner) (g.S.Spawner.fate c.end_others-pair.new.spawner)
+    at0 (get c.play_beside-attended.new.reaper.children) (get c.end_others-pair.new.reaper.children)
+    c.new-reaper.result.order c.play_beside-attended.new.reaper.order c.end_others-pair.new.reaper.order
+    c.play_beside-attended.result.0.ended c.stopped_by.result c.dismiss-ended.result c.end_others-pair.result.1
+    c.args.given.now.items c.dismiss-ended.new.clocks.items c.release.new.clocks.items
+    c.requires.first c.in_ok-workers.ensures.hired (let n = c.in_ok-workers.ensures.count in omega arith)
+    (record { opener = ol.opener; retired = ol.retired; seen = ol.seen; number = ol.number; begins = ol.begins; mine = ol.mine; own = ol.own })
+    (record { opener = or.opener; retired = or.retired; seen = or.seen; number = or.number; begins = or.begins; mine = or.mine; own = or.own })
+    (record { untold = λ fate. laws.untold fate at0 none; keeps = λ fate. laws.keeps fate at0 none; agrees = laws.agrees })
+    c.new-reaper.ensures.order c.play_beside-attended.ensures.attended played c.stopped_by.ensures c.dismiss-ended.ensures.back refl refl refl
+    (c.dismiss-ended.ensures.ended ∙ ap (λ (k : Option Stopped). worst k c.play_beside-attended.new.workers.items) c.worse.ensures)
+    c.end_others-pair.ensures c.release.ensures.back c.dismiss-ended.ensures.clocks c.release.ensures.clocks
+    None c.in-None.is
+
+pub returns-in-Some-Full : goal.returns-in-Some-Full
+returns-in-Some-Full g c =
+    let pa : Pair g.row.K-One.Denot = record { launcher = c.open_client.result; launcher_clock = c.clock.result; reaping = c.open_client-2.result; reaping_clock = c.clock-2.result } in
+    let pb = c.play_beside-attended.result.0.pair in
+    let pc : Pair g.row.K-One.Denot = record pb { launcher = c.dismiss-ended.new.launcher } in
+    let at0 = get c.new-reaper.result.children in
+    let none : (k : ℕ) → at0 k ≡ None = no-child c.new-reaper.result.children c.new-reaper.ensures.children in
+    let laws = c.nothing_is_kept.ensures in
+    let played : HavePlayed g.K.One.Clock.given c.args.shared.now c.args.script.now c.args.names.now c.in_ok-workers.workers.items c.play_beside-attended.new.workers.items =
+    at-ok c.play_beside-attended.result.1 c.in_ok-played.field-0 _ c.play_beside-attended.ensures.workers c.in_ok-played.was in
+    let ol = c.open_client.ensures in
+    let or = c.open_client-2.ensures in
+    others-made g.K.One.Clock.given g.K.One.Clock.least g.S.One.Child.told c.args.script.now c.args.names.now c.args.shared.now
+    c.args.opener.now c.hire.new.opener c.open_client.new.opener c.open_client-2.new.opener c.dismiss-ended.new.opener c.release.new.opener
+    c.in_ok-workers.workers.items c.play_beside-attended.new.workers.items pa pb pc c.end_others-pair.result.0
+    (g.S.Spawner.asked c.args.spawner.now) (g.S.Spawner.asked c.play_beside-attended.new.spawner) (g.S.Spawner.asked c.end_others-pair.new.spawner)
+    (g.S.Spawner.fate c.args.spawner.now) (g.S.Spawner.fate c.play_beside-attended.new.spawner) (g.S.Spawner.fate c.end_others-pair.new.spawner)
+    at0 (get c.play_beside-attended.new.reaper.children) (get c.end_others-pair.new.reaper.children)
+    c.new-reaper.result.order c.play_beside-attended.new.reaper.order c.end_others-pair.new.reaper.order
+    c.play_beside-attended.result.0.ended c.stopped_by.result c.dismiss-ended.result c.end_others-pair.result.1
+    c.args.given.now.items c.dismiss-ended.new.clocks.items c.release.new.clocks.items
+    c.requires.first c.in_ok-workers.ensures.hired (let n = c.in_ok-workers.ensures.count in omega arith)
+    (record { opener = ol.opener; retired = ol.retired; seen = ol.seen; number = ol.number; begins = ol.begins; mine = ol.mine; own = ol.own })
+    (record { opener = or.opener; retired = or.retired; seen = or.seen; number = or.number; begins = or.begins; mine = or.mine; own = or.own })
+    (record { untold = λ fate. laws.untold fate at0 none; keeps = λ fate. laws.keeps fate at0 none; agrees = laws.agrees })
+    c.new-reaper.ensures.order c.play_beside-attended.ensures.attended played c.stopped_by.ensures c.dismiss-ended.ensures.back refl refl refl
+    (c.dismiss-ended.ensures.ended ∙ ap (λ (k : Option Stopped). worst k c.play_beside-attended.new.workers.items) c.worse.ensures)
+    c.end_others-pair.ensures c.release.ensures.back c.dismiss-ended.ensures.clocks c.release.ensures.clocks
+    (Some c.in-Some-Full.size) (c.in-Some-Full.is ∙ ap Some (rw c.in-Some-Full.is at c.in-Some-Full.field-0-is))

@@ -1,0 +1,4 @@
+pub mod Runs
+pub mod Stages
+pub mod Others
+pub mod Pairs

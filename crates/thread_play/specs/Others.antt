@@ -1,0 +1,85 @@
+-- What the clients, the launcher and the reaper of a run leave.
+use Rattle.std.specs.Prelude.{◌≡◌, ◌≢◌, ◌⊎◌, ℕ, ◌+◌, ◌<◌, ◌≤◌, List, [], ◌∷◌, ◌++◌, length, map, Option, Some, None, IfSome, Ok, Err, slice_index_or}
+use Rattle.std.specs.List.{slice_get}
+use Rattle.child_spawner.specs.declared.fates.Asked.{Asked}
+use Rattle.child_spawner.specs.declared.fates.Fate.{Fate}
+use Rattle.child_spawner.specs.Children.{Told}
+use Rattle.drmaa_types.specs.declared.refusals.Refusal.{Refusal}
+use Rattle.drmaa_types.specs.declared.refusals.Refusal.TheVariants.{OutOfResource}
+use Rattle.drmaa_types.specs.declared.refusals.Limit.TheVariants as limit
+use Rattle.drmaa_model.specs.declared.configs.Config.{Config}
+use Rattle.drmaa_model.specs.declared.entries.Entry.{Entry}
+use Rattle.drmaa_model.specs.History.{IsLegal}
+use Rattle.turn_lock.specs.Histories.{BeginsWith}
+use Rattle.turn_lock.specs.Tokens.{Named, BelongsTo}
+use Rattle.call_history.specs.Clients.{Seat, seen_of, mine_of, number_of, retired_of, KnowsItsOwn}
+use Rattle.call_history.specs.Timed.{IsTimed}
+use Rattle.script_lines.specs.declared.lines.Line.{Line}
+use Rattle.script_text.specs.declared.scripts.Script.{Script}
+use Rattle.script_asks.specs.declared.given.Given.{Given}
+use Rattle.attendant.specs.declared.reaper.Held.{Held}
+use Rattle.attendant.specs.declared.reaper.Hand.{Hand}
+use Rattle.attendant.specs.Acts.{own_acts}
+use Rattle.attendant.specs.Posts.{Post}
+use Rattle.attendant.specs.Outside.{Tends, Keeps, AgreesOf, IsHeldUp, EndsSettled}
+use Rattle.block_play.specs.declared.stops.Stopped.TheVariants as stopped
+use Rattle.thread_play.specs.declared.workers.Worker.{Worker}
+use Rattle.thread_play.specs.Stages.{PlaysOn}
+
+-- a client that is back, with its number
+pub record IsBack (number : ℕ) (given : Option (List ℕ)) (client : Seat) : Type 0 where
+  pub number_is : number_of client ≡ number
+  pub own : KnowsItsOwn client
+  pub timed : IsTimed (mine_of client) given
+
+-- the client of a block is back, and so far it was played
+pub record IsEnded {C : Type 0} (given : C → Option (List ℕ)) (config : Config) (s : Script) (names : List (List ℕ × Given)) (place : ℕ) (w : Worker C) : Type 0 where
+  pub back : IsBack (place + 1) (given w.clock) w.client
+  pub sufficed : w.ended ≢ Err stopped.Memory
+  pub played : (block : List Line) → slice_get s.clients place ≡ Some block → PlaysOn config s names block (mine_of w.client) (seen_of w.client) w.ended
+
+-- Why a run was stopped: launcher or reaper met the size at some time before the end, or a client did.
+pub data IsFullAtEnd {C : Type 0} (shared : Named Config) (number : ℕ) (p : Seat) (ws : List (Worker C)) (size : ℕ) : Type 0 where
+  by_attendant : (l0 l1 r0 r1 : Post) → l0.shared ≡ shared → r0.shared ≡ shared → KnowsItsOwn r0.client → number_of r0.client ≡ number → IsHeldUp l0 l1 r0 r1 (OutOfResource (limit.Journal size))
+      → BeginsWith (seen_of p) (seen_of l1.client) → BeginsWith (seen_of p) (seen_of r1.client) → IsFullAtEnd shared number p ws size
+  by_client : (place : ℕ) (d : Worker C) → place < length ws → (slice_index_or ws place d).ended ≡ Err (stopped.Full size) → IsFullAtEnd shared number p ws size
+
+-- All were played whole, and then the machine was settled.
+pub record EndsWhole {C : Type 0} (config : Config) (ws : List (Worker C)) (launcher : Post) (reaping : Seat) : Type 0 where
+  pub ended : (i : ℕ) (d : Worker C) → i < length ws → (slice_index_or ws i d).ended ≡ Ok tt
+  pub settled : EndsSettled config launcher
+  pub begins : BeginsWith (seen_of launcher.client) (seen_of reaping)
+
+-- how a run ended, by the size that it met
+abbrev pub Ends : {C : Type 0} → Named Config → ℕ → Seat → List (Worker C) → Post → Seat → Option ℕ → Type 0
+Ends shared number p ws launcher reaping None = EndsWhole shared.fixed ws launcher reaping
+Ends shared number p ws launcher reaping (Some size) = IsFullAtEnd shared number p ws size
+
+-- What is left once all are back: each client's entries under its number, then the launcher's and the reaper's.
+pub record Others {C T : Type 0} (given : C → Option (List ℕ)) (told : T → Option Told) (s : Script) (names : List (List ℕ × Given)) (shared : Named Config) (o p : Seat)
+    (asked asked_after : Option (List Asked)) (fate : ℕ → Fate) (clocks clocks_after : List C) (full : Option ℕ) : Type 0 where
+  pub opener : BelongsTo shared p
+  pub begins : BeginsWith (seen_of p) (seen_of o)
+  pub ws : List (Worker C)
+  pub count : length ws ≡ length s.clients
+  pub clients : (i : ℕ) (d : Worker C) → i < length ws → IsEnded given shared.fixed s names i (slice_index_or ws i d)
+  pub launcher : Post
+  pub launcher_clock : C
+  pub launcher_given : given launcher_clock ≡ launcher.clock.given
+  pub launcher_back : IsBack (length s.clients + 1) launcher.clock.given launcher.client
+  pub reaping : Seat
+  pub reaping_clock : C
+  pub reaping_back : IsBack (length s.clients + 2) (given reaping_clock) reaping
+  pub retired : retired_of p ≡ retired_of o ++ (map (λ (w : Worker C). Some (mine_of w.client)) ws ++ Some (mine_of launcher.client) ∷ Some (mine_of reaping) ∷ [])
+  pub clocks_are : clocks_after ≡ clocks ++ (map (λ (w : Worker C). w.clock) ws ++ launcher_clock ∷ reaping_clock ∷ [])
+  -- the launcher's client has seen what the opener had, and what each client had
+  pub known : BeginsWith (seen_of p) (seen_of launcher.client)
+  pub known_first : BeginsWith (seen_of launcher.client) (seen_of o)
+  pub known_clients : (i : ℕ) (d : Worker C) → i < length ws → BeginsWith (seen_of launcher.client) (seen_of (slice_index_or ws i d).client)
+  -- launcher and reaper
+  pub at : ℕ → Option (Held T)
+  pub hand : Option Hand
+  pub tends : Tends (own_acts launcher.client) (own_acts reaping) at hand
+  pub keeps : asked ≡ Some [] → Keeps told asked_after fate (own_acts launcher.client) (own_acts reaping) at hand
+  pub agrees : full ≡ None → asked ≡ Some [] → AgreesOf asked_after fate (own_acts launcher.client) (own_acts reaping)
+  pub ends : Ends shared (length s.clients + 2) p ws launcher reaping full

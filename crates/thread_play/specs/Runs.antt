@@ -1,0 +1,150 @@
+-- What a run of a script for threads is, by its history alone: our profile.
+use Rattle.std.specs.Prelude.{◌≡◌, ◌⊎◌, ℕ, ◌+◌, ◌<◌, Bool, true, List, [], ◌∷◌, ◌++◌, length, Option, Some, None, IfSome}
+use Rattle.std.specs.List.{slice_get}
+use Rattle.child_spawner.specs.declared.fates.Asked.{Asked}
+use Rattle.child_spawner.specs.declared.fates.Fate.{Fate}
+use Rattle.drmaa_types.specs.declared.identifiers.JobId.{JobId}
+use Rattle.drmaa_model.specs.declared.calls.Call.{Call}
+use Rattle.drmaa_model.specs.declared.calls.Call.TheVariants as call
+use Rattle.drmaa_model.specs.declared.configs.Config.{Config}
+use Rattle.drmaa_model.specs.declared.entries.Entry.{Entry}
+use Rattle.drmaa_model.specs.declared.faults.NoEntry.TheVariants as fault
+use Rattle.drmaa_model.specs.declared.replies.Signal.{Signal}
+use Rattle.drmaa_model.specs.Consistent.{IsConsistent}
+use Rattle.drmaa_model.specs.History.{IsLegal, replay}
+use Rattle.drmaa_model.specs.KeptCalls.{kept}
+use Rattle.drmaa_model.specs.Order.{settled}
+use Rattle.drmaa_model.specs.SettledLaws.{IsQuiet}
+use Rattle.drmaa_model.specs.Time.{advance}
+use Rattle.drmaa_machine.specs.Chronicles.{MakesNone}
+use Rattle.turn_lock.specs.Histories.{BeginsWith}
+use Rattle.call_history.specs.Callers.{calls_of}
+use Rattle.call_history.specs.Timed.{IsTimed}
+use Rattle.script_lines.specs.declared.lines.Line.{Line}
+use Rattle.script_text.specs.declared.scripts.Script.{Script}
+use Rattle.script_text.specs.declared.scripts.Mode.TheVariants as mode
+use Rattle.script_text.specs.Follows.{lines_of}
+use Rattle.script_text.specs.Scripts.{Spells}
+use Rattle.script_asks.specs.declared.given.Given.{Given}
+use Rattle.script_asks.specs.Plays.{Plays, names_by, setup_names}
+use Rattle.attendant.specs.Acts.{acts_of, Each, is_launched}
+use Rattle.attendant.specs.Outside.{IsLaunchersEntry, IsReapersEntry}
+use Rattle.attendant.specs.Rounds.{asked_signal}
+use Rattle.attendant.specs.Runs.{is_ended, owed}
+use Rattle.attendant.specs.Whole.{AgreesWithOutside}
+use Rattle.block_play.specs.Played.{IsFullFor}
+
+-- some lines are this script's, for threads
+abbrev pub IsForThreads : Script → Type 0
+IsForThreads s = (lines : List (List ℕ)) × Spells mode.Threads lines s
+
+-- The callers: the setup block is played by 0 and the clients' blocks by 1 and so on, in their order; then come the launcher and the
+-- reaper.
+abbrev pub launcher_of : Script → ℕ
+launcher_of s = length s.clients + 1
+
+abbrev pub reaper_of : Script → ℕ
+reaper_of s = length s.clients + 2
+
+-- the names that setup gave, by its entries
+abbrev pub names_given : Script → List Entry → List (List ℕ × Given)
+names_given s history = setup_names s (calls_of history 0)
+
+-- One history of all callers.
+pub record IsRun (s : Script) (history : List Entry) : Type 0 where
+  -- replayed on the machine of the script, it gives every reply
+  pub legal : IsLegal s.config history
+  -- each beginning leads to a world in which started jobs fit the slots, and accepted reservations fit them at every moment
+  pub fits : (front back : List Entry) → history ≡ front ++ back → IsConsistent (replay s.config front)
+  -- the entries of setup come first
+  pub setup_first : BeginsWith history (calls_of history 0)
+  -- the launcher takes launches, and reports a start right after its launch; it makes no other calls
+  pub launcher : Each IsLaunchersEntry (acts_of (calls_of history (launcher_of s)))
+  -- the reaper takes orders, reports each once after it was taken, and reports an end once; it makes no other calls
+  pub reaper : Each IsReapersEntry (acts_of (calls_of history (reaper_of s)))
+  -- an end is reported of a run that was launched
+  pub ended : (job : JobId) (attempt : ℕ) → is_ended job attempt (acts_of (calls_of history (reaper_of s))) ≡ true
+      → is_launched job attempt (acts_of (calls_of history (launcher_of s))) ≡ true
+  -- nobody else makes a call
+  pub strangers : (caller : ℕ) → reaper_of s < caller → calls_of history caller ≡ []
+
+-- Each block was played whole: its client's entries are what its lines ask, once each and in order, with the names that setup gave.
+pub record PlaysAll (s : Script) (history : List Entry) : Type 0 where
+  pub setup : Plays s [] 0 (lines_of s.setup) (calls_of history 0)
+  pub clients : (n : ℕ) (block : List Line) → slice_get s.clients n ≡ Some block → Plays s (names_given s history) 0 block (calls_of history (n + 1))
+
+-- the machine is settled at the last of these readings
+pub record IsSettledAt (config : Config) (history : List Entry) (readings : List ℕ) : Type 0 where
+  pub earlier : List ℕ
+  pub last : ℕ
+  pub are : readings ≡ earlier ++ last ∷ []
+  pub settled_is : settled (advance (replay config history) last).plan ≡ true
+
+-- No job holds slots and no order stands, and the machine is settled at the last reading of a clock, where it tells them.
+pub record IsAtRest (config : Config) (history : List Entry) (given : Option (List ℕ)) : Type 0 where
+  pub quiet : IsQuiet (replay config history).plan
+  pub last : IfSome given (IsSettledAt config history)
+
+-- ---- a run that was stopped by the journal's size
+
+-- A block was played up to a line: what this one asks made no entry, since after some beginning of the history the journal would
+-- have had this size.
+pub record IsCutShort (s : Script) (names : List (List ℕ × Given)) (block : List Line) (own history : List Entry) (size : ℕ) : Type 0 where
+  pub front : List Line
+  pub line : Line
+  pub back : List Line
+  pub lines : block ≡ front ++ line ∷ back
+  pub played : Plays s names 0 front own
+  pub seen : List Entry
+  pub begins : BeginsWith history seen
+  pub full : IsFullFor s.config s (names_by s names front own) line seen size
+
+-- a block was played whole, or up to a line at which some size was met
+abbrev pub PlaysUpTo : Script → List (List ℕ × Given) → List Line → List Entry → List Entry → Type 0
+PlaysUpTo s names block own history = Plays s names 0 block own ⊎ ((size : ℕ) × IsCutShort s names block own history size)
+
+-- This call made no entry, since after some beginning of the history the journal would have had this size.
+pub record MeetsSize (config : Config) (history : List Entry) (asked : Call) (size : ℕ) : Type 0 where
+  pub seen : List Entry
+  pub begins : BeginsWith history seen
+  pub at : ℕ
+  pub none : MakesNone (replay config seen) at (kept asked) (fault.Journal size)
+
+-- Which call met the size: the one that a client's next line asks; the taking of a launch or of an order; or the report of the order
+-- that the reaper took last.
+pub data IsMet (s : Script) (history : List Entry) (size : ℕ) : Type 0 where
+  by_block : (n : ℕ) (block : List Line) → slice_get s.clients n ≡ Some block → IsCutShort s (names_given s history) block (calls_of history (n + 1)) history size → IsMet s history size
+  by_launch : MeetsSize s.config history call.TakeLaunch size → IsMet s history size
+  by_order : MeetsSize s.config history call.TakeSignal size → IsMet s history size
+  by_answer : (signal : Signal) (answer : Bool) → (m : MeetsSize s.config history (asked_signal answer signal) size)
+      → owed (acts_of (calls_of m.seen (reaper_of s))) ≡ Some signal → IsMet s history size
+
+-- The run was stopped since the journal would have had this size: within setup, and then nobody else made a call; or behind it. So
+-- many callers there were.
+pub data IsStopped (s : Script) (history : List Entry) (size callers : ℕ) : Type 0 where
+  in_setup : IsCutShort s [] (lines_of s.setup) (calls_of history 0) history size → ((caller : ℕ) → 0 < caller → calls_of history caller ≡ []) → callers ≡ 1 → IsStopped s history size callers
+  behind_setup : Plays s [] 0 (lines_of s.setup) (calls_of history 0)
+      → ((n : ℕ) (block : List Line) → slice_get s.clients n ≡ Some block → PlaysUpTo s (names_given s history) block (calls_of history (n + 1)) history)
+      → IsMet s history size → callers ≡ reaper_of s + 1 → IsStopped s history size callers
+
+-- ---- a run as it is left
+
+-- Each block was played whole. There were so many callers, and at the end the machine is at rest at the last reading of the launcher's
+-- clock. Where the spawner tells, and nothing had been asked of it, the outside agrees with the history.
+pub record IsWhole {C : Type 0} (given : C → Option (List ℕ)) (s : Script) (history : List Entry) (asked asked_after : Option (List Asked)) (fate : ℕ → Fate) (clocks : List C) : Type 0 where
+  pub plays : PlaysAll s history
+  pub callers : length clocks ≡ reaper_of s + 1
+  pub rest : (clock : C) → slice_get clocks (launcher_of s) ≡ Some clock → IsAtRest s.config history (given clock)
+  pub outside : asked ≡ Some [] → IfSome asked_after (λ starts. AgreesWithOutside starts fate (acts_of history))
+
+-- how a run ended, by the size that stopped it
+abbrev pub EndsBy : {C : Type 0} → (C → Option (List ℕ)) → Script → List Entry → Option (List Asked) → Option (List Asked) → (ℕ → Fate) → List C → Option ℕ → Type 0
+EndsBy given s history asked asked_after fate clocks None = IsWhole given s history asked asked_after fate clocks
+EndsBy given s history asked asked_after fate clocks (Some size) = IsStopped s history size (length clocks)
+
+-- A run left this history, and these clocks of its callers, in the order of their numbers.
+pub record HasRun {C : Type 0} (given : C → Option (List ℕ)) (s : Script) (history : List Entry) (asked asked_after : Option (List Asked)) (fate : ℕ → Fate) (clocks : List C) (full : Option ℕ) : Type 0 where
+  pub run : IsRun s history
+  -- the moments of each caller's entries are readings of its clock, in their order, where it tells them
+  pub timed : (caller : ℕ) (clock : C) → slice_get clocks caller ≡ Some clock → IsTimed (calls_of history caller) (given clock)
+  pub ends : EndsBy given s history asked asked_after fate clocks full

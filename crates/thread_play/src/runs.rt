@@ -1,0 +1,223 @@
+//! The run of a script.
+ghost use Rattle.std.specs.Prelude.{◌≡◌, ◌+◌, ◌≤◌, ◌++◌, ◌∷◌, [], length, IfOk, vec_len, vec_capacity};
+ghost use Rattle.slab.specs.Slab.{get};
+ghost use Rattle.drmaa_model.specs.History.{IsLegal};
+ghost use Rattle.turn_lock.specs.Tokens.{BelongsTo};
+ghost use Rattle.call_history.specs.Clients.{seen_of, retired_of};
+ghost use Rattle.thread_play.specs.Runs.{IsForThreads, HasRun};
+ghost use Rattle.thread_play.specs.Pairs.{ArePlaced, HasEnded, AreReleased};
+ghost use Rattle.thread_play.specs.Others.{Others};
+
+use crate::crews::play_beside;
+use crate::ends::{dismiss, stopped_by, worse};
+use crate::firsts::{First, play_first};
+use crate::pairs::{Attended, Pair, settle};
+use crate::workers::hire;
+use attendant::{Reaper, nothing_is_kept, the_outside_agrees};
+use block_play::{Names, Stopped};
+use call_history::{Bell, Machine, MachineOpener, SharedMachine};
+use child_spawner::Spawner;
+use drmaa_model::{
+    a_legal_history_leads_to_a_consistent_world, a_settled_plan_is_quiet, each_prefix_is_legal,
+};
+use drmaa_types::{CallerId, Clock, Clocks, ListOf};
+use script_journals::no_client_asks_what_the_attendant_asks;
+use script_play::{copy_of, each_script_can_be_played};
+use script_text::Script;
+use std::alloc::{AllocError, Global};
+use std::sync::Wait;
+use std::thread::Threads;
+use std::time::Clock as Pause;
+
+/// Clocks, in the order of their callers' numbers.
+pub type ClockList<C> = ListOf<C>;
+
+/// What a run leaves.
+#[derive(Drop)]
+pub struct Run<C> {
+    /// The machine that has served all callers.
+    pub machine: Machine,
+    /// The size that the journal would have had by a step that was not made. None where each block was played whole.
+    pub full: Option<u64>,
+    /// The clocks of the callers that there were: of the setup block, of the clients' blocks, of the launcher and of the reaper.
+    pub clocks: ClockList<C>,
+}
+
+/// Launcher and reaper alone, until the machine is settled; not where the run is stopped already. Why it is stopped then.
+fn end_others<R: Wait + Pause, S: Spawner, C: Clock>(
+    rt: &R,
+    shared: &SharedMachine,
+    bell: &Bell,
+    pair: Pair<C>,
+    spawner: &mut S,
+    reaper: &mut Reaper<S::One>,
+    ended: Option<Stopped>,
+) -> (Pair<C>, Option<Stopped>)
+    requires { ArePlaced shared.now pair }
+    ensures { HasEnded C.given C.least S.One.told shared.now pair result.0 (S.asked spawner.old) (S.asked spawner.new) (S.fate spawner.old) (S.fate spawner.new)
+        (get reaper.old.children) (get reaper.new.children) reaper.old.order reaper.new.order ended result.1 }
+{
+    if ended.is_some() {
+        return (pair, ended);
+    }
+    let Attended { pair, ended } = settle(rt, shared, bell, pair, spawner, reaper);
+    (pair, worse(None, stopped_by(ended)))
+}
+
+/// Takes launcher and reaper back, and their clocks.
+fn release<C: Drop>(
+    shared: &SharedMachine,
+    opener: &mut MachineOpener,
+    pair: Pair<C>,
+    clocks: &mut Vec<C>,
+)
+    requires opener { BelongsTo shared.now opener.old }
+    requires pair { ArePlaced shared.now pair }
+    requires room { vec_len clocks.old + 2 ≤ vec_capacity clocks.old }
+    ensures back { AreReleased shared.now opener.old opener.new pair }
+    ensures clocks { clocks.new.items ≡ (clocks.old.items ++ pair.launcher_clock ∷ []) ++ pair.reaping_clock ∷ [] }
+{
+    let Pair {
+        launcher,
+        launcher_clock,
+        reaping,
+        reaping_clock,
+    } = pair;
+    shared.retire(opener, launcher);
+    clocks.push_reserved(launcher_clock);
+    shared.retire(opener, reaping);
+    clocks.push_reserved(reaping_clock);
+}
+
+/// The clients' blocks, launcher and reaper, and all of them back. The size that the journal would have had, where the run was
+/// stopped by it.
+///
+/// # Errors
+///
+/// Want of memory, of any of them.
+fn play_others<R: Threads + Wait + Pause + Sync, K: Clocks, S: Spawner + Send>(
+    rt: &R,
+    alloc: Global,
+    script: &Script,
+    names: &Names,
+    shared: &SharedMachine,
+    opener: &mut MachineOpener,
+    clocks: &K,
+    spawner: &mut S,
+    bell: &Bell,
+    given: &mut Vec<K::One>,
+) -> Result<Option<u64>, AllocError>
+    requires opener { BelongsTo shared.now opener.old }
+    requires first { length (retired_of opener.old) ≡ 1 }
+    requires legal { IsLegal shared.now.fixed (seen_of opener.old) }
+    requires few { length script.now.clients ≤ 32 }
+    requires room { vec_len given.old + length script.now.clients + 2 ≤ vec_capacity given.old }
+    ensures { IfOk result (λ full. Others K.One.given S.One.told script.now names.now shared.now opener.old opener.new
+        (S.asked spawner.old) (S.asked spawner.new) (S.fate spawner.new) given.old.items given.new.items full) }
+{
+    let mut workers = hire(alloc, script, shared, opener, clocks)?;
+    let number = script.clients.as_slice().len() as u32 + 1;
+    let pair = Pair {
+        launcher: shared.open_client(opener),
+        launcher_clock: clocks.clock(CallerId(number)),
+        reaping: shared.open_client(opener),
+        reaping_clock: clocks.clock(CallerId(number + 1)),
+    };
+    let mut reaper = Reaper::new(alloc);
+    let (attended, played) = play_beside(
+        rt,
+        alloc,
+        script,
+        names,
+        shared,
+        bell,
+        pair,
+        spawner,
+        &mut reaper,
+        &mut workers,
+    );
+    played?;
+    let Attended { pair, ended } = attended;
+    let mut pair = pair;
+    let ended = dismiss(
+        shared,
+        opener,
+        &mut pair.launcher,
+        workers,
+        given,
+        worse(None, stopped_by(ended)),
+    );
+    let (pair, ended) = end_others(rt, shared, bell, pair, spawner, &mut reaper, ended);
+    release(shared, opener, pair, given);
+    nothing_is_kept::<S::One>();
+    match ended {
+        None => Ok(None),
+        Some(Stopped::Full { size }) => Ok(Some(size)),
+        Some(Stopped::Memory) => Err(AllocError),
+    }
+}
+
+/// Plays a script: its setup block first; then its clients' blocks, each in a thread of its own, beside launcher and reaper in one,
+/// who start the children of its jobs and report of them. Where a thread can't be started, the caller does its work. It may wait for
+/// good.
+///
+/// A client stops at the first line that makes no entry for want of memory or the journal's size. Where setup stops so, nobody else
+/// makes a call.
+///
+/// # Errors
+///
+/// Want of memory, of any caller; then what was asked of the spawner stays.
+pub fn play_threads<R: Threads + Wait + Pause + Sync, K: Clocks, S: Spawner + Send>(
+    rt: &R,
+    alloc: Global,
+    script: &Script,
+    clocks: &K,
+    spawner: &mut S,
+    bell: &Bell,
+) -> Result<Run<K::One>, AllocError>
+    requires { IsForThreads script.now }
+    ensures config { IfOk result (λ run. run.machine.ledger.config ≡ script.now.config) }
+    ensures run { IfOk result (λ run. HasRun K.One.given script.now run.machine.ledger.history
+        (S.asked spawner.old) (S.asked spawner.new) (S.fate spawner.new) run.clocks run.full) }
+{
+    each_script_can_be_played();
+    each_prefix_is_legal();
+    a_legal_history_leads_to_a_consistent_world();
+    a_settled_plan_is_quiet();
+    no_client_asks_what_the_attendant_asks();
+    the_outside_agrees::<S::One>();
+    let config = copy_of(&script.config)?;
+    let mut given = Vec::with_capacity(alloc, script.clients.as_slice().len() + 3)?;
+    let Ok((shared, mut opener)) = SharedMachine::new(alloc, config) else {
+        return Err(AllocError);
+    };
+    let First { clock, played } = play_first(rt, alloc, script, &shared, &mut opener, clocks, bell);
+    given.push_reserved(clock);
+    match played {
+        Ok(names) => {
+            let full = play_others(
+                rt,
+                alloc,
+                script,
+                &names,
+                &shared,
+                &mut opener,
+                clocks,
+                spawner,
+                bell,
+                &mut given,
+            )?;
+            Ok(Run {
+                machine: shared.close(opener),
+                full,
+                clocks: ClockList::from_vec(given),
+            })
+        }
+        Err(Stopped::Full { size }) => Ok(Run {
+            machine: shared.close(opener),
+            full: Some(size),
+            clocks: ClockList::from_vec(given),
+        }),
+        Err(Stopped::Memory) => Err(AllocError),
+    }
+}
