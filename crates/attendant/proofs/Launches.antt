@@ -434,6 +434,14 @@ nothing_agrees mine mine2 reaper asked asked2 fate fate2 old new n a =
     (subst (λ (f : ℕ → Fate). AgreesOf asked2 f mine reaper) (sym n.fate_is)
     (subst (λ (q : Option (List Asked)). AgreesOf q fate mine reaper) (sym n.asked_is) a))
 
+-- a round of the launcher leaves the fates
+pub round_fates : {T : Type 0} (told : T → Option Told) (before after : Post) (asked asked2 : Option (List Asked)) (fate fate2 : ℕ → Fate) (old new : Slab (Held T))
+    (r : Result Launched Refusal) → LaunchSteps told before after asked asked2 fate fate2 old new r → fate2 ≡ fate
+round_fates told before after asked asked2 fate fate2 old new (Ok launched.Nothing) s = s.fate_is
+round_fates told before after asked asked2 fate fate2 old new (Ok (launched.Began job)) s = s.made.fate_is
+round_fates told before after asked asked2 fate fate2 old new (Ok (launched.StartFailed job)) s = s.made.fate_is
+round_fates told before after asked asked2 fate fate2 old new (Err why) s = elim s [ inl none ↦ none.0.fate_is | inr m ↦ m.0.made.fate_is ]
+
 -- a round of the launcher, whether the spawner tells or not
 pub round_tends : {T : Type 0} (told : T → Option Told) (before after : Post) (reaper : List Act) (asked asked2 : Option (List Asked)) (fate fate2 : ℕ → Fate) (old new : Slab (Held T)) (hand : Option Hand)
     (r : Result Launched Refusal) → LaunchSteps told before after asked asked2 fate fate2 old new r → Tends (acts_at before) reaper (get old) hand → Tends (acts_at after) reaper (get new) hand

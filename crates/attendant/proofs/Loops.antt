@@ -25,6 +25,7 @@ use Rattle.attendant.proofs.Causes.{fails-now}
 pub attending_on : {T : Type 0} (told : T → Option Told) (q0 q1 q2 : Option (List Asked)) (f0 f1 f2 : ℕ → Fate) (l0 l1 l2 r0 r1 r2 : List Act) (a0 a1 a2 : ℕ → Option (Held T)) (h0 h1 h2 : Option Hand) (C D E : Type 0)
     → (E → C) → (E → D) → Attending told q0 q1 f0 f1 l0 l1 r0 r1 a0 a1 h0 h1 C → Attending told q1 q2 f1 f2 l1 l2 r1 r2 a1 a2 h1 h2 D → Attending told q0 q2 f0 f2 l0 l2 r0 r2 a0 a2 h0 h2 E
 attending_on told q0 q1 q2 f0 f1 f2 l0 l1 l2 r0 r1 r2 a0 a1 a2 h0 h1 h2 C D E left right p q = record {
+  fates = q.fates ∙ p.fates;
   tends = λ t. q.tends (p.tends t);
   keeps = λ k. q.keeps (p.keeps k);
   agrees = λ clean k a. q.agrees (right clean) (p.keeps k) (p.agrees (left clean) k a);

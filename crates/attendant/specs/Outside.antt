@@ -206,6 +206,7 @@ pub record Agreed {T : Type 0} (told : T → Option Told) (reaper reaper_after :
 -- Rounds of launcher and reaper keep what is kept, and agree where they were clean.
 pub record Attending {T : Type 0} (told : T → Option Told) (asked asked_after : Option (List Asked)) (fate fate_after : ℕ → Fate) (launcher launcher_after reaper reaper_after : List Act)
     (at at_after : ℕ → Option (Held T)) (hand hand_after : Option Hand) (Clean : Type 0) : Type 0 where
+  pub fates : fate_after ≡ fate
   pub tends : Tends launcher reaper at hand → Tends launcher_after reaper_after at_after hand_after
   pub keeps : Keeps told asked fate launcher reaper at hand → Keeps told asked_after fate_after launcher_after reaper_after at_after hand_after
   pub agrees : Clean → Keeps told asked fate launcher reaper at hand → AgreesOf asked fate launcher reaper → AgreesOf asked_after fate_after launcher_after reaper_after

@@ -171,6 +171,7 @@ pub fn launch_once<R: Wait, S: Spawner, C: Clock>(
     ensures steps { LaunchSteps S.One.told (post C.given C.least desk.old) (post C.given C.least desk.new)
         (S.asked spawner.old) (S.asked spawner.new) (S.fate spawner.old) (S.fate spawner.new)
         reaper.old.children reaper.new.children result }
+    ensures fates { S.fate spawner.new ≡ S.fate spawner.old }
     ensures tends { (reaped : List Act) → Tends (own_acts desk.old.client) reaped (get reaper.old.children) reaper.old.order →
         Tends (own_acts desk.new.client) reaped (get reaper.new.children) reaper.new.order }
     ensures keeps { (reaped : List Act) →

@@ -1,3 +1,4 @@
 pub mod Fronts
 pub mod Played
+pub mod Ran
 pub mod Somes

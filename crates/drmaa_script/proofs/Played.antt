@@ -7,6 +7,7 @@ use Rattle.drmaa_model.specs.History.{IsLegal}
 use Rattle.journal_check.specs.Faults.{FirstFault}
 use Rattle.journal_text.specs.declared.journals.Journal.{Journal}
 use Rattle.script_asks.specs.Plays.{serial_play}
+use Rattle.script_text.specs.declared.scripts.Mode.TheVariants as mode
 use Rattle.script_text.specs.declared.scripts.Script.{Script}
 use Rattle.text_codec.specs.Formats.{choose}
 use Rattle.drmaa_script.specs.declared.plays.Output.{Output}
@@ -42,7 +43,7 @@ ended_no_fault None e = absurd (cc)
 ended_no_fault (Some size) e = absurd (cc)
 
 -- from the script that was read to the bytes that spell it
-pub played_ends : (own : Script → List ℕ) (bytes : List ℕ) (s : Script) (status : Status) (old new : Option (List ℕ)) → IsScriptText bytes s → PlayedEnds own s status old new → PlayEnds own bytes status old new
+pub played_ends : (own : Script → List ℕ) (bytes : List ℕ) (s : Script) (status : Status) (old new : Option (List ℕ)) → IsScriptText mode.Serial bytes s → PlayedEnds own s status old new → PlayEnds own bytes status old new
 played_ends own bytes s Done old new spelled (full, written) = (s, spelled, full, written)
 played_ends own bytes s (Text line) old new spelled ends = absurd ends
 played_ends own bytes s Words old new spelled ends = absurd ends

@@ -1,11 +1,12 @@
 -- The words of the commands: our profile.
 use Rattle.std.specs.Prelude.{◌≢◌, ℕ, List, [], ◌∷◌, codes}
 use Rattle.drmaa_script.specs.declared.commands.Command.{Command}
-use Rattle.drmaa_script.specs.declared.commands.Command.TheVariants.{Serial, Table, Check}
+use Rattle.drmaa_script.specs.declared.commands.Command.TheVariants.{Serial, Threads, Table, Check}
 
 -- a command is one word
 abbrev pub word_of : Command → List ℕ
 word_of Serial = codes "serial"
+word_of Threads = codes "threads"
 word_of Table = codes "table"
 word_of Check = codes "check"
 

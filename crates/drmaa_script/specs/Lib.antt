@@ -1,3 +1,6 @@
 pub mod Commands
+pub mod Endings
 pub mod Outcomes
+pub mod Running
+pub mod Runs
 pub mod Statuses

@@ -13,13 +13,12 @@ use Rattle.journal_check.specs.Faults.{FirstFault}
 use Rattle.monitor_session.specs.Listings.{listing_text}
 use Rattle.script_asks.specs.Plays.{serial_play}
 use Rattle.script_text.specs.Scripts as scripts
+use Rattle.script_text.specs.declared.scripts.Mode.{Mode}
 use Rattle.script_text.specs.declared.scripts.Mode.TheVariants as mode
 use Rattle.script_text.specs.declared.scripts.Script.{Script}
 use Rattle.text_codec.specs.Formats.{choose}
 use Rattle.text_lines.specs.Lines.{IsTextOf, IsFirstBad}
 use Rattle.text_lines.specs.Skipping.{SpellsKept}
-use Rattle.drmaa_script.specs.declared.commands.Command.{Command}
-use Rattle.drmaa_script.specs.declared.commands.Command.TheVariants.{Serial, Table, Check}
 use Rattle.drmaa_script.specs.declared.plays.Output.{Output}
 use Rattle.drmaa_script.specs.declared.plays.Output.TheVariants.{Journal as JournalOutput, Listing}
 use Rattle.drmaa_script.specs.declared.status.Status.{Status}
@@ -28,13 +27,13 @@ use Rattle.drmaa_script.specs.Statuses.{IsRefused, IsUnread, ended_as}
 
 -- ---- texts
 
--- the lines of scripts, some of which are skipped
-abbrev pub SpellsScript : List (List ℕ) → Script → Type 0
-SpellsScript = SpellsKept (scripts.Spells mode.Serial)
+-- the lines of scripts of this grammar, some of which are skipped
+abbrev pub SpellsScript : Mode → List (List ℕ) → Script → Type 0
+SpellsScript grammar = SpellsKept (scripts.Spells grammar)
 
 -- the bytes are the whole text of this script, and of this journal
-abbrev pub IsScriptText : List ℕ → Script → Type 0
-IsScriptText bytes script = IsTextOf SpellsScript 16_777_216 bytes script
+abbrev pub IsScriptText : Mode → List ℕ → Script → Type 0
+IsScriptText grammar bytes script = IsTextOf (SpellsScript grammar) 16_777_216 bytes script
 
 abbrev pub IsJournalText : List ℕ → Journal → Type 0
 IsJournalText bytes journal = IsTextOf journals.Spells 268_435_456 bytes journal
@@ -58,19 +57,19 @@ legal_text entries = codes "legal " ++ decimal (length entries) ++ 10 ∷ []
 
 -- For each status: what the bytes are, and what was written of them, by what the sink had before and has then.
 abbrev pub PlayEnds : (Script → List ℕ) → List ℕ → Status → Option (List ℕ) → Option (List ℕ) → Type 0
-PlayEnds own bytes Done old new = (script : Script) × IsScriptText bytes script × ((serial_play script).full ≡ None) × Appends old new (own script)
-PlayEnds own bytes (Text line) old new = IsFirstBad SpellsScript 16_777_216 bytes line
+PlayEnds own bytes Done old new = (script : Script) × IsScriptText mode.Serial bytes script × ((serial_play script).full ≡ None) × Appends old new (own script)
+PlayEnds own bytes (Text line) old new = IsFirstBad (SpellsScript mode.Serial) 16_777_216 bytes line
 PlayEnds own bytes Words old new = ⊥
 PlayEnds own bytes ReadFault old new = Unit {0}
-PlayEnds own bytes WriteFault old new = (script : Script) × IsScriptText bytes script × AppendsFront old new (play_text own script)
+PlayEnds own bytes WriteFault old new = (script : Script) × IsScriptText mode.Serial bytes script × AppendsFront old new (play_text own script)
 PlayEnds own bytes Memory old new = Unit {0}
-PlayEnds own bytes (JournalFull size) old new = (script : Script) × IsScriptText bytes script × ((serial_play script).full ≡ Some size) × Appends old new (journal_of script)
+PlayEnds own bytes (JournalFull size) old new = (script : Script) × IsScriptText mode.Serial bytes script × ((serial_play script).full ≡ Some size) × Appends old new (journal_of script)
 PlayEnds own bytes (NotLegal entry given machine) old new = ⊥
 
 -- Where no read and no write failed: a script is played, and other bytes are refused, unless memory runs out.
 pub record PlayIsWhole (bytes : List ℕ) (status : Status) : Type 0 where
-  pub script : (s : Script) → IsScriptText bytes s → (status ≡ ended_as (serial_play s).full) ⊎ (status ≡ Memory)
-  pub other : ((s : Script) → IsScriptText bytes s → ⊥) → IsRefused status
+  pub script : (s : Script) → IsScriptText mode.Serial bytes s → (status ≡ ended_as (serial_play s).full) ⊎ (status ≡ Memory)
+  pub other : ((s : Script) → IsScriptText mode.Serial bytes s → ⊥) → IsRefused status
 
 -- ---- the check of a journal
 
@@ -92,18 +91,6 @@ pub record CheckIsWhole (bytes : List ℕ) (status : Status) : Type 0 where
       → (status ≡ NotLegal entry given machine) ⊎ (status ≡ Memory)
   pub other : ((j : Journal) → IsJournalText bytes j → ⊥) → IsRefused status
 
--- ---- all commands
-
-abbrev pub Ends : Command → List ℕ → Status → Option (List ℕ) → Option (List ℕ) → Type 0
-Ends Serial = PlayEnds journal_of
-Ends Table = PlayEnds listing_of
-Ends Check = CheckEnds
-
-abbrev pub IsWhole : Command → List ℕ → Status → Type 0
-IsWhole Serial = PlayIsWhole
-IsWhole Table = PlayIsWhole
-IsWhole Check = CheckIsWhole
-
 -- a journal is written at this status: of a whole play, or of one that stopped
 abbrev pub WritesPlay : Output → Status → Type 0
 WritesPlay JournalOutput Done = Unit {0}
@@ -116,18 +103,7 @@ WritesPlay output Memory = ⊥
 WritesPlay output (JournalFull size) = Unit {0}
 WritesPlay output (NotLegal entry given machine) = ⊥
 
-abbrev pub WritesJournal : Command → Status → Type 0
-WritesJournal Serial status = WritesPlay JournalOutput status
-WritesJournal Table status = WritesPlay Listing status
-WritesJournal Check status = ⊥
-
 -- ---- readers
-
--- the greatest number of bytes of a command's text
-abbrev pub limit_of : Command → ℕ
-limit_of Serial = 16_777_216
-limit_of Table = 16_777_216
-limit_of Check = 268_435_456
 
 -- The source was read to its end, or it had more bytes than the limit, where it tells them.
 abbrev pub IsReadOut : ℕ → Option (List ℕ) → Option (List ℕ) → Type 0
@@ -139,8 +115,8 @@ IsReadAs text (Ok found) = found ≡ text
 IsReadAs text (Err status) = (status ≡ ReadFault) ⊎ (status ≡ Memory)
 
 -- some lines are this script's
-abbrev pub IsSpelled : Script → Type 0
-IsSpelled script = (lines : List (List ℕ)) × scripts.Spells mode.Serial lines script
+abbrev pub IsSpelled : Mode → Script → Type 0
+IsSpelled grammar script = (lines : List (List ℕ)) × scripts.Spells grammar lines script
 
 -- ---- a script that was read
 

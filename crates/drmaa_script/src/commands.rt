@@ -1,24 +1,35 @@
 //! The commands of the program.
-ghost use Rattle.std.specs.Prelude.{◌≡◌, ◌≢◌, ◌↔◌, ℕ, IfSome, IsTrue, MatchOption, codes};
+ghost use Rattle.std.specs.Prelude.{◌≡◌, ◌≢◌, ◌↔◌, ℕ, [], IfSome, IsTrue, MatchOption, codes};
 ghost use Rattle.std.specs.Io.KnownBytes.{IsAtEnd};
 ghost use Rattle.drmaa_types.specs.Counts.{Rose};
+ghost use Rattle.script_text.specs.declared.scripts.Mode.TheVariants as mode;
 ghost use Rattle.script_text.specs.declared.scripts.Script.{Script};
 ghost use Rattle.drmaa_script.specs.Commands.{words_of, word_of, NamesNone};
-ghost use Rattle.drmaa_script.specs.Outcomes.{Ends, IsWhole, IsReadOut, limit_of, WritesJournal, IsScriptText, IsWritten};
+ghost use Rattle.drmaa_script.specs.Endings.{Ends, IsWhole, limit_of, WritesJournal, HandsClocks, Starts};
+ghost use Rattle.drmaa_script.specs.Outcomes.{IsReadOut, IsScriptText, IsWritten};
 ghost use Rattle.drmaa_script.specs.Statuses.{IsQuiet, HasRead, HasWritten};
 
 use crate::checks::run_check;
+use crate::outcomes::{Outcome, without_clocks};
 use crate::plays::{Output, run_play};
 use crate::status::Status;
+use crate::threads::run_threads;
 use byte_streams::{Sink, Source};
-use drmaa_types::{Text, TextList};
+use call_history::Bell;
+use child_spawner::Spawner;
+use drmaa_types::{Clocks, Text, TextList};
 use std::alloc::Global;
+use std::sync::Wait;
+use std::thread::Threads;
+use std::time::Clock as Pause;
 
 /// What the program can be asked to do.
 #[derive(Clone, Copy, Debug, PartialEq, Eq)]
 pub enum Command {
     /// Plays a script on one thread, and writes the journal.
     Serial,
+    /// Plays a script in threads, and writes the journal.
+    Threads,
     /// Plays a script on one thread, and lists all jobs as they are then.
     Table,
     /// Reads a journal, and says whether it is legal.
@@ -31,6 +42,7 @@ fn named(word: &Text) -> Option<Command>
 {
     match word.as_str() {
         "serial" => Some(Command::Serial),
+        "threads" => Some(Command::Threads),
         "table" => Some(Command::Table),
         "check" => Some(Command::Check),
         _ => None,
@@ -48,70 +60,92 @@ fn command_of(words: &TextList) -> Option<Command>
 }
 
 /// Runs a command on a source and a sink.
-fn run_command<R: Source, W: Sink>(
+fn run_command<E: Threads + Wait + Pause + Sync, R: Source, W: Sink, K: Clocks, S: Spawner + Send>(
+    rt: &E,
     alloc: Global,
     command: Command,
     source: &mut R,
     sink: &mut W,
-) -> Status
-    ensures ends { IfSome (R.left source.old) (λ bytes. Ends command bytes result (W.written sink.old) (W.written sink.new)) }
-    ensures words { result ≢ Status.Words }
-    ensures read_whole { HasRead result → IsAtEnd (R.left source.new) }
-    ensures read_out { (line : ℕ) → result ≡ Status.Text line → IsReadOut (limit_of command) (R.left source.old) (R.left source.new) }
-    ensures finished { HasWritten result → W.finished sink.new }
-    ensures read_fault { result ≡ Status.ReadFault → Rose (R.faults source.old) (R.faults source.new) }
-    ensures write_fault { result ≡ Status.WriteFault → Rose (W.faults sink.old) (W.faults sink.new) }
-    ensures untouched { IsQuiet result → sink.new ≡ sink.old }
+    clocks: &K,
+    spawner: &mut S,
+    bell: &Bell,
+) -> Outcome<K::One>
+    ensures ends { IfSome (R.left source.old) (λ bytes. Ends K.One.given command bytes (W.written sink.old) (W.written sink.new)
+        (S.asked spawner.old) (S.asked spawner.new) (S.fate spawner.new) result.clocks result.status) }
+    ensures words { result.status ≢ Status.Words }
+    ensures read_whole { HasRead result.status → IsAtEnd (R.left source.new) }
+    ensures read_out { (line : ℕ) → result.status ≡ Status.Text line → IsReadOut (limit_of command) (R.left source.old) (R.left source.new) }
+    ensures finished { HasWritten result.status → W.finished sink.new }
+    ensures read_fault { result.status ≡ Status.ReadFault → Rose (R.faults source.old) (R.faults source.new) }
+    ensures write_fault { result.status ≡ Status.WriteFault → Rose (W.faults sink.old) (W.faults sink.new) }
+    ensures untouched { IsQuiet result.status → sink.new ≡ sink.old }
     ensures whole { (Rose (R.faults source.old) (R.faults source.new) → ⊥) → (Rose (W.faults sink.old) (W.faults sink.new) → ⊥)
-        → IfSome (R.left source.old) (λ bytes. IsWhole command bytes result) }
-    ensures writable { WritesJournal command result → IfSome (R.left source.old) (λ bytes. (script : Script) → IsScriptText bytes script → IsWritten script) }
+        → IfSome (R.left source.old) (λ bytes. IsWhole command bytes result.status) }
+    ensures writable { WritesJournal command result.status → IfSome (R.left source.old) (λ bytes. (script : Script) → IsScriptText mode.Serial bytes script → IsWritten script) }
+    ensures clocks { (HandsClocks command result.status → ⊥) → result.clocks ≡ [] }
+    ensures unasked { (Starts command → ⊥) → spawner.new ≡ spawner.old }
+    ensures fates { S.fate spawner.new ≡ S.fate spawner.old }
 {
     match command {
-        Command::Serial => run_play(alloc, Output::Journal, source, sink),
-        Command::Table => run_play(alloc, Output::Listing, source, sink),
-        Command::Check => run_check(alloc, source, sink),
+        Command::Serial => without_clocks(alloc, run_play(alloc, Output::Journal, source, sink)),
+        Command::Threads => run_threads(rt, alloc, source, sink, clocks, spawner, bell),
+        Command::Table => without_clocks(alloc, run_play(alloc, Output::Listing, source, sink)),
+        Command::Check => without_clocks(alloc, run_check(alloc, source, sink)),
     }
 }
 
-/// Runs the command that the words name. `serial` and `table` read a script from the source and play it on one thread:
-/// `serial` writes the journal to the sink, `table` the listing of all jobs; where the play stops for the journal's size, both
-/// write the journal of the entries made. `check` reads a journal and writes how many entries it has, where it is legal.
+/// Runs the command that the words name. `serial`, `threads` and `table` read a script from the source. `serial` and `table` play it
+/// on one thread: `serial` writes the journal to the sink, `table` the listing of all jobs. `threads` plays it by a thread for each
+/// client, beside launcher and reaper, who start its jobs by the spawner, at the moments of the callers' clocks, and writes the
+/// journal. Where the play stops for the journal's size, all three write the journal of the entries made. `check` reads a journal and
+/// writes how many entries it has, where it is legal. With `threads` it may wait for good.
 ///
-/// The clauses speak of the bytes that the source had left and that the sink was given, where these are told.
-pub fn run<R: Source, W: Sink>(
+/// The clauses speak of the bytes that the source had left and that the sink was given, of the readings that the clocks gave, and of
+/// what was asked of the spawner, where these are told.
+pub fn run<E: Threads + Wait + Pause + Sync, R: Source, W: Sink, K: Clocks, S: Spawner + Send>(
+    rt: &E,
     alloc: Global,
     words: &TextList,
     source: &mut R,
     sink: &mut W,
-) -> Status
+    clocks: &K,
+    spawner: &mut S,
+    bell: &Bell,
+) -> Outcome<K::One>
     // What each status says of the bytes that were read, and what was written then.
     ensures ends { (command : Command) → words.now ≡ words_of command
-        → IfSome (R.left source.old) (λ bytes. Ends command bytes result (W.written sink.old) (W.written sink.new)) }
-    ensures read_whole { HasRead result → IsAtEnd (R.left source.new) }
-    ensures read_out { (command : Command) (line : ℕ) → words.now ≡ words_of command → result ≡ Status.Text line
+        → IfSome (R.left source.old) (λ bytes. Ends K.One.given command bytes (W.written sink.old) (W.written sink.new)
+        (S.asked spawner.old) (S.asked spawner.new) (S.fate spawner.new) result.clocks result.status) }
+    ensures read_whole { HasRead result.status → IsAtEnd (R.left source.new) }
+    ensures read_out { (command : Command) (line : ℕ) → words.now ≡ words_of command → result.status ≡ Status.Text line
         → IsReadOut (limit_of command) (R.left source.old) (R.left source.new) }
-    ensures finished { HasWritten result → W.finished sink.new }
-    ensures untouched { IsQuiet result → sink.new ≡ sink.old }
+    ensures finished { HasWritten result.status → W.finished sink.new }
+    ensures untouched { IsQuiet result.status → sink.new ≡ sink.old }
 
     // Words that are no command, and then nothing is read.
-    ensures words { (result ≡ Status.Words) ↔ NamesNone words.now }
-    ensures unread { result ≡ Status.Words → source.new ≡ source.old }
+    ensures words { (result.status ≡ Status.Words) ↔ NamesNone words.now }
+    ensures unread { result.status ≡ Status.Words → source.new ≡ source.old }
 
     // The causes of faults.
-    ensures read_fault { result ≡ Status.ReadFault → Rose (R.faults source.old) (R.faults source.new) }
-    ensures write_fault { result ≡ Status.WriteFault → Rose (W.faults sink.old) (W.faults sink.new) }
+    ensures read_fault { result.status ≡ Status.ReadFault → Rose (R.faults source.old) (R.faults source.new) }
+    ensures write_fault { result.status ≡ Status.WriteFault → Rose (W.faults sink.old) (W.faults sink.new) }
 
     // Without a fault the bytes decide, unless memory runs out.
     ensures whole { (command : Command) → words.now ≡ words_of command
         → (Rose (R.faults source.old) (R.faults source.new) → ⊥) → (Rose (W.faults sink.old) (W.faults sink.new) → ⊥)
-        → IfSome (R.left source.old) (λ bytes. IsWhole command bytes result) }
+        → IfSome (R.left source.old) (λ bytes. IsWhole command bytes result.status) }
 
-    // A journal that is written is legal, and can be read again, as no other.
-    ensures writable { (command : Command) → words.now ≡ words_of command → WritesJournal command result
-        → IfSome (R.left source.old) (λ bytes. (script : Script) → IsScriptText bytes script → IsWritten script) }
+    // A journal of a play on one thread that is written is legal, and can be read again, as no other.
+    ensures writable { (command : Command) → words.now ≡ words_of command → WritesJournal command result.status
+        → IfSome (R.left source.old) (λ bytes. (script : Script) → IsScriptText mode.Serial bytes script → IsWritten script) }
+
+    // Clocks come back from a run of threads that was played, and only such a run asks the spawner. Its fates stay.
+    ensures clocks { ((command : Command) → words.now ≡ words_of command → HandsClocks command result.status → ⊥) → result.clocks ≡ [] }
+    ensures unasked { ((command : Command) → words.now ≡ words_of command → Starts command → ⊥) → spawner.new ≡ spawner.old }
+    ensures fates { S.fate spawner.new ≡ S.fate spawner.old }
 {
     match command_of(words) {
-        Some(command) => run_command(alloc, command, source, sink),
-        None => Status::Words,
+        Some(command) => run_command(rt, alloc, command, source, sink, clocks, spawner, bell),
+        None => without_clocks(alloc, Status::Words),
     }
 }

@@ -34,13 +34,17 @@ fn read_status(error: ReadError) -> Status
     }
 }
 
-/// The script that all bytes of the source spell.
-pub fn read_script<R: Source>(alloc: Global, source: &mut R) -> Result<Script, Status>
-    ensures spelled { IfOk result IsSpelled }
-    ensures found { IfOk result (λ script. IfSome (R.left source.old) (λ bytes. IsScriptText bytes script)) }
+/// The script of this grammar that all bytes of the source spell.
+pub fn read_script<R: Source>(
+    alloc: Global,
+    grammar: Mode,
+    source: &mut R,
+) -> Result<Script, Status>
+    ensures spelled { IfOk result (IsSpelled grammar) }
+    ensures found { IfOk result (λ script. IfSome (R.left source.old) (λ bytes. IsScriptText grammar bytes script)) }
     ensures end { OnOk result (IsAtEnd (R.left source.new)) }
-    ensures only { IfSome (R.left source.old) (λ bytes. (script : Script) → IsScriptText bytes script → IsReadAs script result) }
-    ensures line { (n : ℕ) → result ≡ Err (Status.Text n) → IfSome (R.left source.old) (λ bytes. IsFirstBad SpellsScript 16_777_216 bytes n) }
+    ensures only { IfSome (R.left source.old) (λ bytes. (script : Script) → IsScriptText grammar bytes script → IsReadAs script result) }
+    ensures line { (n : ℕ) → result ≡ Err (Status.Text n) → IfSome (R.left source.old) (λ bytes. IsFirstBad (SpellsScript grammar) 16_777_216 bytes n) }
     ensures read_out { (n : ℕ) → result ≡ Err (Status.Text n) → IsReadOut 16_777_216 (R.left source.old) (R.left source.new) }
     ensures causes { IfErr result IsUnread }
     ensures fault { result ≡ Err Status.ReadFault → Rose (R.faults source.old) (R.faults source.new) }
@@ -49,7 +53,7 @@ pub fn read_script<R: Source>(alloc: Global, source: &mut R) -> Result<Script, S
         Ok(input) => input,
         Err(error) => return Err(read_status(error)),
     };
-    match read_first(alloc, bytes.as_slice(), whole, Mode::Serial) {
+    match read_first(alloc, bytes.as_slice(), whole, grammar) {
         Ok(script) => Ok(script),
         Err(fault) => Err(status_of(fault)),
     }

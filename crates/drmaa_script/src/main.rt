@@ -3,20 +3,30 @@
 #![tactic(auto)]
 
 use byte_streams::{StdSink, StdSource};
+use call_history::Bell;
+use child_spawner::LocalSpawner;
 use drmaa_types::{Text, TextList};
 use std::alloc::{AllocError, Global};
 use std::process::ExitCode;
+use std::sync::Wait;
+use std::thread::Threads;
+use std::time::Clock as Pause;
 use std::{env, io};
 
 mod checks;
+mod clocks;
 mod commands;
 mod inputs;
+mod outcomes;
 mod plays;
 mod status;
 #[cfg(test)]
 mod tests;
+mod threads;
 
+pub use clocks::{SystemClock, SystemClocks};
 pub use commands::{Command, run};
+pub use outcomes::Outcome;
 pub use status::Status;
 
 /// The words behind the program's name.
@@ -37,13 +47,32 @@ fn word_status(error: &io::Error) -> Status {
     }
 }
 
+/// Runs the command that the words name on standard input and standard output, with the processes and the clock of this machine.
+fn status_of<E: Threads + Wait + Pause + Sync>(
+    threads: &E,
+    rt: HostRuntime,
+    words: &TextList,
+) -> Result<Status, AllocError> {
+    let folder = Text::from_string(String::from_str(rt.alloc(), ".")?);
+    let mut source = StdSource::new(rt.stdin());
+    let mut sink = StdSink::new(rt.stdout());
+    let mut spawner = LocalSpawner::new(rt, folder);
+    let Outcome { status, .. } = run(
+        threads,
+        rt.alloc(),
+        words,
+        &mut source,
+        &mut sink,
+        &SystemClocks::new(rt),
+        &mut spawner,
+        &Bell::new(),
+    );
+    Ok(status)
+}
+
 fn main(rt: HostRuntime) -> ExitCode {
     let status = match words(&rt) {
-        Ok(words) => {
-            let mut source = StdSource::new(rt.stdin());
-            let mut sink = StdSink::new(rt.stdout());
-            run(rt.alloc(), &words, &mut source, &mut sink)
-        }
+        Ok(words) => status_of(&rt, rt, &words).unwrap_or(Status::Memory),
         Err(error) => word_status(&error),
     };
     if !matches!(status, Status::Done) {

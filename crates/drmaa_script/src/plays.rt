@@ -6,6 +6,7 @@ ghost use Rattle.drmaa_model.specs.History.{now_of};
 ghost use Rattle.drmaa_model.specs.Infos.{infos};
 ghost use Rattle.monitor_session.specs.Listings.{listing_text};
 ghost use Rattle.script_asks.specs.Plays.{serial_play};
+ghost use Rattle.script_text.specs.declared.scripts.Mode.TheVariants as mode;
 ghost use Rattle.script_text.specs.declared.scripts.Script.{Script};
 ghost use Rattle.drmaa_script.specs.Outcomes.{IsSpelled, IsScriptText, IsReadOut, IsWritten, HasJournal, WritesPlay, PlayEnds, PlayIsWhole, PlayedEnds, own_of, journal_of, play_text};
 ghost use Rattle.drmaa_script.specs.Statuses.{IsQuiet, HasRead, HasWritten, ended_as};
@@ -19,7 +20,7 @@ use journal_text::journal_bytes;
 use monitor_session::listing;
 use script_journals::a_play_is_printable;
 use script_play::{Played, each_script_can_be_played, play};
-use script_text::Script;
+use script_text::{Mode, Script};
 use std::alloc::{AllocError, Global};
 
 /// What is written of a play that was whole.
@@ -39,7 +40,7 @@ struct PlayText {
 
 /// The journal of a script's play. It is writable and legal.
 fn journal_of(alloc: Global, script: &Script, machine: &Machine) -> Result<Bytes, AllocError>
-    requires spelled { IsSpelled script.now }
+    requires spelled { IsSpelled mode.Serial script.now }
     requires played { machine.now.ledger ≡ record { config = script.now.config; history = (serial_play script.now).entries } }
     ensures text { IfOk result (λ bytes. bytes ≡ journal_of script.now) }
     ensures writable { OnOk result (IsWritten script.now) }
@@ -68,7 +69,7 @@ fn own_text(
     script: &Script,
     machine: &Machine,
 ) -> Result<Bytes, AllocError>
-    requires spelled { IsSpelled script.now }
+    requires spelled { IsSpelled mode.Serial script.now }
     requires played { machine.now.ledger ≡ record { config = script.now.config; history = (serial_play script.now).entries } }
     requires world { now_of machine.now.ledger ≡ (serial_play script.now).world }
     ensures text { IfOk result (λ bytes. bytes ≡ own_of output script.now) }
@@ -88,7 +89,7 @@ fn text_of(
     machine: &Machine,
     full: Option<u64>,
 ) -> Result<Bytes, AllocError>
-    requires spelled { IsSpelled script.now }
+    requires spelled { IsSpelled mode.Serial script.now }
     requires played { machine.now.ledger ≡ record { config = script.now.config; history = (serial_play script.now).entries } }
     requires world { now_of machine.now.ledger ≡ (serial_play script.now).world }
     requires full { full ≡ (serial_play script.now).full }
@@ -103,7 +104,7 @@ fn text_of(
 
 /// Plays a script, and gives what is written of the play.
 fn played_text(alloc: Global, output: Output, script: &Script) -> Result<PlayText, AllocError>
-    requires { IsSpelled script.now }
+    requires { IsSpelled mode.Serial script.now }
     ensures text { IfOk result (λ text. text.bytes ≡ play_text (own_of output) script.now) }
     ensures full { IfOk result (λ text. text.full ≡ (serial_play script.now).full) }
     ensures writable { HasJournal output (serial_play script.now).full → OnOk result (IsWritten script.now) }
@@ -115,7 +116,7 @@ fn played_text(alloc: Global, output: Output, script: &Script) -> Result<PlayTex
 }
 
 /// How a play ends whose text was written.
-fn ended_as(full: Option<u64>) -> Status
+pub(crate) fn ended_as(full: Option<u64>) -> Status
     ensures { result ≡ ended_as full }
 {
     match full {
@@ -126,7 +127,7 @@ fn ended_as(full: Option<u64>) -> Status
 
 /// Plays a script, and writes what is written of it.
 fn write_play<W: Sink>(alloc: Global, output: Output, script: &Script, sink: &mut W) -> Status
-    requires { IsSpelled script.now }
+    requires { IsSpelled mode.Serial script.now }
     ensures ends { PlayedEnds (own_of output) script.now result (W.written sink.old) (W.written sink.new) }
     ensures finished { HasWritten result → W.finished sink.new }
     ensures fault { result ≡ Status.WriteFault → Rose (W.faults sink.old) (W.faults sink.new) }
@@ -161,9 +162,9 @@ pub fn run_play<R: Source, W: Sink>(
     ensures untouched { IsQuiet result → sink.new ≡ sink.old }
     ensures whole { (Rose (R.faults source.old) (R.faults source.new) → ⊥) → (Rose (W.faults sink.old) (W.faults sink.new) → ⊥)
         → IfSome (R.left source.old) (λ bytes. PlayIsWhole bytes result) }
-    ensures writable { WritesPlay output result → IfSome (R.left source.old) (λ bytes. (script : Script) → IsScriptText bytes script → IsWritten script) }
+    ensures writable { WritesPlay output result → IfSome (R.left source.old) (λ bytes. (script : Script) → IsScriptText mode.Serial bytes script → IsWritten script) }
 {
-    match read_script(alloc, source) {
+    match read_script(alloc, Mode::Serial, source) {
         Ok(script) => write_play(alloc, output, &script, sink),
         Err(status) => status,
     }

@@ -1,11 +1,19 @@
 //! Runs on sources and sinks in memory whose calls fail one after the other, and what a status carries.
 use crate::commands::run;
+use crate::outcomes::Outcome;
 use crate::status::Status;
 use byte_streams::{MemorySink, MemorySource};
+use call_history::Bell;
+use child_spawner::{FateList, MemorySpawner};
 use drmaa_model::Reply;
-use drmaa_types::{Bytes, JobState, PlaceList, Refusal, Text, TextList};
+use drmaa_types::{
+    Bytes, CallerId, Clocks, JobState, Moment, PlaceList, Refusal, StepClock, Text, TextList,
+};
 use std::alloc::Global;
+use std::sync::Wait;
 use std::test::Fail;
+use std::thread::Threads;
+use std::time::Clock as Pause;
 
 const SCRIPT: &str =
     "machine 4 \"node1\" suspend\ntemplate t\ncommand \"true\"\nend\nclient\ncreate-jobs s \"s\"\nrun j s t\nlaunch\nexit j 0\nstate s j\nend\n";
@@ -15,9 +23,16 @@ const JOURNAL: &str =
 
 const TABLE: &str = "       job state         slots name\n         1 DONE              1 -\n";
 
+const THREADS_SCRIPT: &str =
+    "machine 4 \"node1\" suspend\nsetup\ncreate-jobs s \"s\"\nend\nclient\nnames-jobs\nend\n";
+
+const THREADS_JOURNAL: &str =
+    "drmaa-journal 1 4 \"node1\" suspend\n1 0 @0 create-jobs \"s\" = session 1\n2 1 @0 names-jobs = names [\"s\"]\nend 2\n";
+
 /// Each command, what it reads, and what it writes.
-const COMMANDS: [(&str, &str, &str); 3] = [
+const COMMANDS: [(&str, &str, &str); 4] = [
     ("serial", SCRIPT, JOURNAL),
+    ("threads", THREADS_SCRIPT, THREADS_JOURNAL),
     ("table", SCRIPT, TABLE),
     ("check", JOURNAL, "legal 5\n"),
 ];
@@ -48,15 +63,50 @@ fn sink(alloc: Global, room: usize, failing: &[u64]) -> Result<MemorySink, Fail>
     Ok(MemorySink::new(alloc, room, places(alloc, failing)?, false)?)
 }
 
+/// Clocks that stand at 0.
+struct StillClocks {}
+
+impl Clocks for StillClocks {
+    type One = StepClock;
+
+    fn clock(&self, caller: CallerId) -> StepClock {
+        StepClock::new(Moment::new(0).unwrap_or(Moment::greatest()), 0)
+    }
+}
+
+/// What a run of these words leaves.
+fn outcome<E: Threads + Wait + Pause + Sync>(
+    rt: &E,
+    alloc: Global,
+    line: &str,
+    source: &mut MemorySource,
+    sink: &mut MemorySink,
+    spawner: &mut MemorySpawner,
+) -> Result<Outcome<StepClock>, Fail> {
+    let words = words(alloc, line)?;
+    Ok(run(
+        rt,
+        alloc,
+        &words,
+        source,
+        sink,
+        &StillClocks {},
+        spawner,
+        &Bell::new(),
+    ))
+}
+
 /// The number of the status with which a run of these words ends.
-fn number(
+fn number<E: Threads + Wait + Pause + Sync>(
+    rt: &E,
     alloc: Global,
     line: &str,
     source: &mut MemorySource,
     sink: &mut MemorySink,
 ) -> Result<u8, Fail> {
-    let words = words(alloc, line)?;
-    Ok(run(alloc, &words, source, sink).number())
+    let mut spawner = MemorySpawner::new(alloc, FateList::new(alloc), PlaceList::new(alloc));
+    let Outcome { status, .. } = outcome(rt, alloc, line, source, sink, &mut spawner)?;
+    Ok(status.number())
 }
 
 /// How many calls move so many bytes, of which each moves at most 64.
@@ -79,7 +129,7 @@ fn each_read_may_fail(rt: HostRuntime) -> Result<(), Fail> {
                 (0, *written)
             };
             assert!(rt;
-                number(alloc, word, &mut source, &mut sink)? == status,
+                number(&rt, alloc, word, &mut source, &mut sink)? == status,
                 "{word} {failing}"
             );
             assert!(rt; sink.bytes() == wanted.as_bytes(), "{word} {failing}");
@@ -107,7 +157,7 @@ fn each_write_may_fail(rt: HostRuntime) -> Result<(), Fail> {
                 (0, written.len())
             };
             assert!(rt;
-                number(alloc, word, &mut source, &mut sink)? == status,
+                number(&rt, alloc, word, &mut source, &mut sink)? == status,
                 "{word} {failing}"
             );
             assert!(rt; is_front(sink.bytes(), written, count), "{word} {failing}");
@@ -129,7 +179,7 @@ fn the_last_bytes_may_find_no_room_and_finishing_may_fail(rt: HostRuntime) -> Re
             let mut source = source(alloc, text, &[])?;
             let mut sink = MemorySink::new(alloc, room, places(alloc, &[])?, finish_fails)?;
             assert!(rt;
-                number(alloc, word, &mut source, &mut sink)? == status,
+                number(&rt, alloc, word, &mut source, &mut sink)? == status,
                 "{word} {room}"
             );
             assert!(rt; is_front(sink.bytes(), written, room), "{word} {room}");
@@ -140,19 +190,23 @@ fn the_last_bytes_may_find_no_room_and_finishing_may_fail(rt: HostRuntime) -> Re
 
 /// Words, a text, the reads that fail, and the number of the status; each write would fail. A cause that comes first hides
 /// those behind it: the words, reading, the text, what is wrong with the journal, writing.
-const ORDER: [(&str, &str, &[u64], u8); 12] = [
+const ORDER: [(&str, &str, &[u64], u8); 16] = [
     ("", SCRIPT, &[1], 2),
     ("serial x", SCRIPT, &[1], 2),
     ("Serial", SCRIPT, &[1], 2),
+    ("threads x", SCRIPT, &[1], 2),
     ("-serial", SCRIPT, &[1], 2),
     ("--help", SCRIPT, &[1], 2),
     ("serial", JOURNAL, &[5], 3),
     ("table", JOURNAL, &[5], 3),
+    ("threads", JOURNAL, &[5], 3),
     ("check", SCRIPT, &[3], 3),
     ("serial", JOURNAL, &[], 1),
     ("table", JOURNAL, &[], 1),
+    ("threads", SCRIPT, &[], 1),
     ("check", SCRIPT, &[], 1),
     ("serial", SCRIPT, &[], 4),
+    ("threads", THREADS_SCRIPT, &[], 4),
 ];
 
 #[test]
@@ -162,7 +216,7 @@ fn causes_come_in_their_order(rt: HostRuntime) -> Result<(), Fail> {
         let mut source = source(alloc, text, failing)?;
         let mut sink = sink(alloc, 1000, &[1, 2, 3, 4, 5])?;
         assert!(rt;
-            number(alloc, line, &mut source, &mut sink)? == *status,
+            number(&rt, alloc, line, &mut source, &mut sink)? == *status,
             "{line} {status}"
         );
         assert!(rt; sink.bytes().is_empty(), "{line} {status}");
@@ -256,14 +310,73 @@ fn a_fault_has_the_reply_given_and_the_machine_s(rt: HostRuntime) -> Result<(), 
     let alloc = rt.alloc();
     for (entries, entry, given, machine) in &FORGED {
         let journal = format!(in alloc; "{FRONT}{entries}")?;
-        let words = words(alloc, "check")?;
         let mut source = source(alloc, journal.as_str(), &[])?;
         let mut sink = sink(alloc, 1000, &[1])?;
-        let status = run(alloc, &words, &mut source, &mut sink);
+        let mut spawner = MemorySpawner::new(alloc, FateList::new(alloc), PlaceList::new(alloc));
+        let Outcome { status, .. } = outcome(
+            &rt,
+            alloc,
+            "check",
+            &mut source,
+            &mut sink,
+            &mut spawner,
+        )?;
         assert!(rt;
             fault_of(&status) == Some((*entry, *given, *machine)),
             "{entries}"
         );
     }
     Ok(())
+}
+
+/// Two clients of a session that setup has made: each runs a job, waits for its end, asks for its information and reaps it.
+const NIGHTLY: &str =
+    "machine 4 \"node1\" suspend\ntemplate t\ncommand \"sh\"\narg \"-c\"\narg \"exit 0\"\ndirectory \"/tmp\"\noutput \"out.txt\"\nenv \"A\" \"b\"\nminslots 1\nlimit WALLCLOCK_TIME 3600\nend\nsetup\ncreate-jobs z \"nightly\"\nend\nclient\nopen-jobs s \"nightly\"\nrun j s t\nwait-terminated s infinite j\ninfo s j\nreap s j\nend\nclient\nopen-jobs s \"nightly\"\nrun j s t\nwait-terminated s infinite j\ninfo s j\nreap s j\nend\n";
+
+/// How often the bytes have this text.
+fn times(bytes: &[u8], text: &str) -> usize {
+    bytes
+        .windows(text.len().max(1))
+        .filter(|part| *part == text.as_bytes())
+        .count()
+}
+
+#[test]
+fn clients_in_threads_leave_a_legal_journal(rt: HostRuntime) -> Result<(), Fail> {
+    let alloc = rt.alloc();
+    let mut source = source(alloc, NIGHTLY, &[])?;
+    let mut sink = sink(alloc, 8000, &[])?;
+    let mut spawner = MemorySpawner::new(alloc, FateList::new(alloc), places(alloc, &[2])?);
+    let Outcome { status, clocks } = outcome(
+        &rt,
+        alloc,
+        "threads",
+        &mut source,
+        &mut sink,
+        &mut spawner,
+    )?;
+    assert_eq!(rt; status.number(), 0);
+    assert_eq!(rt; clocks.as_slice().len(), 5);
+    assert_eq!(rt; spawner.asked().len(), 2);
+    assert_eq!(rt; times(sink.bytes(), "= info {"), 2);
+    assert_eq!(rt; times(sink.bytes(), " state DONE "), 1);
+    assert_eq!(rt; times(sink.bytes(), "note startFailed"), 1);
+    is_legal(&rt, alloc, sink.bytes())
+}
+
+/// Checks a journal.
+fn is_legal<E: Threads + Wait + Pause + Sync>(
+    rt: &E,
+    alloc: Global,
+    journal: &[u8],
+) -> Result<(), Fail> {
+    let bytes = Bytes::from_vec(Vec::from_slice(alloc, journal)?);
+    let mut source = MemorySource::new(bytes, places(alloc, &[])?);
+    let mut sink = sink(alloc, 1000, &[])?;
+    let number = number(rt, alloc, "check", &mut source, &mut sink)?;
+    if number == 0 {
+        Ok(())
+    } else {
+        Err(Fail::new("the journal is not legal"))
+    }
 }

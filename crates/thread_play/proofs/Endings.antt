@@ -59,7 +59,7 @@ module _ {C T : Type 0} (given : C → Option (List ℕ)) (least : C → ℕ) (t
   ended-before p asked fate at hand before placed stopped = record {
     launcher = post-itself (launcher_at given least shared p) placed.launcher;
     reaping = post-itself (reaping_at given least shared p) placed.reaping;
-    attending = record { tends = λ t. t; keeps = λ k. k; agrees = λ clean k a. a };
+    attending = record { fates = refl; tends = λ t. t; keeps = λ k. k; agrees = λ clean k a. a };
     whole = λ none. absurd (stopped none);
     full = λ size t is. inl is;
   }
@@ -101,7 +101,7 @@ module _ {C T : Type 0} (given : C → Option (List ℕ)) (least : C → ℕ) (t
   ended-after p q asked asked2 fate fate2 at at2 hand hand2 before after r end a settled same none is = record {
     launcher = a.launcher;
     reaping = a.reaping;
-    attending = record { tends = a.attending.tends; keeps = a.attending.keeps; agrees = λ clean. a.attending.agrees (whole-ok r end same (sym is ∙ clean)) };
+    attending = record { fates = a.attending.fates; tends = a.attending.tends; keeps = a.attending.keeps; agrees = λ clean. a.attending.agrees (whole-ok r end same (sym is ∙ clean)) };
     whole = λ clean. (none, settled (whole-ok r end same (sym is ∙ clean)));
     full = λ size t full. inr (none, full-held p q r end size same (sym is ∙ full) (a.held_up t));
   }

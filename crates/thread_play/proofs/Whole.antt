@@ -54,7 +54,7 @@ use Rattle.thread_play.specs.declared.firsts.First.{First}
 use Rattle.thread_play.specs.declared.workers.Worker.{Worker}
 use Rattle.thread_play.specs.Stages.{StopsAt, PlaysOn, IsFirst}
 use Rattle.thread_play.specs.Others.{IsBack, IsEnded, IsFullAtEnd, by_attendant, by_client, EndsWhole, Ends, Others}
-use Rattle.thread_play.specs.Runs.{IsForThreads, launcher_of, reaper_of, names_given, IsRun, PlaysAll, IsSettledAt, IsAtRest, IsCutShort, PlaysUpTo, MeetsSize, IsMet, by_block, by_launch, by_order, by_answer, IsStopped, in_setup, behind_setup, IsWhole, EndsBy, HasRun}
+use Rattle.thread_play.specs.Runs.{IsForThreads, launcher_of, reaper_of, names_given, IsRun, PlaysAll, IsSettledAt, IsCutShort, PlaysUpTo, MeetsSize, IsMet, by_block, by_launch, by_order, by_answer, IsStopped, in_setup, behind_setup, IsWhole, EndsBy, HasRun}
 use Rattle.thread_play.proofs.Lists.{at-between, at-front, length-mapped, map-at, some-item}
 use Rattle.thread_play.proofs.Beginnings.{calls-append, calls-begin, begins-shorter, none-before, alone, nothing-after}
 use Rattle.thread_play.proofs.Clients.{Lists, own_lists}
@@ -80,17 +80,19 @@ fits-all s history laws legal front back is = laws.consistent front (laws.prefix
 
 -- ---- a run that was stopped within setup
 
-cut-first : (s : Script) (names : List (List ℕ × Given)) (block : List Line) (own seen history : List Entry) (size : ℕ) (config : Config) → config ≡ s.config → BeginsWith history seen
-    → StopsAt config s names block own seen size → IsCutShort s names block own history size
-cut-first s names block own seen history size config is begins c = record {
+cut-first : (s : Script) (names : List (List ℕ × Given)) (block : List Line) (caller : ℕ) (own seen history : List Entry) (size : ℕ) (config : Config) → config ≡ s.config → BeginsWith history seen
+    → calls_of seen caller ≡ own → calls_of history caller ≡ own → StopsAt config s names block own seen size → IsCutShort s names block caller history size
+cut-first s names block caller own seen history size config is begins in_seen in_all c = record {
   front = c.front;
   line = c.line;
   back = c.back;
   lines = c.lines;
-  played = c.played;
+  played = subst (λ (es : List Entry). Plays s names 0 c.front es) (sym in_all) c.played;
   seen = seen;
   begins = begins;
-  full = subst (λ (f : Config). IsFullFor f s (names_by s names c.front own) c.line seen size) is c.full;
+  own = in_seen ∙ sym in_all;
+  full = subst (λ (f : Config). IsFullFor f s (names_by s names c.front (calls_of history caller)) c.line seen size) is
+      (subst (λ (es : List Entry). IsFullFor config s (names_by s names c.front es) c.line seen size) (sym in_all) c.full);
 }
 
 each-none : (P : _) (es : List Entry) → es ≡ [] → Each P (acts_of es)
@@ -111,9 +113,9 @@ module _ {C : Type 0} (given : C → Option (List ℕ)) (s : Script) (shared : N
   timed-first zero c at = let same : f.clock ≡ c = cc in subst (λ (x : C). IsTimed (calls_of history 0) (given x)) same (subst (λ (es : List Entry). IsTimed es (given f.clock)) (sym first-own) first.timed)
   timed-first (suc k) c at = absurd (cc)
 
-  pub stopped-first : (asked asked2 : Option (List Asked)) (fate : ℕ → Fate) (size : ℕ) (clocks : List C) → f.played ≡ Err (stopped.Full size) → clocks ≡ f.clock ∷ []
-      → HasRun given s history asked asked2 fate clocks (Some size)
-  stopped-first asked asked2 fate size clocks is are =
+  pub stopped-first : (asked : Option (List Asked)) (fate : ℕ → Fate) (size : ℕ) (clocks : List C) → f.played ≡ Err (stopped.Full size) → clocks ≡ f.clock ∷ []
+      → HasRun given s history asked asked fate clocks (Some size)
+  stopped-first asked fate size clocks is are =
       let legal = subst (λ (c : Config). IsLegal c history) config_is closed.legal in
       let none : (k : ℕ) → 1 ≤ k → calls_of history k ≡ [] = first-others in
       let stops : StopsAt shared.fixed s [] (lines_of s.setup) first.own first.own size = subst (λ (r : _). PlaysOn shared.fixed s [] (lines_of s.setup) first.own first.own r) is first.played in
@@ -128,8 +130,8 @@ module _ {C : Type 0} (given : C → Option (List ℕ)) (s : Script) (shared : N
           strangers = λ k above. none k (omega arith);
         };
         timed = λ k c at. timed-first k c (subst (λ (l : List C). slice_get l k ≡ Some c) are at);
-        ends = in_setup (subst (λ (es : List Entry). IsCutShort s [] (lines_of s.setup) es history size) (sym first-own) (cut-first s [] (lines_of s.setup) first.own first.own history size shared.fixed config_is first-begins stops))
-            (λ k above. none k (omega arith)) (ap length are);
+        ends = in_setup (cut-first s [] (lines_of s.setup) 0 first.own first.own history size shared.fixed config_is first-begins first.alone first-own stops)
+            (λ k above. none k (omega arith)) refl (ap length are);
       }
 
 -- ---- a run behind setup
@@ -139,9 +141,13 @@ last-of config history before at None reads now = tt
 last-of config history None at (Some readings) reads now = absurd reads
 last-of config history (Some earlier) at (Some readings) reads now = record { earlier = earlier; last = at; are = reads; settled_is = now }
 
+record AtRest (config : Config) (history : List Entry) (given : Option (List ℕ)) : Type 0 where
+  quiet : IsQuiet (replay config history).plan
+  last : IfSome given (IsSettledAt config history)
+
 -- a settled look, as a machine at rest
 at-rest : (s : Script) (config : Config) (history : List Entry) (launcher : Post) → Laws s → config ≡ s.config → IsLegal s.config history → history ≡ seen_of launcher.client → EndsSettled config launcher
-    → IsAtRest s.config history launcher.clock.given
+    → AtRest s.config history launcher.clock.given
 at-rest s config history launcher laws config_is legal same e =
     let l = e.look in
     let told : answer.Settled true ≡ answer.Settled (settled (advance (replay config (seen_of launcher.client)) l.at).plan) = l.told in
@@ -189,11 +195,12 @@ left-own [] rest = refl
 left-own (w ∷ ws) rest = left-own ws rest
 
 -- how the play of a client's block stands in the whole history
-up-to : {A : Type 0} (s : Script) (shared : Named Config) (names : List (List ℕ × Given)) (block : List Line) (client : Seat) (history : List Entry) → shared.fixed ≡ s.config → BeginsWith history (seen_of client)
-    → (r : Result A Stopped) → r ≢ Err stopped.Memory → PlaysOn shared.fixed s names block (mine_of client) (seen_of client) r → PlaysUpTo s names block (mine_of client) history
-up-to s shared names block client history config_is begins (Ok a) not p = inl p
-up-to s shared names block client history config_is begins (Err stopped.Memory) not p = absurd (not refl)
-up-to s shared names block client history config_is begins (Err (stopped.Full size)) not p = inr (size, cut-first s names block (mine_of client) (seen_of client) history size shared.fixed config_is begins p)
+up-to : {A : Type 0} (s : Script) (shared : Named Config) (names : List (List ℕ × Given)) (block : List Line) (client : Seat) (caller : ℕ) (history : List Entry) → shared.fixed ≡ s.config → BeginsWith history (seen_of client)
+    → calls_of (seen_of client) caller ≡ mine_of client → calls_of history caller ≡ mine_of client
+    → (r : Result A Stopped) → r ≢ Err stopped.Memory → PlaysOn shared.fixed s names block (mine_of client) (seen_of client) r → PlaysUpTo s names block caller history
+up-to s shared names block client caller history config_is begins in_seen in_all (Ok a) not p = inl (subst (λ (es : List Entry). Plays s names 0 block es) (sym in_all) p)
+up-to s shared names block client caller history config_is begins in_seen in_all (Err stopped.Memory) not p = absurd (not refl)
+up-to s shared names block client caller history config_is begins in_seen in_all (Err (stopped.Full size)) not p = inr (size, cut-first s names block caller (mine_of client) (seen_of client) history size shared.fixed config_is begins in_seen in_all p)
 
 module _ {C T : Type 0} (given : C → Option (List ℕ)) (told : T → Option Told) (s : Script) (names : List (List ℕ × Given)) (shared : Named Config) (o p : Seat) (f : First C)
     (first : IsFirst given s shared o f) (names_are : names ≡ setup_names s first.own) (played : Plays s [] 0 (lines_of s.setup) first.own)
@@ -354,14 +361,16 @@ module _ {C T : Type 0} (given : C → Option (List ℕ)) (told : T → Option T
     client-within : (i : ℕ) (block : List Line) → slice_get s.clients i ≡ Some block → i < length x.ws
     client-within i block at = let h = slice_get_within s.clients i block at in let n = x.count in omega arith
 
-    up-to-all : (i : ℕ) (block : List Line) → slice_get s.clients i ≡ Some block → PlaysUpTo s (names_given s history) block (calls_of history (i + 1)) history
+    own-seen : (i : ℕ) (d : Worker C) → i < length x.ws → calls_of (seen_of (slice_index_or x.ws i d).client) (i + 1) ≡ mine_of (slice_index_or x.ws i d).client
+    own-seen i d below = let b = (x.clients i d below).back in sym (b.own ∙ ap (λ (k : ℕ). calls_of (seen_of (slice_index_or x.ws i d).client) k) b.number_is)
+
+    up-to-all : (i : ℕ) (block : List Line) → slice_get s.clients i ≡ Some block → PlaysUpTo s (names_given s history) block (i + 1) history
     up-to-all i block at =
         let below = client-within i block at in
         let d = some-item x.ws i below in
         let e = x.clients i d below in
-        subst (λ (ns : List (List ℕ × Given)). PlaysUpTo s ns block (calls_of history (i + 1)) history) names-given
-        (subst (λ (es : List Entry). PlaysUpTo s names block es history) (sym (of-client i d below))
-        (up-to s shared names block (slice_index_or x.ws i d).client history config_is (client-known i d below) (slice_index_or x.ws i d).ended e.sufficed (e.played block at)))
+        subst (λ (ns : List (List ℕ × Given)). PlaysUpTo s ns block (i + 1) history) names-given
+        (up-to s shared names block (slice_index_or x.ws i d).client (i + 1) history config_is (client-known i d below) (own-seen i d below) (of-client i d below) (slice_index_or x.ws i d).ended e.sufficed (e.played block at))
 
     whole-client : ((i : ℕ) (d : Worker C) → i < length x.ws → (slice_index_or x.ws i d).ended ≡ Ok tt) → (i : ℕ) (block : List Line) → slice_get s.clients i ≡ Some block
         → Plays s (names_given s history) 0 block (calls_of history (i + 1))
@@ -410,9 +419,8 @@ module _ {C T : Type 0} (given : C → Option (List ℕ)) (told : T → Option T
         let at = slice_get-get_or s.clients i [] (let c = x.count in let h = below in omega arith) in
         let stops : StopsAt shared.fixed s names block (mine_of w.client) (seen_of w.client) size =
         subst (λ (r : Result (Unit {0}) Stopped). PlaysOn shared.fixed s names block (mine_of w.client) (seen_of w.client) r) is ((x.clients i d below).played block at) in
-        by_block i block at (subst (λ (ns : List (List ℕ × Given)). IsCutShort s ns block (calls_of history (i + 1)) history size) names-given
-        (subst (λ (es : List Entry). IsCutShort s names block es history size) (sym (of-client i d below))
-        (cut-first s names block (mine_of w.client) (seen_of w.client) history size shared.fixed config_is (client-known i d below) stops)))
+        by_block i block at (subst (λ (ns : List (List ℕ × Given)). IsCutShort s ns block (i + 1) history size) names-given
+        (cut-first s names block (i + 1) (mine_of w.client) (seen_of w.client) history size shared.fixed config_is (client-known i d below) (own-seen i d below) (of-client i d below) stops))
 
     met-by : (size : ℕ) → IsFullAtEnd shared (length s.clients + 2) p x.ws size → IsMet s history size
     met-by size (by_attendant l0 l1 r0 r1 at_l at_r own number held bl br) =
@@ -430,7 +438,8 @@ module _ {C T : Type 0} (given : C → Option (List ℕ)) (told : T → Option T
         record {
           plays = all;
           callers = callers-are;
-          rest = λ c at. subst (λ (y : C). IsAtRest s.config history (given y)) (launcher-place c at) (subst (λ (g : Option (List ℕ)). IsAtRest s.config history g) (sym x.launcher_given) rest);
+          quiet = rest.quiet;
+          rest = λ c at. subst (λ (y : C). IfSome (given y) (IsSettledAt s.config history)) (launcher-place c at) (subst (λ (g : Option (List ℕ)). IfSome g (IsSettledAt s.config history)) (sym x.launcher_given) rest.last);
           outside = λ none. agreed law (alone-all all) asked2 (x.keeps none) (x.agrees is none);
         }
     ends-of law (Some size) is e = behind_setup setup-played up-to-all (met-by size e) callers-are

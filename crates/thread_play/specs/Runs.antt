@@ -80,28 +80,24 @@ pub record IsSettledAt (config : Config) (history : List Entry) (readings : List
   pub are : readings ≡ earlier ++ last ∷ []
   pub settled_is : settled (advance (replay config history) last).plan ≡ true
 
--- No job holds slots and no order stands, and the machine is settled at the last reading of a clock, where it tells them.
-pub record IsAtRest (config : Config) (history : List Entry) (given : Option (List ℕ)) : Type 0 where
-  pub quiet : IsQuiet (replay config history).plan
-  pub last : IfSome given (IsSettledAt config history)
-
 -- ---- a run that was stopped by the journal's size
 
--- A block was played up to a line: what this one asks made no entry, since after some beginning of the history the journal would
--- have had this size.
-pub record IsCutShort (s : Script) (names : List (List ℕ × Given)) (block : List Line) (own history : List Entry) (size : ℕ) : Type 0 where
+-- A client's block was played up to a line: what this one asks made no entry, since after some beginning of the history, which has all
+-- of the client's entries, the journal would have had this size.
+pub record IsCutShort (s : Script) (names : List (List ℕ × Given)) (block : List Line) (caller : ℕ) (history : List Entry) (size : ℕ) : Type 0 where
   pub front : List Line
   pub line : Line
   pub back : List Line
   pub lines : block ≡ front ++ line ∷ back
-  pub played : Plays s names 0 front own
+  pub played : Plays s names 0 front (calls_of history caller)
   pub seen : List Entry
   pub begins : BeginsWith history seen
-  pub full : IsFullFor s.config s (names_by s names front own) line seen size
+  pub own : calls_of seen caller ≡ calls_of history caller
+  pub full : IsFullFor s.config s (names_by s names front (calls_of history caller)) line seen size
 
--- a block was played whole, or up to a line at which some size was met
-abbrev pub PlaysUpTo : Script → List (List ℕ × Given) → List Line → List Entry → List Entry → Type 0
-PlaysUpTo s names block own history = Plays s names 0 block own ⊎ ((size : ℕ) × IsCutShort s names block own history size)
+-- a client's block was played whole, or up to a line at which some size was met
+abbrev pub PlaysUpTo : Script → List (List ℕ × Given) → List Line → ℕ → List Entry → Type 0
+PlaysUpTo s names block caller history = Plays s names 0 block (calls_of history caller) ⊎ ((size : ℕ) × IsCutShort s names block caller history size)
 
 -- This call made no entry, since after some beginning of the history the journal would have had this size.
 pub record MeetsSize (config : Config) (history : List Entry) (asked : Call) (size : ℕ) : Type 0 where
@@ -113,34 +109,37 @@ pub record MeetsSize (config : Config) (history : List Entry) (asked : Call) (si
 -- Which call met the size: the one that a client's next line asks; the taking of a launch or of an order; or the report of the order
 -- that the reaper took last.
 pub data IsMet (s : Script) (history : List Entry) (size : ℕ) : Type 0 where
-  by_block : (n : ℕ) (block : List Line) → slice_get s.clients n ≡ Some block → IsCutShort s (names_given s history) block (calls_of history (n + 1)) history size → IsMet s history size
+  by_block : (n : ℕ) (block : List Line) → slice_get s.clients n ≡ Some block → IsCutShort s (names_given s history) block (n + 1) history size → IsMet s history size
   by_launch : MeetsSize s.config history call.TakeLaunch size → IsMet s history size
   by_order : MeetsSize s.config history call.TakeSignal size → IsMet s history size
   by_answer : (signal : Signal) (answer : Bool) → (m : MeetsSize s.config history (asked_signal answer signal) size)
       → owed (acts_of (calls_of m.seen (reaper_of s))) ≡ Some signal → IsMet s history size
 
--- The run was stopped since the journal would have had this size: within setup, and then nobody else made a call; or behind it. So
--- many callers there were.
-pub data IsStopped (s : Script) (history : List Entry) (size callers : ℕ) : Type 0 where
-  in_setup : IsCutShort s [] (lines_of s.setup) (calls_of history 0) history size → ((caller : ℕ) → 0 < caller → calls_of history caller ≡ []) → callers ≡ 1 → IsStopped s history size callers
+-- The run was stopped since the journal would have had this size: within setup, and then nobody else made a call, and nothing was asked
+-- of the spawner; or behind it. So many callers there were.
+pub data IsStopped (s : Script) (history : List Entry) (asked asked_after : Option (List Asked)) (size callers : ℕ) : Type 0 where
+  in_setup : IsCutShort s [] (lines_of s.setup) 0 history size → ((caller : ℕ) → 0 < caller → calls_of history caller ≡ []) → asked_after ≡ asked → callers ≡ 1
+      → IsStopped s history asked asked_after size callers
   behind_setup : Plays s [] 0 (lines_of s.setup) (calls_of history 0)
-      → ((n : ℕ) (block : List Line) → slice_get s.clients n ≡ Some block → PlaysUpTo s (names_given s history) block (calls_of history (n + 1)) history)
-      → IsMet s history size → callers ≡ reaper_of s + 1 → IsStopped s history size callers
+      → ((n : ℕ) (block : List Line) → slice_get s.clients n ≡ Some block → PlaysUpTo s (names_given s history) block (n + 1) history)
+      → IsMet s history size → callers ≡ reaper_of s + 1 → IsStopped s history asked asked_after size callers
 
 -- ---- a run as it is left
 
--- Each block was played whole. There were so many callers, and at the end the machine is at rest at the last reading of the launcher's
--- clock. Where the spawner tells, and nothing had been asked of it, the outside agrees with the history.
+-- Each block was played whole. There were so many callers. At the end no job holds slots and no order stands, and the machine is settled
+-- at the last reading of the launcher's clock, where it tells them. Where the spawner tells, and nothing had been asked of it, the
+-- outside agrees with the history.
 pub record IsWhole {C : Type 0} (given : C → Option (List ℕ)) (s : Script) (history : List Entry) (asked asked_after : Option (List Asked)) (fate : ℕ → Fate) (clocks : List C) : Type 0 where
   pub plays : PlaysAll s history
   pub callers : length clocks ≡ reaper_of s + 1
-  pub rest : (clock : C) → slice_get clocks (launcher_of s) ≡ Some clock → IsAtRest s.config history (given clock)
+  pub quiet : IsQuiet (replay s.config history).plan
+  pub rest : (clock : C) → slice_get clocks (launcher_of s) ≡ Some clock → IfSome (given clock) (IsSettledAt s.config history)
   pub outside : asked ≡ Some [] → IfSome asked_after (λ starts. AgreesWithOutside starts fate (acts_of history))
 
 -- how a run ended, by the size that stopped it
 abbrev pub EndsBy : {C : Type 0} → (C → Option (List ℕ)) → Script → List Entry → Option (List Asked) → Option (List Asked) → (ℕ → Fate) → List C → Option ℕ → Type 0
 EndsBy given s history asked asked_after fate clocks None = IsWhole given s history asked asked_after fate clocks
-EndsBy given s history asked asked_after fate clocks (Some size) = IsStopped s history size (length clocks)
+EndsBy given s history asked asked_after fate clocks (Some size) = IsStopped s history asked asked_after size (length clocks)
 
 -- A run left this history, and these clocks of its callers, in the order of their numbers.
 pub record HasRun {C : Type 0} (given : C → Option (List ℕ)) (s : Script) (history : List Entry) (asked asked_after : Option (List Asked)) (fate : ℕ → Fate) (clocks : List C) (full : Option ℕ) : Type 0 where

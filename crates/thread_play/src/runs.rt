@@ -112,7 +112,8 @@ fn play_others<R: Threads + Wait + Pause + Sync, K: Clocks, S: Spawner + Send>(
     requires legal { IsLegal shared.now.fixed (seen_of opener.old) }
     requires few { length script.now.clients ≤ 32 }
     requires room { vec_len given.old + length script.now.clients + 2 ≤ vec_capacity given.old }
-    ensures { IfOk result (λ full. Others K.One.given S.One.told script.now names.now shared.now opener.old opener.new
+    ensures fates { S.fate spawner.new ≡ S.fate spawner.old }
+    ensures others { IfOk result (λ full. Others K.One.given S.One.told script.now names.now shared.now opener.old opener.new
         (S.asked spawner.old) (S.asked spawner.new) (S.fate spawner.new) given.old.items given.new.items full) }
 {
     let mut workers = hire(alloc, script, shared, opener, clocks)?;
@@ -177,6 +178,7 @@ pub fn play_threads<R: Threads + Wait + Pause + Sync, K: Clocks, S: Spawner + Se
 ) -> Result<Run<K::One>, AllocError>
     requires { IsForThreads script.now }
     ensures config { IfOk result (λ run. run.machine.ledger.config ≡ script.now.config) }
+    ensures fates { S.fate spawner.new ≡ S.fate spawner.old }
     ensures run { IfOk result (λ run. HasRun K.One.given script.now run.machine.ledger.history
         (S.asked spawner.old) (S.asked spawner.new) (S.fate spawner.new) run.clocks run.full) }
 {

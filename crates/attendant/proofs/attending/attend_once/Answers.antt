@@ -19,6 +19,7 @@ pub returns-in_err-launched-clause-attending : goal.returns-in_err-launched-clau
 returns-in_err-launched-clause-attending g c =
     let p = err_from_is_err_and c.from_residual.result c.from_residual.ensures.1 in
     record {
+      fates = c.launch_once-launched.ensures.fates;
       tends = λ t. reaping_tends g.S.One.Child.told (g.S.Spawner.fate c.args.spawner.now) _ _ _ _ _ _ _ c.reap_once-reports.ensures.keeping (c.launch_once-launched.ensures.tends (own_acts c.args.reaping.now.client) t);
       keeps = λ k. c.reap_once-reports.ensures.keeping.keeps _ _ _ (c.launch_once-launched.ensures.keeps (own_acts c.args.reaping.now.client) k);
       agrees = λ clean k a. absurd (let bad = subst IsOk p.1 clean in cc);
@@ -28,6 +29,7 @@ pub returns-in_err-reports-clause-attending : goal.returns-in_err-reports-clause
 returns-in_err-reports-clause-attending g c =
     let p = err_from_is_err_and c.from_residual-in_err-reports.result c.from_residual-in_err-reports.ensures.1 in
     record {
+      fates = c.launch_once-launched.ensures.fates;
       tends = λ t. reaping_tends g.S.One.Child.told (g.S.Spawner.fate c.args.spawner.now) _ _ _ _ _ _ _ c.reap_once-reports.ensures.keeping (c.launch_once-launched.ensures.tends (own_acts c.args.reaping.now.client) t);
       keeps = λ k. c.reap_once-reports.ensures.keeping.keeps _ _ _ (c.launch_once-launched.ensures.keeps (own_acts c.args.reaping.now.client) k);
       agrees = λ clean k a. absurd (let bad = subst IsOk p.1 clean in cc);
@@ -35,6 +37,7 @@ returns-in_err-reports-clause-attending g c =
 
 pub returns-clause-attending : goal.returns-clause-attending
 returns-clause-attending g c = record {
+  fates = c.launch_once-launched.ensures.fates;
   tends = λ t. reaping_tends g.S.One.Child.told (g.S.Spawner.fate c.args.spawner.now) _ _ _ _ _ _ _ c.reap_once-reports.ensures.keeping (c.launch_once-launched.ensures.tends (own_acts c.args.reaping.now.client) t);
   keeps = λ k. c.reap_once-reports.ensures.keeping.keeps _ _ _ (c.launch_once-launched.ensures.keeps (own_acts c.args.reaping.now.client) k);
   agrees = λ clean k a. c.in_ok-reports.ensures.agrees.agrees _ _ _ (c.launch_once-launched.ensures.keeps (own_acts c.args.reaping.now.client) k)

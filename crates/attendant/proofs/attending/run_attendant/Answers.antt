@@ -17,7 +17,7 @@ pub loop-init : goal.loop-init
 loop-init g c = record {
   launcher = still-same _ c.requires.launcher;
   reaping = still-same _ c.requires.reaping;
-  attending = record { tends = λ t. t; keeps = λ k. k; agrees = λ clean k a. a };
+  attending = record { fates = refl; tends = λ t. t; keeps = λ k. k; agrees = λ clean k a. a };
   held = λ k. tt;
 }
 

@@ -1,5 +1,8 @@
-use Rattle.attendant.proofs.Launches.{round_tends, round_keeps, round_agrees, launch_refused}
+use Rattle.attendant.proofs.Launches.{round_fates, round_tends, round_keeps, round_agrees, launch_refused}
 use Rattle.attendant.proofs.launching.launch_once.Goals as goal
+
+pub returns-clause-fates : goal.returns-clause-fates
+returns-clause-fates g c = round_fates _ _ _ _ _ _ _ _ _ _ c.launch_round.ensures.steps
 
 pub returns-clause-tends : goal.returns-clause-tends
 returns-clause-tends g c reaped t = rw c.launch_round.ensures.order (round_tends _ _ _ reaped _ _ _ _ _ _ _ _ c.launch_round.ensures.steps t)

@@ -6,6 +6,7 @@ use Rattle.journal_check.specs.Faults.{FirstFault}
 use Rattle.journal_text.specs.Journals as journals
 use Rattle.journal_text.specs.declared.journals.Journal.{Journal}
 use Rattle.script_asks.specs.Plays.{serial_play}
+use Rattle.script_text.specs.declared.scripts.Mode.TheVariants as mode
 use Rattle.script_text.specs.declared.scripts.Script.{Script}
 use Rattle.text_lines.specs.Lines.{IsFirstBad}
 use Rattle.drmaa_script.specs.declared.status.Status.{Status}
@@ -21,7 +22,7 @@ err_is a b e = ap (λ (x : Status). let r : Result Script Status = Err x in r) e
 
 pub returns-in-Ok-clause-whole : goal.returns-in-Ok-clause-whole
 returns-in-Ok-clause-whole g c = λ calm quiet.
-    some_both (g.R.Source.left c.args.source.now) (λ bytes. IsScriptText bytes c.in-Ok.script) (λ bytes. (s : Script) → IsScriptText bytes s → c.in-Ok.script ≡ s) (λ bytes. PlayIsWhole bytes c.write_play.result) (λ bytes spelled only. record {
+    some_both (g.R.Source.left c.args.source.now) (λ bytes. IsScriptText mode.Serial bytes c.in-Ok.script) (λ bytes. (s : Script) → IsScriptText mode.Serial bytes s → c.in-Ok.script ≡ s) (λ bytes. PlayIsWhole bytes c.write_play.result) (λ bytes spelled only. record {
       script = λ s t. subst (λ (x : Script). (c.write_play.result ≡ ended_as (serial_play x).full) ⊎ (c.write_play.result ≡ Memory)) (only s t) (c.write_play.ensures.whole quiet);
       other = λ none. absurd (none c.in-Ok.script spelled);
     }) c.in-Ok.ensures.found c.in-Ok.ensures.only
@@ -33,7 +34,7 @@ returns-in-Ok-clause-writable g c = λ w.
 pub returns-in-Err-clause-ends : goal.returns-in-Err-clause-ends
 returns-in-Err-clause-ends g c =
     let left = g.R.Source.left c.args.source.now in
-    IfSome_then left (some_all left (λ n. ◌≡◌ {A = Result Script Status} (Err c.in-Err.status) (Err (Text n))) (λ n bytes. IsFirstBad SpellsScript 16_777_216 bytes n) c.in-Err.ensures.line) (λ bytes line.
+    IfSome_then left (some_all left (λ n. ◌≡◌ {A = Result Script Status} (Err c.in-Err.status) (Err (Text n))) (λ n bytes. IsFirstBad (SpellsScript mode.Serial) 16_777_216 bytes n) c.in-Err.ensures.line) (λ bytes line.
     unread_ends (own_of c.args.output) bytes c.in-Err.status _ _ c.in-Err.ensures.causes (λ n e. line n (err_is c.in-Err.status (Text n) e)))
 
 pub returns-in-Err-clause-whole : goal.returns-in-Err-clause-whole

@@ -48,8 +48,8 @@ dismiss-ended-requires-clause-each g c k d below =
 no-child : {X : Type 0} (children : Slab X) → children.slots ≡ [] → (k : ℕ) → get children k ≡ None
 no-child {X = X} children none k = ap (λ (l : List (Option X)). slice_index_or l k None) none
 
-pub returns-in-None : goal.returns-in-None
-returns-in-None g c =
+pub returns-in-None-clause-others : goal.returns-in-None-clause-others
+returns-in-None-clause-others g c =
     let pa : Pair g.row.K-One.Denot = record { launcher = c.open_client.result; launcher_clock = c.clock.result; reaping = c.open_client-2.result; reaping_clock = c.clock-2.result } in
     let pb = c.play_beside-attended.result.0.pair in
     let pc : Pair g.row.K-One.Denot = record pb { launcher = c.dismiss-ended.new.launcher } in
@@ -78,8 +78,8 @@ returns-in-None g c =
     c.end_others-pair.ensures c.release.ensures.back c.dismiss-ended.ensures.clocks c.release.ensures.clocks
     None c.in-None.is
 
-pub returns-in-Some-Full : goal.returns-in-Some-Full
-returns-in-Some-Full g c =
+pub returns-in-Some-Full-clause-others : goal.returns-in-Some-Full-clause-others
+returns-in-Some-Full-clause-others g c =
     let pa : Pair g.row.K-One.Denot = record { launcher = c.open_client.result; launcher_clock = c.clock.result; reaping = c.open_client-2.result; reaping_clock = c.clock-2.result } in
     let pb = c.play_beside-attended.result.0.pair in
     let pc : Pair g.row.K-One.Denot = record pb { launcher = c.dismiss-ended.new.launcher } in

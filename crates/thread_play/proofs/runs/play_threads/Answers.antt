@@ -44,7 +44,7 @@ close-requires-clause-back g c =
     let x : Others g.K.One.Clock.given g.S.One.Child.told s c.in-Ok-played.names c.in-Ok.shared c.play_first-clock.new.opener c.play_others.new.opener
     (g.S.Spawner.asked c.args.spawner.now) (g.S.Spawner.asked c.play_others.new.spawner) (g.S.Spawner.fate c.play_others.new.spawner) (c.play_first-clock.result.clock ∷ []) c.play_others.new.given.items c.in_ok-full-in-Ok-played.full =
     subst (λ (l : List g.row.K-One.Denot). Others g.K.One.Clock.given g.S.One.Child.told s c.in-Ok-played.names c.in-Ok.shared c.play_first-clock.new.opener c.play_others.new.opener
-    (g.S.Spawner.asked c.args.spawner.now) (g.S.Spawner.asked c.play_others.new.spawner) (g.S.Spawner.fate c.play_others.new.spawner) l c.play_others.new.given.items c.in_ok-full-in-Ok-played.full) one c.in_ok-full-in-Ok-played.ensures in
+    (g.S.Spawner.asked c.args.spawner.now) (g.S.Spawner.asked c.play_others.new.spawner) (g.S.Spawner.fate c.play_others.new.spawner) l c.play_others.new.given.items c.in_ok-full-in-Ok-played.full) one c.in_ok-full-in-Ok-played.ensures.others in
     none-left g.K.One.Clock.given g.S.One.Child.told s c.in-Ok-played.names c.in-Ok.shared c.play_first-clock.new.opener c.play_others.new.opener c.play_first-clock.result first names played
     (g.S.Spawner.asked c.args.spawner.now) (g.S.Spawner.asked c.play_others.new.spawner) (g.S.Spawner.fate c.play_others.new.spawner) c.play_others.new.given.items c.in_ok-full-in-Ok-played.full x
 
@@ -58,7 +58,7 @@ returns-in_ok-full-in-Ok-played-clause-run g c =
     let x : Others g.K.One.Clock.given g.S.One.Child.told s c.in-Ok-played.names c.in-Ok.shared c.play_first-clock.new.opener c.play_others.new.opener
     (g.S.Spawner.asked c.args.spawner.now) (g.S.Spawner.asked c.play_others.new.spawner) (g.S.Spawner.fate c.play_others.new.spawner) (c.play_first-clock.result.clock ∷ []) c.play_others.new.given.items c.in_ok-full-in-Ok-played.full =
     subst (λ (l : List g.row.K-One.Denot). Others g.K.One.Clock.given g.S.One.Child.told s c.in-Ok-played.names c.in-Ok.shared c.play_first-clock.new.opener c.play_others.new.opener
-    (g.S.Spawner.asked c.args.spawner.now) (g.S.Spawner.asked c.play_others.new.spawner) (g.S.Spawner.fate c.play_others.new.spawner) l c.play_others.new.given.items c.in_ok-full-in-Ok-played.full) one c.in_ok-full-in-Ok-played.ensures in
+    (g.S.Spawner.asked c.args.spawner.now) (g.S.Spawner.asked c.play_others.new.spawner) (g.S.Spawner.fate c.play_others.new.spawner) l c.play_others.new.given.items c.in_ok-full-in-Ok-played.full) one c.in_ok-full-in-Ok-played.ensures.others in
     let laws : Laws s = record {
       prefix = λ front back. c.each_prefix_is_legal.ensures.legal s.config front back;
       consistent = λ es. c.a_legal_history_leads_to_a_consistent_world.ensures.consistent s.config es;
@@ -91,5 +91,5 @@ returns-in-Err-Full-clause-run g c =
     let one : c.from_vec-in-Err-Full.result ≡ c.play_first-clock.result.clock ∷ [] =
     c.from_vec-in-Err-Full.ensures ∙ (c.push_reserved.ensures.items ∙ ap (λ (l : List g.row.K-One.Denot). l ++ c.play_first-clock.result.clock ∷ []) c.in_ok-given.ensures.items) in
     stopped-first g.K.One.Clock.given s c.in-Ok.shared c.play_first-clock.new.opener c.play_first-clock.result first c.close-in-Err-Full.result.ledger.history laws config closed
-    (g.S.Spawner.asked c.args.spawner.now) (g.S.Spawner.asked c.args.spawner.now) (g.S.Spawner.fate c.args.spawner.now) c.in-Err-Full.size c.from_vec-in-Err-Full.result
+    (g.S.Spawner.asked c.args.spawner.now) (g.S.Spawner.fate c.args.spawner.now) c.in-Err-Full.size c.from_vec-in-Err-Full.result
     (c.in-Err-Full.is ∙ ap (λ (w : Stopped). Err w) (rw c.in-Err-Full.is at c.in-Err-Full.field-0-is)) one

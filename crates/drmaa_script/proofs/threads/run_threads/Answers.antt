@@ -1,0 +1,43 @@
+use Rattle.std.proofs.Common.{◌≡◌, ℕ, List, Option, Result, Ok, Err, ◌⊎◌, inl, inr, refl, sym, ap, subst, ◌∙◌}
+use Rattle.std.specs.Prelude.{IfSome}
+use Rattle.std.proofs.lemmas.Option.{IfSome_then}
+use Rattle.script_text.specs.declared.scripts.Mode.TheVariants as mode
+use Rattle.script_text.specs.declared.scripts.Script.{Script}
+use Rattle.text_lines.specs.Lines.{IsFirstBad}
+use Rattle.drmaa_script.specs.declared.status.Status.{Status}
+use Rattle.drmaa_script.specs.declared.status.Status.TheVariants.{Text, ReadFault, Memory}
+use Rattle.drmaa_script.specs.Outcomes.{SpellsScript, IsScriptText}
+use Rattle.drmaa_script.specs.Runs.{RunEnds, RunIsWhole, IsRunEnd}
+use Rattle.drmaa_script.proofs.Played.{unread_refused}
+use Rattle.drmaa_script.proofs.Ran.{unread_run}
+use Rattle.drmaa_script.proofs.Somes.{some_both, some_all}
+use Rattle.drmaa_script.proofs.threads.run_threads.Goals as goal
+
+err_is : (a b : Status) → a ≡ b → ◌≡◌ {A = Result Script Status} (Err a) (Err b)
+err_is a b e = ap (λ (x : Status). let r : Result Script Status = Err x in r) e
+
+pub returns-in-Ok-clause-whole : goal.returns-in-Ok-clause-whole
+returns-in-Ok-clause-whole g c = λ calm quiet.
+    some_both (g.R.Source.left c.args.source.now) (λ bytes. IsScriptText mode.Threads bytes c.in-Ok.script) (λ bytes. (s : Script) → IsScriptText mode.Threads bytes s → c.in-Ok.script ≡ s) (λ bytes. RunIsWhole bytes c.write_run.result.status) (λ bytes spelled only. record {
+      script = λ s t. c.write_run.ensures.whole quiet;
+      other = λ none. absurd (none c.in-Ok.script spelled);
+    }) c.in-Ok.ensures.found c.in-Ok.ensures.only
+
+pub returns-in-Err-clause-ends : goal.returns-in-Err-clause-ends
+returns-in-Err-clause-ends g c =
+    let left = g.R.Source.left c.args.source.now in
+    IfSome_then left (some_all left (λ n. ◌≡◌ {A = Result Script Status} (Err c.in-Err.status) (Err (Text n))) (λ n bytes. IsFirstBad (SpellsScript mode.Threads) 16_777_216 bytes n) c.in-Err.ensures.line) (λ bytes line.
+    subst (λ (s : Status). RunEnds g.K.One.Clock.given bytes (g.W.Sink.written c.args.sink.now) (g.W.Sink.written c.args.sink.now) (g.S.Spawner.asked c.args.spawner.now) (g.S.Spawner.asked c.args.spawner.now)
+    (g.S.Spawner.fate c.args.spawner.now) c.without_clocks.result.clocks s) (sym c.without_clocks.ensures.status)
+    (unread_run g.K.One.Clock.given bytes (g.W.Sink.written c.args.sink.now) (g.W.Sink.written c.args.sink.now) (g.S.Spawner.asked c.args.spawner.now) (g.S.Spawner.asked c.args.spawner.now)
+    (g.S.Spawner.fate c.args.spawner.now) c.without_clocks.result.clocks c.in-Err.status c.in-Err.ensures.causes (λ n e. line n (err_is c.in-Err.status (Text n) e))))
+
+pub returns-in-Err-clause-whole : goal.returns-in-Err-clause-whole
+returns-in-Err-clause-whole g c = λ calm quiet.
+    IfSome_then (g.R.Source.left c.args.source.now) c.in-Err.ensures.only (λ bytes only. subst (λ (status : Status). RunIsWhole bytes status) (sym c.without_clocks.ensures.status) (record {
+      script = λ s t. (elim (only s t) as (λ _. IsRunEnd c.in-Err.status) [
+        | inl e ↦ absurd (calm (c.in-Err.ensures.fault (err_is c.in-Err.status ReadFault e)))
+        | inr e ↦ subst IsRunEnd (sym e) tt
+      ]);
+      other = λ none. unread_refused c.in-Err.status c.in-Err.ensures.causes (λ e. calm (c.in-Err.ensures.fault (err_is c.in-Err.status ReadFault e)));
+    }))

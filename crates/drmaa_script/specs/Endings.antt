@@ -1,0 +1,50 @@
+-- What each command comes to: our profile.
+use Rattle.std.specs.Prelude.{◌≡◌, ℕ, List, Option}
+use Rattle.child_spawner.specs.declared.fates.Asked.{Asked}
+use Rattle.child_spawner.specs.declared.fates.Fate.{Fate}
+use Rattle.drmaa_script.specs.declared.commands.Command.{Command}
+use Rattle.drmaa_script.specs.declared.commands.Command.TheVariants.{Serial, Threads, Table, Check}
+use Rattle.drmaa_script.specs.declared.plays.Output.TheVariants.{Journal as JournalOutput, Listing}
+use Rattle.drmaa_script.specs.declared.status.Status.{Status}
+use Rattle.drmaa_script.specs.Outcomes.{PlayEnds, CheckEnds, PlayIsWhole, CheckIsWhole, WritesPlay, journal_of, listing_of}
+use Rattle.drmaa_script.specs.Runs.{RunEnds, RunIsWhole, LeavesClocks}
+
+abbrev pub Ends : {C : Type 0} → (C → Option (List ℕ)) → Command → List ℕ → Option (List ℕ) → Option (List ℕ) → Option (List Asked) → Option (List Asked) → (ℕ → Fate) → List C → Status → Type 0
+Ends given Serial bytes old new asked asked_after fate clocks status = PlayEnds journal_of bytes status old new
+Ends given Threads bytes old new asked asked_after fate clocks status = RunEnds given bytes old new asked asked_after fate clocks status
+Ends given Table bytes old new asked asked_after fate clocks status = PlayEnds listing_of bytes status old new
+Ends given Check bytes old new asked asked_after fate clocks status = CheckEnds bytes status old new
+
+abbrev pub IsWhole : Command → List ℕ → Status → Type 0
+IsWhole Serial = PlayIsWhole
+IsWhole Threads = RunIsWhole
+IsWhole Table = PlayIsWhole
+IsWhole Check = CheckIsWhole
+
+-- the journal of a play on one thread is written
+abbrev pub WritesJournal : Command → Status → Type 0
+WritesJournal Serial status = WritesPlay JournalOutput status
+WritesJournal Threads status = ⊥
+WritesJournal Table status = WritesPlay Listing status
+WritesJournal Check status = ⊥
+
+-- callers had clocks, which are handed back
+abbrev pub HandsClocks : Command → Status → Type 0
+HandsClocks Serial status = ⊥
+HandsClocks Threads status = LeavesClocks status
+HandsClocks Table status = ⊥
+HandsClocks Check status = ⊥
+
+-- the greatest number of bytes of a command's text
+abbrev pub limit_of : Command → ℕ
+limit_of Serial = 16_777_216
+limit_of Threads = 16_777_216
+limit_of Table = 16_777_216
+limit_of Check = 268_435_456
+
+-- whether it asks the spawner
+abbrev pub Starts : Command → Type 0
+Starts Serial = ⊥
+Starts Threads = Unit {0}
+Starts Table = ⊥
+Starts Check = ⊥

@@ -1,0 +1,132 @@
+-- What `threads` comes to, given all the bytes that it reads: our profile.
+use Rattle.std.specs.Prelude.{◌≡◌, ◌⊎◌, ℕ, ◌+◌, ◌<◌, true, List, [], ◌∷◌, ◌++◌, length, Option, Some, None, IfSome}
+use Rattle.std.specs.List.{slice_get}
+use Rattle.std.specs.Io.KnownBytes.{Appends}
+use Rattle.byte_streams.specs.Streams.{AppendsFront}
+use Rattle.child_spawner.specs.declared.fates.Asked.{Asked}
+use Rattle.child_spawner.specs.declared.fates.Fate.{Fate}
+use Rattle.drmaa_types.specs.declared.identifiers.JobId.{JobId}
+use Rattle.drmaa_model.specs.declared.entries.Entry.{Entry}
+use Rattle.drmaa_model.specs.Consistent.{IsConsistent}
+use Rattle.drmaa_model.specs.History.{IsLegal, replay}
+use Rattle.drmaa_model.specs.SettledLaws.{IsQuiet}
+use Rattle.turn_lock.specs.Histories.{BeginsWith}
+use Rattle.call_history.specs.Callers.{calls_of}
+use Rattle.call_history.specs.Timed.{IsTimed}
+use Rattle.script_lines.specs.declared.lines.Line.{Line}
+use Rattle.script_text.specs.declared.scripts.Mode.TheVariants as mode
+use Rattle.script_text.specs.declared.scripts.Script.{Script}
+use Rattle.script_text.specs.Follows.{lines_of}
+use Rattle.script_asks.specs.Plays.{Plays}
+use Rattle.attendant.specs.Acts.{acts_of, Each, is_launched}
+use Rattle.attendant.specs.Outside.{IsLaunchersEntry, IsReapersEntry}
+use Rattle.attendant.specs.Runs.{is_ended}
+use Rattle.attendant.specs.Whole.{AgreesWithOutside}
+use Rattle.journal_text.specs.Journals as journals
+use Rattle.journal_text.specs.Journals.{journal_text}
+use Rattle.text_lines.specs.Lines.{IsFirstBad}
+use Rattle.thread_play.specs.Runs.{launcher_of, reaper_of, names_given, IsSettledAt, HasRun}
+use Rattle.drmaa_script.specs.declared.status.Status.{Status}
+use Rattle.drmaa_script.specs.declared.status.Status.TheVariants.{Done, Text, Words, ReadFault, WriteFault, Memory, JournalFull, NotLegal}
+use Rattle.drmaa_script.specs.Outcomes.{SpellsScript, IsScriptText}
+use Rattle.drmaa_script.specs.Statuses.{IsRefused}
+
+-- Whatever script is read and however its clients, launcher and reaper interleave, the program writes one journal: each client's calls
+-- stand in it once each, in that client's order and after everything that client had seen; replayed on the sequential machine it gives
+-- every reply, refusal and job state; at each point started jobs fit the slots and accepted reservations fit them at every instant.
+pub record OneLegalJournal {C : Type 0} (given : C → Option (List ℕ)) (bytes : List ℕ) (old new : Option (List ℕ)) (asked asked_after : Option (List Asked)) (fate : ℕ → Fate) (clocks : List C) : Type 0 where
+  -- all bytes that were read spell this script for threads
+  pub script : Script
+  pub spelled : IsScriptText mode.Threads bytes script
+  -- what was written is the text of this history, which no other journal has
+  pub history : List Entry
+  pub written : Appends old new (journal_text script.config history)
+  pub readable : journals.IsWritable script.config history
+  -- replayed on the machine of the script, it gives every reply
+  pub legal : IsLegal script.config history
+  -- each beginning leads to a world in which started jobs fit the slots, and accepted reservations fit them at every moment
+  pub fits : (front back : List Entry) → history ≡ front ++ back → IsConsistent (replay script.config front)
+  -- the setup block was played, by the entries with which the history begins
+  pub setup : Plays script [] 0 (lines_of script.setup) (calls_of history 0)
+  pub setup_first : BeginsWith history (calls_of history 0)
+  -- each client's entries are what the lines of its block ask, once each and in order, with the names that setup gave
+  pub clients : (n : ℕ) (block : List Line) → slice_get script.clients n ≡ Some block → Plays script (names_given script history) 0 block (calls_of history (n + 1))
+  -- the launcher takes launches, and reports a start right after its launch; it makes no other calls
+  pub launcher : Each IsLaunchersEntry (acts_of (calls_of history (launcher_of script)))
+  -- the reaper takes orders, reports each once after it was taken, and reports an end once; it makes no other calls
+  pub reaper : Each IsReapersEntry (acts_of (calls_of history (reaper_of script)))
+  -- an end is reported of a run that was launched
+  pub ended : (job : JobId) (attempt : ℕ) → is_ended job attempt (acts_of (calls_of history (reaper_of script))) ≡ true
+      → is_launched job attempt (acts_of (calls_of history (launcher_of script))) ≡ true
+  -- nobody else makes a call
+  pub strangers : (caller : ℕ) → reaper_of script < caller → calls_of history caller ≡ []
+  -- there is a clock for each caller, and the moments of a caller's entries are readings of its clock, in their order, where it tells them
+  pub callers : length clocks ≡ reaper_of script + 1
+  pub moments : (caller : ℕ) (clock : C) → slice_get clocks caller ≡ Some clock → IsTimed (calls_of history caller) (given clock)
+  -- at the end no job holds slots and no order stands, and the machine is settled at the last reading of the launcher's clock, where it
+  -- tells them
+  pub quiet : IsQuiet (replay script.config history).plan
+  pub rest : (clock : C) → slice_get clocks (launcher_of script) ≡ Some clock → IfSome (given clock) (IsSettledAt script.config history)
+  -- the journal agrees with the children, where the spawner tells and nothing had been asked of it
+  pub outside : asked ≡ Some [] → IfSome asked_after (λ starts. AgreesWithOutside starts fate (acts_of history))
+
+-- The journal of a run is writable, and says how it went.
+pub record IsRunOf {C : Type 0} (given : C → Option (List ℕ)) (script : Script) (history : List Entry) (asked asked_after : Option (List Asked)) (fate : ℕ → Fate) (clocks : List C) (full : Option ℕ) : Type 0 where
+  pub readable : journals.IsWritable script.config history
+  pub run : HasRun given script history asked asked_after fate clocks full
+
+-- What was written is the whole text of such a journal.
+pub record WritesRun {C : Type 0} (given : C → Option (List ℕ)) (bytes : List ℕ) (old new : Option (List ℕ)) (asked asked_after : Option (List Asked)) (fate : ℕ → Fate) (clocks : List C) (full : Option ℕ) : Type 0 where
+  pub script : Script
+  pub spelled : IsScriptText mode.Threads bytes script
+  pub history : List Entry
+  pub written : Appends old new (journal_text script.config history)
+  pub run : IsRunOf given script history asked asked_after fate clocks full
+
+-- What was written is a front of the text of such a journal.
+pub record WritesFront {C : Type 0} (given : C → Option (List ℕ)) (bytes : List ℕ) (old new : Option (List ℕ)) (asked asked_after : Option (List Asked)) (fate : ℕ → Fate) : Type 0 where
+  pub script : Script
+  pub spelled : IsScriptText mode.Threads bytes script
+  pub history : List Entry
+  pub clocks : List C
+  pub full : Option ℕ
+  pub written : AppendsFront old new (journal_text script.config history)
+  pub run : IsRunOf given script history asked asked_after fate clocks full
+
+-- For each status: what the bytes are, and what was written, by what the sink had before and has then.
+abbrev pub RunEnds : {C : Type 0} → (C → Option (List ℕ)) → List ℕ → Option (List ℕ) → Option (List ℕ) → Option (List Asked) → Option (List Asked) → (ℕ → Fate) → List C → Status → Type 0
+RunEnds given bytes old new asked asked_after fate clocks Done = OneLegalJournal given bytes old new asked asked_after fate clocks
+RunEnds given bytes old new asked asked_after fate clocks (Text line) = IsFirstBad (SpellsScript mode.Threads) 16_777_216 bytes line
+RunEnds given bytes old new asked asked_after fate clocks Words = ⊥
+RunEnds given bytes old new asked asked_after fate clocks ReadFault = Unit {0}
+RunEnds given bytes old new asked asked_after fate clocks WriteFault = WritesFront given bytes old new asked asked_after fate
+RunEnds given bytes old new asked asked_after fate clocks Memory = Unit {0}
+RunEnds given bytes old new asked asked_after fate clocks (JournalFull size) = WritesRun given bytes old new asked asked_after fate clocks (Some size)
+RunEnds given bytes old new asked asked_after fate clocks (NotLegal entry was machine) = ⊥
+
+-- how a run of a script ends that no fault of the source or the sink stops
+abbrev pub IsRunEnd : Status → Type 0
+IsRunEnd Done = Unit {0}
+IsRunEnd (Text line) = ⊥
+IsRunEnd Words = ⊥
+IsRunEnd ReadFault = ⊥
+IsRunEnd WriteFault = ⊥
+IsRunEnd Memory = Unit {0}
+IsRunEnd (JournalFull size) = Unit {0}
+IsRunEnd (NotLegal entry given machine) = ⊥
+
+-- Where no read and no write failed: a script is run, and other bytes are refused, unless memory runs out.
+pub record RunIsWhole (bytes : List ℕ) (status : Status) : Type 0 where
+  pub script : (s : Script) → IsScriptText mode.Threads bytes s → IsRunEnd status
+  pub other : ((s : Script) → IsScriptText mode.Threads bytes s → ⊥) → IsRefused status
+
+-- the callers' clocks are handed back
+abbrev pub LeavesClocks : Status → Type 0
+LeavesClocks Done = Unit {0}
+LeavesClocks (Text line) = ⊥
+LeavesClocks Words = ⊥
+LeavesClocks ReadFault = ⊥
+LeavesClocks WriteFault = ⊥
+LeavesClocks Memory = ⊥
+LeavesClocks (JournalFull size) = Unit {0}
+LeavesClocks (NotLegal entry given machine) = ⊥

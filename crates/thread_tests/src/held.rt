@@ -1,0 +1,137 @@
+//! A start that is held until a client reads its clock.
+ghost use Rattle.std.specs.Prelude.{None};
+ghost use Rattle.drmaa_types.specs.Readings.{step_reading};
+ghost use Rattle.child_spawner.specs.Spawners.{plain_fate};
+
+use crate::flags::Flags;
+use crate::plays::play;
+use call_history::{Bell, Entry, Reply};
+use child_spawner::{Child, Spawner};
+use drmaa_types::{
+    CallerId, Clock, Clocks, Exit, Failed, JobId, Moment, SignalKind, StepClock, TextList,
+};
+use std::test::Fail;
+
+/// A client waits for a job of setup, for 5,000,000 seconds at most.
+const WAIT: &str =
+    "machine 4 \"node1\" suspend\ntemplate t\ncommand \"true\"\nend\nsetup\ncreate-jobs s \"s\"\nrun j s t\nend\nclient\nwait-terminated s 5000000 j\nend\n";
+
+/// A child that has ended with code 0.
+#[derive(Drop)]
+struct EndedChild;
+
+impl Child for EndedChild {
+    ghost faults = { λ _. 0 };
+
+    ghost told = { λ _. None };
+
+    fn poll(&mut self) -> Result<Option<Exit>, Failed> {
+        Ok(Some(Exit::Code(0)))
+    }
+
+    fn signal(&mut self, _kind: SignalKind) -> Result<(), Failed> {
+        Ok(())
+    }
+}
+
+/// A spawner whose starts are held until a client has read its clock since.
+#[derive(Drop)]
+struct HeldSpawner<'a> {
+    flags: &'a Flags,
+    starts: u32,
+    freed: bool,
+}
+
+impl Spawner for HeldSpawner<'_> {
+    type One = EndedChild;
+
+    ghost faults = { λ _. 0 };
+
+    ghost asked = { λ _. None };
+
+    ghost fate = { λ _ _. plain_fate };
+
+    fn start(
+        &mut self,
+        _job: JobId,
+        _attempt: u32,
+        _words: &TextList,
+    ) -> Result<EndedChild, Failed> {
+        self.starts = self.starts.saturating_add(1);
+        self.freed = self.flags.hold();
+        Ok(EndedChild)
+    }
+}
+
+/// A clock that gives 0, 1 and so on. A client's one frees who is held at each reading.
+#[derive(Drop)]
+struct FreeingClock<'a> {
+    clock: StepClock,
+    flags: Option<&'a Flags>,
+}
+
+impl Clock for FreeingClock<'_> {
+    ghost given = { λ _. None };
+
+    ghost least = { λ c. step_reading c.clock.first c.clock.step c.clock.count };
+
+    fn now(&mut self) -> Moment {
+        let reading = self.clock.now();
+        if let Some(flags) = self.flags {
+            flags.free();
+        }
+        reading
+    }
+}
+
+/// A clock for each caller, of which that of caller 1 is a client's.
+#[derive(Drop)]
+struct FreeingClocks<'a> {
+    flags: &'a Flags,
+}
+
+impl<'a> Clocks for FreeingClocks<'a> {
+    type One = FreeingClock<'a>;
+
+    fn clock(&self, caller: CallerId) -> FreeingClock<'a> {
+        let clock = StepClock::new(Moment::new(0).unwrap_or(Moment::greatest()), 1);
+        let flags = if caller.0 == 1 {
+            Some(self.flags)
+        } else {
+            None
+        };
+        FreeingClock { clock, flags }
+    }
+}
+
+/// The job that the wait of caller 1 reached, where it is its only entry.
+fn reached(entries: &[Entry]) -> Option<JobId> {
+    let mut own = entries.iter().filter(|entry| entry.caller.0 == 1);
+    match (own.next(), own.next()) {
+        (Some(only), None) => match &only.reply {
+            Reply::Reached(job) => Some(*job),
+            _ => None,
+        },
+        _ => None,
+    }
+}
+
+/// The launcher is within a start while the client reads its clock.
+#[test]
+fn a_client_plays_while_a_start_is_held(rt: HostRuntime) -> Result<(), Fail> {
+    let alloc = rt.alloc();
+    let flags = Flags::new();
+    let mut spawner = HeldSpawner {
+        flags: &flags,
+        starts: 0,
+        freed: false,
+    };
+    let clocks = FreeingClocks { flags: &flags };
+    let bell = Bell::silent();
+    let run = play(&rt, alloc, WAIT, &clocks, &mut spawner, &bell)?;
+    assert_eq!(rt; run.full, None);
+    assert_eq!(rt; reached(run.machine.entries()), Some(JobId(1)));
+    assert_eq!(rt; spawner.starts, 1);
+    assert!(rt; spawner.freed);
+    Ok(())
+}

@@ -1,0 +1,13 @@
+//! Tests of the play of scripts for threads.
+#![tactic(auto)]
+
+#[cfg(test)]
+mod flags;
+#[cfg(test)]
+mod held;
+#[cfg(test)]
+mod nights;
+#[cfg(test)]
+mod plays;
+#[cfg(test)]
+mod stopped;
