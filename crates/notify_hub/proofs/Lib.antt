@@ -1,1 +1,4 @@
+mod Calls
+mod Growing
 mod Listens
+mod Registering

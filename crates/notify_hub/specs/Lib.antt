@@ -3,3 +3,5 @@ pub mod Handed
 pub mod Hearing
 pub mod HearingLaws
 pub mod Kept
+pub mod PlaceLaws
+pub mod Places
