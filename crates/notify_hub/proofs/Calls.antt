@@ -1,12 +1,12 @@
 -- How many calls a batch makes, and what of a list is left behind what was handed over.
-use Rattle.std.proofs.Common.{◌≡◌, ℕ, ◌+◌, ◌-◌, ◌<◌, ◌≤◌, List, [], ◌∷◌, ◌++◌, length, drop, take, Option, refl, sym, ap, ◌∙◌, subst, arith, append_assoc, append-nil}
-use Rattle.std.specs.Prelude.{sum_by, min}
-use Rattle.std.proofs.lemmas.List.{length-append, length-drop, length-take, drop-append-le, take_all, drop_all, take-append-drop}
+use Rattle.std.proofs.Common.{◌≡◌, ℕ, ◌+◌, ◌<◌, List, [], ◌∷◌, ◌++◌, length, drop, take, Option, refl, sym, ap, ◌∙◌, arith, append_assoc}
+use Rattle.std.specs.Prelude.{sum_by}
+use Rattle.std.proofs.lemmas.List.{length-append, length-take, take_all, take-append-drop}
 use Rattle.std.proofs.lemmas.List.Sums.{sum_by-cons}
 use Rattle.std.proofs.Math.Seq.{drop-append_seam}
 use Rattle.drmaa_types.specs.declared.changes.Change.{Change}
 use Rattle.turn_lock.specs.Histories.{BeginsWith}
-use Rattle.notify_hub.specs.Ears.{Listening, from_place, due, calls_for}
+use Rattle.notify_hub.specs.Ears.{from_place, due}
 use Rattle.notify_hub.proofs.Listens.{from_place-append}
 
 abbrev pub calls : List Change → List (Option ℕ) → ℕ

@@ -1,8 +1,7 @@
 -- How registrations go on in a history, and where a number has its place in it.
-use Rattle.std.proofs.Common.{◌≡◌, ℕ, ◌+◌, ◌<◌, ◌≤◌, Bool, true, false, cond, eqb, leb, inl, inr, List, [], ◌∷◌, ◌++◌, length, Option, Some, None, refl, sym, ◌∙◌, ap, subst, arith}
+use Rattle.std.proofs.Common.{◌≡◌, ℕ, ◌+◌, ◌<◌, ◌≤◌, Bool, true, false, cond, leb, inl, inr, List, [], ◌∷◌, ◌++◌, length, Option, Some, None, refl, sym, ◌∙◌, ap, subst, arith}
 use Rattle.std.specs.Option.{option_map_or}
 use Rattle.std.proofs.lemmas.Bool.{eqb-true, eq-eqb, leb-false, leb-true}
-use Rattle.drmaa_types.specs.Refusals.{first_refusal}
 use Rattle.drmaa_types.specs.declared.refusals.Limit.TheVariants as resource
 use Rattle.drmaa_types.specs.declared.refusals.Refusal.{Refusal}
 use Rattle.drmaa_types.specs.declared.refusals.Refusal.TheVariants.{OutOfResource}
@@ -19,7 +18,7 @@ use Rattle.drmaa_model.specs.Heard.{registers, place_from}
 use Rattle.drmaa_model.specs.History.{after_entry, replay_from, IsLegalFrom}
 use Rattle.drmaa_model.specs.Launching.{launch, signal}
 use Rattle.drmaa_model.specs.Operation.{Operation}
-use Rattle.drmaa_model.specs.Refusals.{refusal, most_callbacks}
+use Rattle.drmaa_model.specs.Refusals.{most_callbacks}
 use Rattle.drmaa_model.specs.ReplyKinds.{kind_of_call, kind_of_reply, a_callback, a_refusal, IsReplyOf}
 use Rattle.drmaa_model.specs.Steps.{answer, IsStep}
 use Rattle.drmaa_model.specs.Time.{advance}

@@ -1,6 +1,9 @@
 //! Ears: a caller's callbacks with their places, and what each of them heard.
-ghost use Rattle.std.specs.Prelude.{◌≡◌, ℕ, ◌+◌, ◌-◌, ◌≤◌, ◌++◌, length, slice_set, Some, None, IfOk, IfErr};
+ghost use Rattle.std.specs.Prelude.{◌≡◌, ℕ, ◌+◌, ◌-◌, ◌≤◌, List, ◌++◌, length, slice_set, Some, None, IfOk, IfErr};
+ghost use Rattle.drmaa_model.specs.declared.configs.Config.{Config};
+ghost use Rattle.drmaa_model.specs.declared.entries.Entry.{Entry};
 ghost use Rattle.notify_hub.specs.Ears.{Listening, HaveHeard, EachHeard, silent, place_at, from_place, due, calls_for};
+ghost use Rattle.notify_hub.specs.Places.{changes_of, HaveHeardAll};
 
 use crate::handed::Handed;
 use crate::handing::tell_all;
@@ -88,10 +91,13 @@ impl<B: Callback> Ears<B> {
         calls
     }
 
-    /// The callbacks, as many as there were, in their order. It takes no memory.
+    /// The callbacks, as many as there were, in their order. Where all changes of a history were handed over, each callback whose
+    /// place is that of its Register entry heard exactly what the history has for it. It takes no memory.
     pub fn take_back(self) -> Callbacks<B>
         ensures callbacks { result ≡ self.callbacks }
         ensures heard { HaveHeard B.counted B.told self → EachHeard B.counted B.told (from_place self.handed) self.places self.begun result }
+        ensures all { (config : Config) (history : List Entry) → HaveHeard B.counted B.told self → self.handed ≡ changes_of config history
+            → HaveHeardAll B.counted B.told config history self.places self.begun result }
     {
         Callbacks::from_vec(self.callbacks)
     }
