@@ -1,3 +1,4 @@
 pub mod Indices
+pub mod Machines
 pub mod Templates
 pub mod Tries

@@ -5,6 +5,7 @@
 mod arrays;
 mod job_sessions;
 mod jobs;
+mod machines;
 mod managers;
 mod reservation_sessions;
 mod reservations;
@@ -13,10 +14,12 @@ mod tries;
 mod waits;
 
 pub use arrays::JobArray;
+pub use call_history::Bell;
 pub use job_sessions::JobSession;
 pub use jobs::Job;
+pub use machines::{open_desk, plain_clock, plain_machine};
 pub use managers::SessionManager;
 pub use monitor_session::MonitoringSession;
 pub use reservation_sessions::ReservationSession;
 pub use reservations::Reservation;
-pub use templates::plain_job;
+pub use templates::{plain_command, plain_job};
