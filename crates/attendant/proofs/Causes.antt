@@ -36,7 +36,7 @@ fails-now old now new c why free f still = record { before = old; from_old = sti
 acts_on : (old new : Post) → (s : IsStillAt old new) → acts_at new ≡ acts_at old ++ acts_of s.added
 acts_on old new s = ap acts_of s.mine ∙ map-append act_of (mine_of old.client) s.added
 
-took_taking : (old taken new : Post) (hand hand2 : Option Hand) (r : Result ℕ Refusal) → Took (number_of old.client) (acts_at old) (acts_at taken) hand2 → IsStillAt taken new → IsTaking old new hand r
+took_taking : (old taken new : Post) (hand hand2 : Option Hand) (r : Result ℕ Refusal) → Took old taken hand2 → IsStillAt taken new → IsTaking old new hand r
 took_taking old taken new hand hand2 r t still =
     takes t.signal (acts_of still.added) (acts_on taken new still ∙ ap (λ (l : List Act). l ++ acts_of still.added) t.mine_is)
 

@@ -33,8 +33,8 @@ use Rattle.drmaa_model.specs.declared.looks.Question.{Question}
 use Rattle.drmaa_model.specs.declared.faults.NoEntry.{NoEntry}
 use Rattle.call_history.specs.Clients.{Seat, seen_of, mine_of, number_of, KnowsItsOwn, Makes}
 use Rattle.attendant.specs.Acts.{Duty, TakeLaunch, Started, StartFailed, Exited, ExitUnknown, TakeSignal, SignalDone, SignalFailed, Other, duty_of, Act, act_of, acts_of, own_acts, launch_reply, signal_reply, launch_in, launches_run, is_run, is_launched, IsNewLaunch, IsSignal, of}
-use Rattle.attendant.specs.Posts.{Post, Gives, AreAmong, IsStillAt, Fails, FailsWithin}
-use Rattle.attendant.specs.Steps.{entry_of, Takes, Answers, IsLegalReply}
+use Rattle.attendant.specs.Posts.{Post, acts_at, Gives, AreAmong, IsStillAt, Succeeds, Fails, FailsWithin}
+use Rattle.attendant.specs.Steps.{entry_of, Takes, Answers, IsLegalReply, Reports, report_call, asked_start}
 use Rattle.attendant.proofs.Entries.{not_true, or_cases}
 
 -- what is kept of a call is read as the call
@@ -364,7 +364,7 @@ fails-from first old new c why a f = record {
   to_new = f.to_new;
 }
 
-pub fails-last : (old mid new : Post) (c : Call) (why : NoEntry) → IsStillAt old mid → IsStillAt mid new → Fails mid c why new → FailsWithin old c why new
+abbrev pub fails-last : (old mid new : Post) (c : Call) (why : NoEntry) → IsStillAt old mid → IsStillAt mid new → Fails mid c why new → FailsWithin old c why new
 fails-last old mid new c why a b f = record { before = mid; from_old = a; after = new; fails = f; to_new = still-same new (still-free mid new b) }
 
 -- ---- takes
@@ -426,6 +426,13 @@ pub takes_signal : (n : ℕ) (r : Reply) (s : Signal) (mine mine2 : List Act) �
     → mine2 ≡ mine ++ entry_of n TakeSignal (reply.Signal s) ∷ []
 takes_signal n r s mine mine2 is k = subst (λ (x : Reply). mine2 ≡ mine ++ entry_of n TakeSignal x ∷ []) (some_signal r s is) k.mine_is
 
+pub serves_launch : (old new : Post) (n : ℕ) (r : Reply) (l : Launch) (mine mine2 : List Act) → launch_reply r ≡ Some l → Answers n call.TakeLaunch r mine mine2 → Succeeds old call.TakeLaunch r new
+    → Succeeds old call.TakeLaunch (reply.Launch l) new
+serves_launch old new n r l mine mine2 is k s = subst (λ (x : Reply). Succeeds old call.TakeLaunch x new) (some_launch mine r l is k.legal).0 s
+
+pub serves_signal : (old new : Post) (r : Reply) (s : Signal) → signal_reply r ≡ Some s → Succeeds old call.TakeSignal r new → Succeeds old call.TakeSignal (reply.Signal s) new
+serves_signal old new r s is x = subst (λ (y : Reply). Succeeds old call.TakeSignal y new) (some_signal r s is) x
+
 pub no_signal : (n : ℕ) (r : Reply) (mine mine2 : List Act) → signal_reply r ≡ None → Answers n call.TakeSignal r mine mine2 → ⊥
 no_signal n r mine mine2 is k = subst IsSignal is k.legal
 
@@ -438,6 +445,19 @@ each-ok P Q (Err e) each p = tt
 pub each-err : {A E : Type 0} (P Q : E → Type 0) (r : Result A E) → ((e : E) → P e → Q e) → IfErr r P → IfErr r Q
 each-err P Q (Ok a) each p = tt
 each-err P Q (Err e) each p = each e p
+
+-- whether the report of a start made its entry
+pub reports-start : (old new : Post) (began : Bool) (l : Launch) (c : Call) (r : Result Reply NoEntry) → c ≡ asked_start began l → duty_of c ≡ report_call began l
+    → IfOk r (λ answer. Answers (number_of old.client) c answer (acts_at old) (acts_at new)) → IfOk r (λ answer. Succeeds old c answer new)
+    → IfErr r (λ fault. (acts_at new ≡ acts_at old) × Fails old c fault new) → Reports old began l (is_ok r) new
+reports-start old new began l c (Ok answer) is duty made served failed =
+    (answer, made.mine_is ∙ ap (λ (d : Duty). acts_at old ++ entry_of (number_of old.client) d answer ∷ []) duty, subst (λ (k : Call). Succeeds old k answer new) is served)
+reports-start old new began l c (Err fault) is duty made served failed = failed.0
+
+-- a report of a delivery that made its entry
+pub serves-report : (old new : Post) (asked c : Call) (r : Result Reply NoEntry) → c ≡ asked → IfOk r (λ answer. Succeeds old c answer new) → is_ok r ≡ true → (answer : Reply) × Succeeds old asked answer new
+serves-report old new asked c (Ok answer) is served good = (answer, subst (λ (k : Call). Succeeds old k answer new) is served)
+serves-report old new asked c (Err fault) is served good = absurd (cc)
 
 -- a call that was not answered has a cause
 pub err-cause : (old new : Post) (c : Call) (P : Type 0) (r : Result Reply NoEntry) → IfErr r (λ fault. P × Fails old c fault new) → is_ok r ≡ false

@@ -143,9 +143,9 @@ report_tends n b s r launcher reaper at t = tends_entry launcher reaper at _ Non
     (λ h is. absurd (cc)) (λ h is. absurd (cc)) t
 
 -- a child that runs on
-poll_tends : {T : Type 0} (told : T → Option Told) (key : ℕ) (held : Held T) (launcher reaper : List Act) (old new : Slab (Held T)) (hand : Option Hand)
-    → RunsOn told key held old new → Tends launcher reaper (get old) hand → Tends launcher reaper (get new) hand
-poll_tends {T = T} told key held launcher reaper old new hand r t = tends_mapped launcher reaper (get old) (get new) hand (λ k h is. (elim (update_cases old new key _ r.updates k h is) [
+poll_tends : {T : Type 0} (told : T → Option Told) (faults : T → ℕ) (key : ℕ) (held : Held T) (launcher reaper : List Act) (old new : Slab (Held T)) (hand : Option Hand)
+    → RunsOn told faults key held old new → Tends launcher reaper (get old) hand → Tends launcher reaper (get new) hand
+poll_tends {T = T} told faults key held launcher reaper old new hand r t = tends_mapped launcher reaper (get old) (get new) hand (λ k h is. (elim (update_cases old new key _ r.updates k h is) [
   | inl here ↦ (held, ap (get old) here.0 ∙ r.there, ap (λ (x : Held T). x.job) (some_is _ _ here.1), ap (λ (x : Held T). x.attempt) (some_is _ _ here.1))
   | inr other ↦ (h, other.1, refl, refl)
 ])) t
@@ -347,9 +347,9 @@ report_tells told starts fate n b s r launcher reaper at t = record {
   faults = each_more (IsFault starts fate) reaper (entry_of n (signal_report b s) r) t.faults (report_fault starts fate b s (λ e. t.failing _ refl (ap Some e)));
 }
 
-poll_tells : {T : Type 0} (told : T → Option Told) (starts : List Asked) (fate : ℕ → Fate) (key : ℕ) (held : Held T) (launcher reaper : List Act) (old new : Slab (Held T)) (hand : Option Hand)
-    → RunsOn told key held old new → Tells told starts fate launcher reaper (get old) hand → Tells told starts fate launcher reaper (get new) hand
-poll_tells {T = T} told starts fate key held launcher reaper old new hand r t = record {
+poll_tells : {T : Type 0} (told : T → Option Told) (faults : T → ℕ) (starts : List Asked) (fate : ℕ → Fate) (key : ℕ) (held : Held T) (launcher reaper : List Act) (old new : Slab (Held T)) (hand : Option Hand)
+    → RunsOn told faults key held old new → Tells told starts fate launcher reaper (get old) hand → Tells told starts fate launcher reaper (get new) hand
+poll_tells {T = T} told faults starts fate key held launcher reaper old new hand r t = record {
   asked = t.asked;
   children = λ k h is. (elim (update_cases old new key _ r.updates k h is) [
     | inl here ↦ subst (λ (x : Held T). IsChild starts fate x.job x.attempt (is_killed x.job x.attempt reaper || hand_kills hand x.job x.attempt) (told x.child)) (some_is _ _ here.1)
@@ -373,7 +373,7 @@ without_kills b job attempt (Some g) other m apart =
 
 end_fault : {T : Type 0} (told : T → Option Told) (faults : T → ℕ) (starts : List Asked) (fate : ℕ → Fate) (child : T) (job : JobId) (attempt : ℕ) (killed : Bool) (x : Option Exit)
     → SeenEnd told faults child x → IsChild starts fate job attempt killed (told child) → FaultTells starts fate (end_call job attempt x)
-end_fault told faults starts fate child job attempt killed None seen c = child_fated FailsPoll starts fate job attempt killed (told child) c seen.0
+end_fault told faults starts fate child job attempt killed None seen c = child_fated FailsPoll starts fate job attempt killed (told child) c seen.named
 end_fault told faults starts fate child job attempt killed (Some x) seen c = tt
 
 -- what a child tells that is still there, once the order in hand may have been dropped
@@ -605,8 +605,8 @@ polling_running told faults key reaper old new hand (inl n) = record {
 polling_running told faults key reaper old new hand (inr r) = record {
   keeping = record {
     keeps = λ launcher asked fate k. record {
-      tends = poll_tends told key r.0 launcher reaper old new hand r.1 k.tends;
-      tells = IfSome_then asked k.tells (λ starts t. poll_tells told starts fate key r.0 launcher reaper old new hand r.1 t);
+      tends = poll_tends told faults key r.0 launcher reaper old new hand r.1 k.tends;
+      tells = IfSome_then asked k.tells (λ starts t. poll_tells told faults starts fate key r.0 launcher reaper old new hand r.1 t);
     };
   };
   unanswered = λ u. u;

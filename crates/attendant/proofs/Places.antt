@@ -1,6 +1,6 @@
 -- What the polls of a round come to, place by place.
-use Rattle.std.proofs.Common.{◌≡◌, inl, inr, ℕ, ◌+◌, Bool, true, false, ◌||◌, ◌&&◌, cond, List, [], ◌∷◌, ◌++◌, length, Option, Some, None, refl, sym, ap, ◌∙◌, subst, append_assoc, append-nil, arith, ◌≤◌, ◌<◌, ◌-◌, min, leb, eqb, length-append}
-use Rattle.std.specs.Prelude.{IsOk, Result, IfOk, IfErr, IfSome, is_none, unwrap_or, ◌^◌}
+use Rattle.std.proofs.Common.{◌≡◌, ◌⊎◌, inl, inr, ℕ, ◌+◌, Bool, true, false, ◌||◌, ◌&&◌, cond, List, [], ◌∷◌, ◌++◌, length, Option, Some, None, refl, sym, ap, ◌∙◌, subst, append_assoc, append-nil, arith, ◌≤◌, ◌<◌, ◌-◌, min, leb, eqb, length-append}
+use Rattle.std.specs.Prelude.{IsOk, Result, Ok, Err, IfOk, IfErr, IfSome, is_none, unwrap_or, ◌^◌}
 use Rattle.std.proofs.lemmas.Option.{IfSome_then}
 use Rattle.std.specs.List.{AllByRecursion}
 use Rattle.std.proofs.lemmas.Bool.{and_parts, and_from, leb-true, leb-false, eqb-true, eqb-false}
@@ -22,7 +22,7 @@ use Rattle.attendant.specs.Acts.{Act, is_run}
 use Rattle.attendant.specs.Posts.{Post, acts_at, IsStillAt, Fails}
 use Rattle.attendant.specs.Runs.{is_end_report, is_ended}
 use Rattle.attendant.specs.Steps.{entry_of}
-use Rattle.attendant.specs.Rounds.{Leaves, PollSteps, end_call, asked_end, is_over, hand_without, EndReports, IsPolled, IsEndOf, HasLeft, KeepsOrder, OrderAfter, PollsPlaces, LosesEnd, PollsAll}
+use Rattle.attendant.specs.Rounds.{Leaves, PollSteps, end_call, asked_end, is_over, hand_without, EndReports, IsPolled, IsEndOf, HasLeft, KeepsOrder, OrderAfter, PollsPlaces, LosesEnd, PollsAll, IsEndIn, ReportsEach}
 use Rattle.attendant.proofs.Desks.{still-same, still-free, fails-on, fails-from}
 use Rattle.attendant.proofs.Entries.{not_true, or_false, or_true, any_kept, run_same, some_is}
 use Rattle.attendant.proofs.Launches.{run_refl}
@@ -43,7 +43,7 @@ none_stays told faults None None p is = refl
 none_stays told faults None (Some h) p is = absurd p
 none_stays told faults (Some h) b p is = absurd (none_some h (sym is))
 
-ends_mono : {T : Type 0} (told : T → Option Told) (faults : T → ℕ) (at now later : ℕ → Option (Held T)) (es : List Act) → ((k : ℕ) → now k ≡ None → later k ≡ None)
+pub ends_mono : {T : Type 0} (told : T → Option Told) (faults : T → ℕ) (at now later : ℕ → Option (Held T)) (es : List Act) → ((k : ℕ) → now k ≡ None → later k ≡ None)
     → AllByRecursion (IsEndOf told faults at now) es → AllByRecursion (IsEndOf told faults at later) es
 ends_mono told faults at now later [] gone all = tt
 ends_mono told faults at now later (e ∷ es) gone all = (
@@ -51,7 +51,7 @@ ends_mono told faults at now later (e ∷ es) gone all = (
   ends_mono told faults at now later es gone all.1,
 )
 
-ends_back : {T : Type 0} (told : T → Option Told) (faults : T → ℕ) (first at now : ℕ → Option (Held T)) (es : List Act) → ((k : ℕ) (h : Held T) → at k ≡ Some h → now k ≡ None → first k ≡ Some h)
+pub ends_back : {T : Type 0} (told : T → Option Told) (faults : T → ℕ) (first at now : ℕ → Option (Held T)) (es : List Act) → ((k : ℕ) (h : Held T) → at k ≡ Some h → now k ≡ None → first k ≡ Some h)
     → AllByRecursion (IsEndOf told faults at now) es → AllByRecursion (IsEndOf told faults first now) es
 ends_back told faults first at now [] back all = tt
 ends_back told faults first at now (e ∷ es) back all = (
@@ -59,7 +59,7 @@ ends_back told faults first at now (e ∷ es) back all = (
   ends_back told faults first at now es back all.1,
 )
 
-all_append : (P : Act → Type 0) (xs ys : List Act) → AllByRecursion P xs → AllByRecursion P ys → AllByRecursion P (xs ++ ys)
+pub all_append : (P : Act → Type 0) (xs ys : List Act) → AllByRecursion P xs → AllByRecursion P ys → AllByRecursion P (xs ++ ys)
 all_append P [] ys a b = b
 all_append P (x ∷ xs) ys a b = (a.0, all_append P xs ys a.1 b)
 
@@ -159,14 +159,14 @@ gone_on told faults from to mine mine2 at now hand hand2 count Clean p k none =
       ]) refl
     ]) refl
 
-whole_on : {T : Type 0} (h : Held T) (xs ys : List Act) (o : Option (Held T)) → (o ≡ None → is_ended h.job h.attempt xs ≡ true) → ((i : Held T) → o ≡ Some i → is_ended h.job h.attempt ys ≡ true)
+pub whole_on : {T : Type 0} (h : Held T) (xs ys : List Act) (o : Option (Held T)) → (o ≡ None → is_ended h.job h.attempt xs ≡ true) → ((i : Held T) → o ≡ Some i → is_ended h.job h.attempt ys ≡ true)
     → (o ≡ o) → is_ended h.job h.attempt (xs ++ ys) ≡ true
 whole_on h xs ys None a b same = any_kept (λ (e : Act). is_end_report h.job h.attempt e.call) xs ys (a refl)
 whole_on h xs ys (Some i) a b same = list_any-append (λ (e : Act). is_end_report h.job h.attempt e.call) xs ys ∙ ap (λ (t : Bool). is_ended h.job h.attempt xs || t) (b i refl) ∙ or_true _
 
-record SameRun {T : Type 0} (i h : Held T) : Type 0 where
-  of_job : i.job ≡ h.job
-  of_attempt : i.attempt ≡ h.attempt
+pub record SameRun {T : Type 0} (i h : Held T) : Type 0 where
+  pub of_job : i.job ≡ h.job
+  pub of_attempt : i.attempt ≡ h.attempt
 
 polled_same : {T : Type 0} (told : T → Option Told) (faults : T → ℕ) (h i : Held T) (a b : Option (Held T)) → IsPolled told faults a b → a ≡ Some h → b ≡ Some i → SameRun i h
 polled_same told faults h i None b p is at = absurd (none_some h is)
@@ -179,7 +179,7 @@ polled_same {T = T} told faults h i (Some x) (Some y) p is at = record {
 same_run : {T : Type 0} (h i : Held T) → i ≡ h → SameRun i h
 same_run {T = T} h i e = record { of_job = ap (λ (z : Held T). z.job) e; of_attempt = ap (λ (z : Held T). z.attempt) e }
 
-kept_run : {T : Type 0} (told : T → Option Told) (faults : T → ℕ) (from to : ℕ) (mine mine2 : List Act) (at now : ℕ → Option (Held T)) (hand hand2 : Option Hand) (count : ℕ) (Clean : Type 0) → PollsPlaces told faults from to mine mine2 at now hand hand2 count Clean
+pub kept_run : {T : Type 0} (told : T → Option Told) (faults : T → ℕ) (from to : ℕ) (mine mine2 : List Act) (at now : ℕ → Option (Held T)) (hand hand2 : Option Hand) (count : ℕ) (Clean : Type 0) → PollsPlaces told faults from to mine mine2 at now hand hand2 count Clean
     → (k : ℕ) (h i : Held T) → at k ≡ Some h → now k ≡ Some i → SameRun i h
 kept_run told faults from to mine mine2 at now hand hand2 count Clean p k h i is there =
     (elim (leb from k) as (λ b. leb from k ≡ b → SameRun i h) [
@@ -245,7 +245,7 @@ order_steps told a0 a1 a2 first second (Some h) h1 h2 early late kept (inr d) l 
 })
 
 -- two stretches of polls
-order_both : {T : Type 0} (told : T → Option Told) (faults : T → ℕ) (from mid to : ℕ) (m0 m1 m2 : List Act) (a0 a1 a2 : ℕ → Option (Held T)) (h0 h1 h2 : Option Hand) (c d : ℕ) (C D : Type 0)
+pub order_both : {T : Type 0} (told : T → Option Told) (faults : T → ℕ) (from mid to : ℕ) (m0 m1 m2 : List Act) (a0 a1 a2 : ℕ → Option (Held T)) (h0 h1 h2 : Option Hand) (c d : ℕ) (C D : Type 0)
     → (p : PollsPlaces told faults from mid m0 m1 a0 a1 h0 h1 c C) → (q : PollsPlaces told faults mid to m1 m2 a1 a2 h1 h2 d D) → OrderAfter (p.added ++ q.added) a0 a2 h0 h2
 order_both told faults from mid to m0 m1 m2 a0 a1 a2 h0 h1 h2 c d C D p q = order_steps told a0 a1 a2 p.added q.added h0 h1 h2
     (gone_on told faults from mid m0 m1 a0 a1 h0 h1 c C p) (gone_on told faults mid to m1 m2 a1 a2 h1 h2 d D q) (kept_run told faults from mid m0 m1 a0 a1 h0 h1 c C p) p.order q.order
@@ -259,7 +259,7 @@ back_on told faults from mid to m0 m1 m2 a0 a1 a2 h0 h1 h2 c d C D p q k h there
       | false ↦ λ is. absurd (none_some h (sym left ∙ q.before k (let g = leb-false mid k is in omega arith) ∙ there))
     ]) refl
 
-pub places_on : {T : Type 0} (told : T → Option Told) (faults : T → ℕ) (from mid to : ℕ) (m0 m1 m2 : List Act) (a0 a1 a2 : ℕ → Option (Held T)) (h0 h1 h2 : Option Hand) (c d : ℕ) (C D E : Type 0) → from ≤ mid → mid ≤ to → (E → C) → (E → D)
+abbrev pub places_on : {T : Type 0} (told : T → Option Told) (faults : T → ℕ) (from mid to : ℕ) (m0 m1 m2 : List Act) (a0 a1 a2 : ℕ → Option (Held T)) (h0 h1 h2 : Option Hand) (c d : ℕ) (C D E : Type 0) → from ≤ mid → mid ≤ to → (E → C) → (E → D)
     → PollsPlaces told faults from mid m0 m1 a0 a1 h0 h1 c C → PollsPlaces told faults mid to m1 m2 a1 a2 h1 h2 d D → PollsPlaces told faults from to m0 m2 a0 a2 h0 h2 (c + d) E
 places_on told faults from mid to m0 m1 m2 a0 a1 a2 h0 h1 h2 c d C D E low high left right p q = record {
   polled = λ k above below. (elim (leb mid k) as (λ b. leb mid k ≡ b → IsPolled told faults (a0 k) (a2 k)) [
@@ -318,7 +318,7 @@ place_running {T = T} told faults key mine old new hand Clean (inl n) =
 place_running {T = T} told faults key mine old new hand Clean (inr r) =
     place_is told faults key mine mine old new [] _ r.1.updates
     (subst (λ (o : Option (Held T)). IsPolled told faults o (get new key)) (sym r.1.there)
-    (subst (λ (o : Option (Held T)). IsPolled told faults (Some r.0) o) (sym r.1.updates.changed) (record { of_job = refl; of_attempt = refl; told_is = r.1.told_is }))) (sym (append-nil mine)) tt Clean (λ clean h is gone. absurd (none_some (record r.0 { child = r.1.child }) (sym gone ∙ r.1.updates.changed)))
+    (subst (λ (o : Option (Held T)). IsPolled told faults (Some r.0) o) (sym r.1.updates.changed) (record { of_job = refl; of_attempt = refl; told_is = r.1.told_is; counted = r.1.counted }))) (sym (append-nil mine)) tt Clean (λ clean h is gone. absurd (none_some (record r.0 { child = r.1.child }) (sym gone ∙ r.1.updates.changed)))
     hand hand (order_same (get old) (get new) hand (λ k h there left. stays_on key _ old new r.1.updates k h there left))
 
 pub place_ended : {T : Type 0} (told : T → Option Told) (faults : T → ℕ) (n : ℕ) (key : ℕ) (job : JobId) (attempt : ℕ) (x : Option Exit) (mine mine2 : List Act) (old new : Slab (Held T)) (hand hand2 : Option Hand)
@@ -349,7 +349,7 @@ place_lost told faults n key job attempt x mine mine2 old new hand hand2 l Clean
     hand hand2 (order_lost told faults key job attempt x old new hand hand2 l e.1)
 
 -- with another condition for a clean stretch
-pub places_as : {T : Type 0} (told : T → Option Told) (faults : T → ℕ) (from to : ℕ) (mine mine2 : List Act) (at now : ℕ → Option (Held T)) (hand hand2 : Option Hand) (count : ℕ) (C D : Type 0) → (D → C)
+abbrev pub places_as : {T : Type 0} (told : T → Option Told) (faults : T → ℕ) (from to : ℕ) (mine mine2 : List Act) (at now : ℕ → Option (Held T)) (hand hand2 : Option Hand) (count : ℕ) (C D : Type 0) → (D → C)
     → PollsPlaces told faults from to mine mine2 at now hand hand2 count C → PollsPlaces told faults from to mine mine2 at now hand hand2 count D
 places_as told faults from to mine mine2 at now hand hand2 count C D given p = record {
   polled = p.polled;
@@ -371,9 +371,9 @@ count_same r2 reports count u m a b d = omega arith
 
 -- where all places are polled
 pub polls_all : {T : Type 0} (told : T → Option Told) (faults : T → ℕ) (to : ℕ) (before after : Post) (old new : Slab (Held T)) (hand hand2 : Option Hand) (count : ℕ) (r : Result ℕ Refusal)
-    → length old.slots ≤ to → PollsPlaces told faults 0 to (acts_at before) (acts_at after) (get old) (get new) hand hand2 count (IsOk r) → IfOk r (λ n. n ≡ min count (2 ^ 32 - 1))
-    → IfErr r (LosesEnd told faults before after (get old) (get new)) → PollsAll told faults before after (get old) (get new) hand hand2 r
-polls_all {T = T} told faults to before after old new hand hand2 count r within p counted lost = record {
+    → length old.slots ≤ to → (p : PollsPlaces told faults 0 to (acts_at before) (acts_at after) (get old) (get new) hand hand2 count (IsOk r)) → IfOk r (λ n. n ≡ min count (2 ^ 32 - 1))
+    → IfErr r (LosesEnd told faults before after (get old) (get new)) → ReportsEach told faults before after (get old) (get new) p.added → PollsAll told faults before after (get old) (get new) hand hand2 r
+polls_all {T = T} told faults to before after old new hand hand2 count r within p counted lost all = record {
   polled = λ k. (elim (leb to k) as (λ b. leb to k ≡ b → IsPolled told faults (get old k) (get new k)) [
     | false ↦ λ low. p.polled k (omega arith) (let h = leb-false to k low in omega arith)
     | true ↦ λ high. (let h = leb-true to k high in let none : get old k ≡ None = get_or_past old.slots k None (omega arith) in
@@ -386,41 +386,129 @@ polls_all {T = T} told faults to before after old new hand hand2 count r within 
   whole = p.whole;
   counted = subst (λ (n : ℕ). IfOk r (λ m. m ≡ min n (2 ^ 32 - 1))) p.counted counted;
   lost = lost;
+  all = all;
 }
 
 -- ---- an end that was not reported
 
-pub loses_later : {T : Type 0} (told : T → Option Told) (faults : T → ℕ) (first old new : Post) (at now later : ℕ → Option (Held T)) (why : Refusal)
-    → IsStillAt old new → ((k : ℕ) → now k ≡ None → later k ≡ None) → LosesEnd told faults first old at now why → LosesEnd told faults first new at later why
-loses_later told faults first old new at now later why still gone l = record {
-  key = l.key;
-  held = l.held;
-  there = l.there;
-  left = gone l.key l.left;
-  exit = l.exit;
-  seen = l.seen;
-  fault = l.fault;
-  fails = fails-on first old new _ _ l.fails still;
-  wants = l.wants;
-}
+abbrev lower_ends : {T : Type 0} → (T → Option Told) → (T → ℕ) → (ℕ → Option (Held T)) → (ℕ → Option (Held T)) → ℕ → List Act → Type 0
+lower_ends told faults at now key es = AllByRecursion (IsEndIn told faults at now (λ k. k < key)) es
 
-pub loses_early : {T : Type 0} (told : T → Option Told) (faults : T → ℕ) (first old new : Post) (at now later : ℕ → Option (Held T)) (why : Refusal)
-    → IsStillAt first old → ((k : ℕ) (h : Held T) → now k ≡ Some h → later k ≡ None → at k ≡ Some h) → LosesEnd told faults old new now later why → LosesEnd told faults first new at later why
-loses_early told faults first old new at now later why still back l = record {
-  key = l.key;
-  held = l.held;
-  there = back l.key l.held l.there l.left;
-  left = l.left;
-  exit = l.exit;
-  seen = l.seen;
-  fault = l.fault;
-  fails = fails-from first old new _ _ still l.fails;
-  wants = l.wants;
-}
+abbrev higher_ends : {T : Type 0} → (T → Option Told) → (T → ℕ) → (ℕ → Option (Held T)) → (ℕ → Option (Held T)) → ℕ → List Act → Type 0
+higher_ends told faults at now key es = AllByRecursion (IsEndIn told faults at now (λ k. key < k)) es
+
+-- a child that leaves while some places are polled has one of these
+below_to : {T : Type 0} (told : T → Option Told) (faults : T → ℕ) (from to : ℕ) (mine mine2 : List Act) (at now : ℕ → Option (Held T)) (hand hand2 : Option Hand) (count : ℕ) (Clean : Type 0)
+    → PollsPlaces told faults from to mine mine2 at now hand hand2 count Clean → (k : ℕ) (h : Held T) → at k ≡ Some h → now k ≡ None → k < to
+below_to told faults from to mine mine2 at now hand hand2 count Clean p k h there left =
+    (elim (leb to k) as (λ b. leb to k ≡ b → k < to) [
+      | true ↦ λ is. absurd (none_some h (sym left ∙ p.after k (leb-true to k is) ∙ there))
+      | false ↦ λ is. (let g = leb-false to k is in omega arith)
+    ]) refl
+
+not_below : {T : Type 0} (told : T → Option Told) (faults : T → ℕ) (from to : ℕ) (mine mine2 : List Act) (at now : ℕ → Option (Held T)) (hand hand2 : Option Hand) (count : ℕ) (Clean : Type 0)
+    → PollsPlaces told faults from to mine mine2 at now hand hand2 count Clean → (k : ℕ) (h : Held T) → at k ≡ Some h → now k ≡ None → from ≤ k
+not_below told faults from to mine mine2 at now hand hand2 count Clean p k h there left =
+    (elim (leb from k) as (λ b. leb from k ≡ b → from ≤ k) [
+      | true ↦ λ is. leb-true from k is
+      | false ↦ λ is. absurd (none_some h (sym left ∙ p.before k (let g = leb-false from k is in omega arith) ∙ there))
+    ]) refl
+
+in_mono : {T : Type 0} (told : T → Option Told) (faults : T → ℕ) (at now later : ℕ → Option (Held T)) (Here : ℕ → Type 0) (es : List Act) → ((k : ℕ) → now k ≡ None → later k ≡ None)
+    → AllByRecursion (IsEndIn told faults at now Here) es → AllByRecursion (IsEndIn told faults at later Here) es
+in_mono told faults at now later Here [] gone all = tt
+in_mono told faults at now later Here (e ∷ es) gone all = (
+  record {
+    reports = record { key = all.0.reports.key; held = all.0.reports.held; there = all.0.reports.there; left = gone all.0.reports.key all.0.reports.left; exit = all.0.reports.exit; seen = all.0.reports.seen; call = all.0.reports.call };
+    here = all.0.here;
+  },
+  in_mono told faults at now later Here es gone all.1,
+)
+
+in_back : {T : Type 0} (told : T → Option Told) (faults : T → ℕ) (first at now : ℕ → Option (Held T)) (Here : ℕ → Type 0) (es : List Act) → ((k : ℕ) (h : Held T) → at k ≡ Some h → now k ≡ None → first k ≡ Some h)
+    → AllByRecursion (IsEndIn told faults at now Here) es → AllByRecursion (IsEndIn told faults first now Here) es
+in_back told faults first at now Here [] back all = tt
+in_back told faults first at now Here (e ∷ es) back all = (
+  record {
+    reports = record { key = all.0.reports.key; held = all.0.reports.held; there = back all.0.reports.key all.0.reports.held all.0.reports.there all.0.reports.left; left = all.0.reports.left; exit = all.0.reports.exit; seen = all.0.reports.seen; call = all.0.reports.call };
+    here = all.0.here;
+  },
+  in_back told faults first at now Here es back all.1,
+)
+
+in_here : {T : Type 0} (told : T → Option Told) (faults : T → ℕ) (at now : ℕ → Option (Held T)) (Here : ℕ → Type 0) (es : List Act) → ((k : ℕ) (h : Held T) → at k ≡ Some h → now k ≡ None → Here k)
+    → AllByRecursion (IsEndOf told faults at now) es → AllByRecursion (IsEndIn told faults at now Here) es
+in_here told faults at now Here [] here all = tt
+in_here told faults at now Here (e ∷ es) here all = (
+  record { reports = all.0; here = here all.0.key all.0.held all.0.there all.0.left },
+  in_here told faults at now Here es here all.1,
+)
+
+-- in two stretches of polls: an end that was lost in the first
+pub loses_later : {T : Type 0} (told : T → Option Told) (faults : T → ℕ) (from mid to : ℕ) (first old new : Post) (a0 a1 a2 : ℕ → Option (Held T)) (h0 h1 h2 : Option Hand) (c d : ℕ) (C D : Type 0) (why : Refusal)
+    → IsStillAt old new → PollsPlaces told faults from mid (acts_at first) (acts_at old) a0 a1 h0 h1 c C → PollsPlaces told faults mid to (acts_at old) (acts_at new) a1 a2 h1 h2 d D
+    → (l : LosesEnd told faults first old a0 a1 why) → (m : LosesEnd told faults first new a0 a2 why) × (m.key ≡ l.key)
+loses_later {T = T} told faults from mid to first old new a0 a1 a2 h0 h1 h2 c d C D why still p q l =
+    let gone = gone_on told faults mid to (acts_at old) (acts_at new) a1 a2 h1 h2 d D q in
+    let low : l.key < mid = below_to told faults from mid (acts_at first) (acts_at old) a0 a1 h0 h1 c C p l.key l.held l.there l.left in (
+      record {
+        key = l.key;
+        held = l.held;
+        there = l.there;
+        left = gone l.key l.left;
+        exit = l.exit;
+        seen = l.seen;
+        fault = l.fault;
+        fails = fails-on first old new _ _ l.fails still;
+        wants = l.wants;
+        front = l.front;
+        back = l.back ++ q.added;
+        behind = l.behind;
+        ahead = q.mine_is ∙ ap (λ (es : List Act). es ++ q.added) l.ahead ∙ append_assoc _ l.back q.added;
+        lower = in_mono told faults a0 a1 a2 (λ k. k < l.key) l.front gone l.lower;
+        higher = all_append (IsEndIn told faults a0 a2 (λ k. l.key < k)) l.back q.added
+            (in_mono told faults a0 a1 a2 (λ k. l.key < k) l.back gone l.higher)
+            (in_back told faults a0 a1 a2 (λ k. l.key < k) q.added (back_on told faults from mid to (acts_at first) (acts_at old) (acts_at new) a0 a1 a2 h0 h1 h2 c d C D p q)
+            (in_here told faults a1 a2 (λ k. l.key < k) q.added (λ k h there left. (let high = not_below told faults mid to (acts_at old) (acts_at new) a1 a2 h1 h2 d D q k h there left in omega arith)) q.ends));
+      },
+      refl,
+    )
+
+-- one that was lost in the second
+pub loses_early : {T : Type 0} (told : T → Option Told) (faults : T → ℕ) (from mid to : ℕ) (first old new : Post) (a0 a1 a2 : ℕ → Option (Held T)) (h0 h1 h2 : Option Hand) (c d : ℕ) (C D : Type 0) (why : Refusal)
+    → IsStillAt first old → PollsPlaces told faults from mid (acts_at first) (acts_at old) a0 a1 h0 h1 c C → PollsPlaces told faults mid to (acts_at old) (acts_at new) a1 a2 h1 h2 d D
+    → (l : LosesEnd told faults old new a1 a2 why) → (m : LosesEnd told faults first new a0 a2 why) × (m.key ≡ l.key)
+loses_early {T = T} told faults from mid to first old new a0 a1 a2 h0 h1 h2 c d C D why still p q l =
+    let gone = gone_on told faults mid to (acts_at old) (acts_at new) a1 a2 h1 h2 d D q in
+    let back = back_on told faults from mid to (acts_at first) (acts_at old) (acts_at new) a0 a1 a2 h0 h1 h2 c d C D p q in
+    let high : mid ≤ l.key = not_below told faults mid to (acts_at old) (acts_at new) a1 a2 h1 h2 d D q l.key l.held l.there l.left in (
+      record {
+        key = l.key;
+        held = l.held;
+        there = back l.key l.held l.there l.left;
+        left = l.left;
+        exit = l.exit;
+        seen = l.seen;
+        fault = l.fault;
+        fails = fails-from first old new _ _ still l.fails;
+        wants = l.wants;
+        front = p.added ++ l.front;
+        back = l.back;
+        behind = l.behind ∙ ap (λ (es : List Act). es ++ l.front) p.mine_is ∙ append_assoc _ p.added l.front;
+        ahead = l.ahead;
+        lower = all_append (IsEndIn told faults a0 a2 (λ k. k < l.key)) p.added l.front
+            (in_mono told faults a0 a1 a2 (λ k. k < l.key) p.added gone
+            (in_here told faults a0 a1 (λ k. k < l.key) p.added (λ k h there left. (let low = below_to told faults from mid (acts_at first) (acts_at old) a0 a1 h0 h1 c C p k h there left in omega arith)) p.ends))
+            (in_back told faults a0 a1 a2 (λ k. k < l.key) l.front back l.lower);
+        higher = in_back told faults a0 a1 a2 (λ k. l.key < k) l.back back l.higher;
+      },
+      refl,
+    )
 
 pub loses_one : {T : Type 0} (told : T → Option Told) (faults : T → ℕ) (key : ℕ) (job : JobId) (attempt : ℕ) (x : Option Exit) (before after : Post) (old new : Slab (Held T)) (fault : NoEntry)
-    → Leaves told faults key job attempt x old new → IsFree before.shared before.client → IsStillAt before after → Fails before (asked_end job attempt x) fault after → LosesEnd told faults before after (get old) (get new) OutOfMemory
-loses_one told faults key job attempt x before after old new fault l free still f = record {
+    → Leaves told faults key job attempt x old new → IsFree before.shared before.client → IsStillAt before after → acts_at after ≡ acts_at before → Fails before (asked_end job attempt x) fault after
+    → LosesEnd told faults before after (get old) (get new) OutOfMemory
+loses_one told faults key job attempt x before after old new fault l free still same f = record {
   key = key;
   held = l.held;
   there = l.there;
@@ -436,6 +524,79 @@ loses_one told faults key job attempt x before after old new fault l free still 
     to_new = still-same after (still-free before after still);
   };
   wants = refl;
+  front = [];
+  back = [];
+  behind = sym (append-nil _);
+  ahead = sym (append-nil _);
+  lower = tt;
+  higher = tt;
+}
+
+-- ---- whether each end was reported
+
+-- a lost end is answered as want of memory alone
+lost_memory : {T : Type 0} (told : T → Option Told) (faults : T → ℕ) (old new : Post) (at now : ℕ → Option (Held T)) (why : Refusal) → (l : LosesEnd told faults old new at now why)
+    → (m : LosesEnd told faults old new at now OutOfMemory) × (m.key ≡ l.key)
+lost_memory told faults old new at now why l = (
+  record {
+    key = l.key;
+    held = l.held;
+    there = l.there;
+    left = l.left;
+    exit = l.exit;
+    seen = l.seen;
+    fault = l.fault;
+    fails = l.fails;
+    wants = refl;
+    front = l.front;
+    back = l.back;
+    behind = l.behind;
+    ahead = l.ahead;
+    lower = l.lower;
+    higher = l.higher;
+  },
+  refl,
+)
+
+-- one place
+each_one : {T : Type 0} (told : T → Option Told) (faults : T → ℕ) (key : ℕ) (old new : Post) (at now : ℕ → Option (Held T)) (hand hand2 : Option Hand) (count : ℕ) (r : Result ℕ Refusal)
+    → (p : PollsPlaces told faults key (key + 1) (acts_at old) (acts_at new) at now hand hand2 count (IsOk r)) → IfErr r (LosesEnd told faults old new at now) → ReportsEach told faults old new at now p.added
+each_one told faults key old new at now hand hand2 count (Ok n) p lost = record { each = λ k h there left. inl (p.whole refl k h there left) }
+each_one {T = T} told faults key old new at now hand hand2 count (Err why) p lost =
+    let m = lost_memory told faults old new at now why lost in
+    record {
+      each = λ k h there left. inr (
+        m.0,
+        (let a = below_to told faults key (key + 1) (acts_at old) (acts_at new) at now hand hand2 count _ p k h there left in
+            let b = not_below told faults key (key + 1) (acts_at old) (acts_at new) at now hand hand2 count _ p k h there left in
+            let c = below_to told faults key (key + 1) (acts_at old) (acts_at new) at now hand hand2 count _ p m.0.key m.0.held m.0.there m.0.left in
+            let d = not_below told faults key (key + 1) (acts_at old) (acts_at new) at now hand hand2 count _ p m.0.key m.0.held m.0.there m.0.left in
+            omega arith),
+      );
+    }
+
+-- no place
+pub each_none : {T : Type 0} (told : T → Option Told) (faults : T → ℕ) (old : Post) (at : ℕ → Option (Held T)) → ReportsEach told faults old old at at []
+each_none told faults old at = record { each = λ k h there left. absurd (none_some h (sym left ∙ there)) }
+
+-- one place more
+pub each_on : {T : Type 0} (told : T → Option Told) (faults : T → ℕ) (from key : ℕ) (first old new : Post) (a0 a1 a2 : ℕ → Option (Held T)) (h0 h1 h2 : Option Hand) (c d : ℕ) (C : Type 0) (r : Result ℕ Refusal)
+    → IsStillAt first old → IsStillAt old new
+    → (p : PollsPlaces told faults from key (acts_at first) (acts_at old) a0 a1 h0 h1 c C) → (q : PollsPlaces told faults key (key + 1) (acts_at old) (acts_at new) a1 a2 h1 h2 d (IsOk r))
+    → ReportsEach told faults first old a0 a1 p.added → IfErr r (LosesEnd told faults old new a1 a2) → ReportsEach told faults first new a0 a2 (p.added ++ q.added)
+each_on {T = T} told faults from key first old new a0 a1 a2 h0 h1 h2 c d C r early late p q before lost = record {
+  each = λ k h there left. (elim (a1 k) as (λ o. a1 k ≡ o → (is_ended h.job h.attempt (p.added ++ q.added) ≡ true) ⊎ ((l : LosesEnd told faults first new a0 a2 OutOfMemory) × (l.key ≡ k))) [
+    | None ↦ λ none. (elim (before.each k h there none) [
+      | inl ended ↦ inl (any_kept (λ (e : Act). is_end_report h.job h.attempt e.call) p.added q.added ended)
+      | inr l ↦ (let m = loses_later told faults from key (key + 1) first old new a0 a1 a2 h0 h1 h2 c d C (IsOk r) OutOfMemory late p q l.0 in inr (m.0, m.1 ∙ l.1))
+    ])
+    | Some i ↦ λ some. (elim ((each_one told faults key old new a1 a2 h1 h2 d r q lost).each k i some left) [
+      | inl ended ↦ (let same = kept_run told faults from key (acts_at first) (acts_at old) a0 a1 h0 h1 c C p k h i there some in
+          let is : is_ended h.job h.attempt q.added ≡ true = subst (λ (j : JobId). is_ended j h.attempt q.added ≡ true) same.of_job (subst (λ (n : ℕ). is_ended i.job n q.added ≡ true) same.of_attempt ended) in
+          inl (list_any-append (λ (e : Act). is_end_report h.job h.attempt e.call) p.added q.added ∙ ap (λ (t : Bool). is_ended h.job h.attempt p.added || t) is ∙ or_true _))
+      | inr l ↦ (let m = loses_early told faults from key (key + 1) first old new a0 a1 a2 h0 h1 h2 c d C (IsOk r) OutOfMemory early p q l.0 in inr (m.0, m.1 ∙ l.1))
+    ])
+  ]) refl;
 }
 
 -- ---- the refusal that was met first

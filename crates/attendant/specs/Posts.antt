@@ -4,11 +4,12 @@ use Rattle.drmaa_model.specs.declared.calls.Call.{Call}
 use Rattle.drmaa_model.specs.declared.configs.Config.{Config}
 use Rattle.drmaa_model.specs.declared.entries.Entry.{Entry}
 use Rattle.drmaa_model.specs.declared.faults.NoEntry.{NoEntry}
+use Rattle.drmaa_model.specs.declared.replies.Reply.{Reply}
 use Rattle.drmaa_model.specs.History.{IsLegal}
 use Rattle.turn_lock.specs.Histories.{BeginsWith}
 use Rattle.turn_lock.specs.Tokens.{Named, IsFree}
 use Rattle.call_history.specs.declared.desks.Desk.{Desk}
-use Rattle.call_history.specs.Calls.{IsUnserved}
+use Rattle.call_history.specs.Calls.{IsServed, IsUnserved}
 use Rattle.call_history.specs.Clients.{Seat, seen_of, mine_of, number_of, KnowsItsOwn}
 use Rattle.call_history.specs.Clocks.{Dial, dial}
 use Rattle.attendant.specs.Acts.{Act, own_acts}
@@ -55,6 +56,10 @@ pub record IsStillAt (old new : Post) : Type 0 where
   pub added : List Entry
   pub mine : mine_of new.client ≡ mine_of old.client ++ added
   pub timed : AreAmong readings (map (λ (e : Entry). e.at) added)
+
+-- A call made its one entry, with this reply, at the one reading of the clock.
+abbrev pub Succeeds : Post → Call → Reply → Post → Type 0
+Succeeds old asked reply new = IsServed old.clock old.client asked reply new.clock new.client
 
 -- A call made no entry: at the one reading of the clock the machine had no answer for it, after all that the client has now
 -- seen, for this cause.

@@ -1,6 +1,6 @@
 -- The steps of a round of the reaper.
 use Rattle.std.specs.List.{AllByRecursion}
-use Rattle.std.specs.Prelude.{◌≡◌, ◌⊎◌, ℕ, ◌+◌, ◌≤◌, ◌<◌, length, ◌-◌, ◌^◌, min, IfOk, IfErr, IsOk, Bool, true, false, ◌&&◌, ◌||◌, is_none, List, [], ◌∷◌, ◌++◌, Option, Some, None, IfSome, IsSome, Result, Ok, Err, is_ok, OnErr, option_map, if◌then◌else◌}
+use Rattle.std.specs.Prelude.{◌≡◌, ◌⊎◌, ℕ, ◌+◌, ◌≤◌, ◌<◌, length, ◌-◌, ◌^◌, min, IfOk, IfErr, IsOk, Bool, true, false, ◌&&◌, ◌||◌, is_none, List, [], ◌∷◌, ◌++◌, Option, Some, None, IfSome, IsSome, Result, Ok, Err, is_ok, OnOk, OnErr, option_map, if◌then◌else◌}
 use Rattle.drmaa_types.specs.declared.changes.Failed.{Failed}
 use Rattle.drmaa_types.specs.declared.identifiers.JobId.{JobId}
 use Rattle.drmaa_types.specs.declared.states.Exit.{Exit}
@@ -22,7 +22,7 @@ use Rattle.drmaa_model.specs.declared.replies.Reply.TheVariants as reply
 use Rattle.attendant.specs.Acts.{Act}
 use Rattle.drmaa_model.specs.declared.replies.Signal.{Signal}
 use Rattle.attendant.specs.Acts.{is_run}
-use Rattle.attendant.specs.Posts.{Post, acts_at, IsStillAt, Fails, FailsWithin}
+use Rattle.attendant.specs.Posts.{Post, acts_at, IsStillAt, Succeeds, Fails, FailsWithin}
 use Rattle.attendant.specs.declared.reaper.Held.{Held}
 use Rattle.attendant.specs.declared.reaper.Hand.{Hand}
 use Rattle.attendant.specs.declared.reaping.Polled.{Polled}
@@ -59,22 +59,36 @@ pub record Delivers {T : Type 0} (told : T → Option Told) (faults : T → ℕ)
   pub cause : OnErr answer (Rose (faults held.child) (faults child))
   pub hand_is : hand_after ≡ record hand { answer = Some (is_ok answer) }
   pub updates : Updates old new key (Some (record held { child = child }))
+  pub counted : OnOk answer (faults child ≡ faults held.child)
 
 -- there is no child at this place
 pub record IsEmpty {T : Type 0} (key : ℕ) (old new : Slab (Held T)) : Type 0 where
   pub none : get old key ≡ None
   pub same : SameValues old new
 
--- a child runs on
-pub record RunsOn {T : Type 0} (told : T → Option Told) (key : ℕ) (held : Held T) (old new : Slab (Held T)) : Type 0 where
+-- a child runs on: one poll was answered so, and none failed
+pub record RunsOn {T : Type 0} (told : T → Option Told) (faults : T → ℕ) (key : ℕ) (held : Held T) (old new : Slab (Held T)) : Type 0 where
   pub there : get old key ≡ Some held
   pub child : T
   pub told_is : told child ≡ option_map (after_poll (Ok None)) (told held.child)
   pub updates : Updates old new key (Some (record held { child = child }))
+  pub counted : faults child ≡ faults held.child
+
+-- the answer of a poll that failed
+abbrev pub failed_poll : Result (Option Exit) Failed
+failed_poll = Err (record {})
+
+-- A poll of a child failed: its count rose, and, where it tells, it tells after the poll what it told before, and its fate names
+-- a failing poll.
+pub record FailsToTell {T : Type 0} (told : T → Option Told) (faults : T → ℕ) (child : T) : Type 0 where
+  pub named : IfSome (told child) (λ c. IsSome c.fate.failing_poll)
+  pub after : T
+  pub rose : Rose (faults child) (faults after)
+  pub told_is : told after ≡ option_map (after_poll failed_poll) (told child)
 
 abbrev pub SeenEnd : {T : Type 0} → (T → Option Told) → (T → ℕ) → T → Option Exit → Type 0
 SeenEnd told faults child (Some x) = IfSome (told child) (λ c. x ≡ exit_of c)
-SeenEnd {T} told faults child None = IfSome (told child) (λ c. IsSome c.fate.failing_poll) × (after : T) × Rose (faults child) (faults after)
+SeenEnd told faults child None = FailsToTell told faults child
 
 -- a child that has ended, or whose end can't be learnt, leaves the list
 pub record Leaves {T : Type 0} (told : T → Option Told) (faults : T → ℕ) (key : ℕ) (job : JobId) (attempt : ℕ) (exit : Option Exit) (old new : Slab (Held T)) : Type 0 where
@@ -86,7 +100,7 @@ pub record Leaves {T : Type 0} (told : T → Option Told) (faults : T → ℕ) (
   pub updates : Updates old new key None
 
 abbrev pub PollSteps : {T : Type 0} → (T → Option Told) → (T → ℕ) → ℕ → Slab (Held T) → Slab (Held T) → Polled → Type 0
-PollSteps {T} told faults key old new Running = IsEmpty key old new ⊎ ((held : Held T) × RunsOn told key held old new)
+PollSteps {T} told faults key old new Running = IsEmpty key old new ⊎ ((held : Held T) × RunsOn told faults key held old new)
 PollSteps told faults key old new (Ended job attempt exit) = Leaves told faults key job attempt exit old new
 
 -- the report of an end
@@ -129,36 +143,38 @@ pub record IsRefusedBy (old : Post) (asked : Call) (new : Post) (why : Refusal) 
   pub fails : Fails old asked fault new
   pub stands : MayFail fault why
 
--- an order was taken
-pub record Took (number : ℕ) (mine mine_after : List Act) (hand_after : Option Hand) : Type 0 where
+-- an order was taken, by one call
+pub record Took (old new : Post) (hand_after : Option Hand) : Type 0 where
   pub signal : Signal
-  pub mine_is : mine_after ≡ mine ++ entry_of number TakeSignal (reply.Signal signal) ∷ []
+  pub mine_is : acts_at new ≡ acts_at old ++ entry_of (number_of old.client) TakeSignal (reply.Signal signal) ∷ []
   pub hand_is : hand_after ≡ Some (record { signal = signal; answer = None })
+  pub takes : Succeeds old call.TakeSignal (reply.Signal signal) new
 
 -- no order was taken: the machine has none to hand out, or it made no entry, and that is answered
 abbrev pub FindsNone : Post → Post → Result (Unit {0}) Refusal → Type 0
 FindsNone old new (Ok done) = Fails old call.TakeSignal no.Nothing new
 FindsNone old new (Err why) = IsRefusedBy old call.TakeSignal new why
 
--- what taking an order did: one was kept from before; or none was taken; or one was
+-- what taking an order did: one was kept from before, and nothing was asked; or none was taken; or one was
 abbrev pub TakeSteps : Post → Post → Option Hand → Option Hand → Result (Unit {0}) Refusal → Type 0
-TakeSteps old new (Some hand) hand_after result = (acts_at new ≡ acts_at old) × (hand_after ≡ Some hand) × IsOk result
+TakeSteps old new (Some hand) hand_after result = (acts_at new ≡ acts_at old) × (hand_after ≡ Some hand) × IsOk result × (new ≡ old)
 TakeSteps old new None hand_after result =
     ((acts_at new ≡ acts_at old) × (hand_after ≡ None) × FindsNone old new result)
-    ⊎ (Took (number_of old.client) (acts_at old) (acts_at new) hand_after × IsOk result)
+    ⊎ (Took old new hand_after × IsOk result)
 
 -- a child that was polled and runs on
-pub record RanOn {T : Type 0} (told : T → Option Told) (before after : Held T) : Type 0 where
+pub record RanOn {T : Type 0} (told : T → Option Told) (faults : T → ℕ) (before after : Held T) : Type 0 where
   pub of_job : after.job ≡ before.job
   pub of_attempt : after.attempt ≡ before.attempt
   pub told_is : told after.child ≡ option_map (after_poll (Ok None)) (told before.child)
+  pub counted : faults after.child ≡ faults before.child
 
 -- a place before and after a poll: the child there was polled once, and left where its end was seen
 abbrev pub IsPolled : {T : Type 0} → (T → Option Told) → (T → ℕ) → Option (Held T) → Option (Held T) → Type 0
 IsPolled told faults None None = Unit {0}
 IsPolled told faults None (Some after) = ⊥
 IsPolled told faults (Some before) None = (exit : Option Exit) × SeenEnd told faults before.child exit
-IsPolled told faults (Some before) (Some after) = RanOn told before after
+IsPolled told faults (Some before) (Some after) = RanOn told faults before after
 
 -- an entry that reports the end that was seen of a child which has left
 pub record IsEndOf {T : Type 0} (told : T → Option Told) (faults : T → ℕ) (at now : ℕ → Option (Held T)) (e : Act) : Type 0 where
@@ -207,7 +223,13 @@ pub record PollsPlaces {T : Type 0} (told : T → Option Told) (faults : T → �
   -- where no report was lost, the end of each child that left is among them
   pub whole : Clean → (k : ℕ) (h : Held T) → at k ≡ Some h → now k ≡ None → is_ended h.job h.attempt added ≡ true
 
--- The end of a child that has left was seen, but its report made no entry: that is answered as want of memory.
+-- such an entry, of a child in one of these places
+pub record IsEndIn {T : Type 0} (told : T → Option Told) (faults : T → ℕ) (at now : ℕ → Option (Held T)) (Here : ℕ → Type 0) (e : Act) : Type 0 where
+  pub reports : IsEndOf told faults at now e
+  pub here : Here reports.key
+
+-- The end of a child that has left was seen, but its report made no entry: that is answered as want of memory. The report was
+-- asked for in its place: after those of children in lower places, and before those of children in higher ones.
 pub record LosesEnd {T : Type 0} (told : T → Option Told) (faults : T → ℕ) (old new : Post) (at now : ℕ → Option (Held T)) (why : Refusal) : Type 0 where
   pub key : ℕ
   pub held : Held T
@@ -218,6 +240,17 @@ pub record LosesEnd {T : Type 0} (told : T → Option Told) (faults : T → ℕ)
   pub fault : NoEntry
   pub fails : FailsWithin old (asked_end held.job held.attempt exit) fault new
   pub wants : why ≡ OutOfMemory
+  pub front : List Act
+  pub back : List Act
+  pub behind : acts_at fails.before ≡ acts_at old ++ front
+  pub ahead : acts_at new ≡ acts_at fails.after ++ back
+  pub lower : AllByRecursion (IsEndIn told faults at now (λ k. k < key)) front
+  pub higher : AllByRecursion (IsEndIn told faults at now (λ k. key < k)) back
+
+-- The end of each child that has left is among these reports, or its own report made no entry.
+pub record ReportsEach {T : Type 0} (told : T → Option Told) (faults : T → ℕ) (old new : Post) (at now : ℕ → Option (Held T)) (added : List Act) : Type 0 where
+  pub each : (k : ℕ) (h : Held T) → at k ≡ Some h → now k ≡ None →
+      (is_ended h.job h.attempt added ≡ true) ⊎ ((l : LosesEnd told faults old new at now OutOfMemory) × (l.key ≡ k))
 
 -- Every child was polled once. The answer is the number of ends that were reported, up to the greatest count.
 pub record PollsAll {T : Type 0} (told : T → Option Told) (faults : T → ℕ) (old new : Post) (at now : ℕ → Option (Held T)) (hand hand_after : Option Hand) (result : Result ℕ Refusal) : Type 0 where
@@ -229,12 +262,14 @@ pub record PollsAll {T : Type 0} (told : T → Option Told) (faults : T → ℕ)
   pub order : OrderAfter added at now hand hand_after
   pub whole : IsOk result → (k : ℕ) (h : Held T) → at k ≡ Some h → now k ≡ None → is_ended h.job h.attempt added ≡ true
   pub lost : IfErr result (LosesEnd told faults old new at now)
+  pub all : ReportsEach told faults old new at now added
 
--- what is made of the answer of a delivery
+-- what is made of the answer of a delivery: it is reported by one call, and where there is none nothing is asked
 abbrev pub ReportSteps : Post → Post → Hand → Option Bool → Option Hand → Result ℕ Refusal → Type 0
-ReportSteps old new h None hand_after result = (acts_at new ≡ acts_at old) × (hand_after ≡ Some h) × (result ≡ Ok 0)
+ReportSteps old new h None hand_after result = (acts_at new ≡ acts_at old) × (hand_after ≡ Some h) × (result ≡ Ok 0) × (new ≡ old)
 ReportSteps old new h (Some answer) hand_after (Ok n) =
     SignalReports (number_of old.client) answer h.signal true (acts_at old) (acts_at new) × (hand_after ≡ None) × (n ≡ 1)
+    × ((r : Reply) × Succeeds old (asked_signal answer h.signal) r new)
 ReportSteps old new h (Some answer) hand_after (Err why) =
     (acts_at new ≡ acts_at old) × (hand_after ≡ Some h) × IsRefusedBy old (asked_signal answer h.signal) new why
 
@@ -245,11 +280,12 @@ pub record ServesHand {T : Type 0} (told : T → Option Told) (faults : T → �
   pub serves : Serves told faults hand delivered children children_after
   pub reports : ReportSteps old new delivered delivered.answer hand_after result
 
--- with no order in hand nothing is done
+-- with no order in hand nothing is done, and nothing asked
 pub record ServesNone {T : Type 0} (old new : Post) (children children_after : Slab (Held T)) (hand_after : Option Hand) : Type 0 where
   pub mine_is : acts_at new ≡ acts_at old
   pub hand_is : hand_after ≡ None
   pub same : SameValues children children_after
+  pub unasked : new ≡ old
 
 abbrev pub ServesTaken : {T : Type 0} → (T → Option Told) → (T → ℕ) → Post → Post → Option Hand → Result (Unit {0}) Refusal → Slab (Held T) → Slab (Held T) → Option Hand → Result ℕ Refusal → Type 0
 ServesTaken told faults old new None (Ok done) children children_after hand_after result = ServesNone old new children children_after hand_after × (result ≡ Ok 0)

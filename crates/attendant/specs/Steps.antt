@@ -7,11 +7,12 @@ use Rattle.child_spawner.specs.declared.fates.Asked.{Asked}
 use Rattle.child_spawner.specs.declared.fates.Fate.{Fate}
 use Rattle.child_spawner.specs.Children.{Told, started_child}
 use Rattle.child_spawner.specs.Spawners.{Asks}
+use Rattle.drmaa_types.specs.Counts.{Rose}
 use Rattle.slab.specs.Slab.{Slab, get, SameValues, Updates}
 use Rattle.drmaa_model.specs.declared.calls.Call.{Call}
 use Rattle.drmaa_model.specs.declared.calls.Call.TheVariants as call
 use Rattle.attendant.specs.Acts.{Act, Duty, TakeLaunch, Started, StartFailed, Exited, ExitUnknown, TakeSignal, SignalDone, SignalFailed, Other, duty_of, IsNewLaunch, IsSignal, launch_reply, signal_reply, is_launched}
-use Rattle.attendant.specs.Posts.{Post, acts_at, Fails, FailsWithin}
+use Rattle.attendant.specs.Posts.{Post, acts_at, Succeeds, Fails, FailsWithin}
 use Rattle.drmaa_model.specs.declared.faults.NoEntry.{NoEntry}
 use Rattle.drmaa_model.specs.declared.faults.NoEntry.TheVariants as no
 use Rattle.drmaa_model.specs.declared.replies.Reply.{Reply}
@@ -55,6 +56,10 @@ pub record Takes (number : ℕ) (mine mine_after : List Act) (launch : Launch) :
   pub is_new : is_launched launch.job launch.attempt mine ≡ false
   pub mine_is : mine_after ≡ mine ++ entry_of number TakeLaunch (reply.Launch launch) ∷ []
 
+-- one call took this launch
+abbrev pub TakesOne : Post → Launch → Post → Type 0
+TakesOne old launch new = Succeeds old call.TakeLaunch (reply.Launch launch) new
+
 -- the report of whether a launch began
 abbrev pub report_call : Bool → Launch → Duty
 report_call true l = Started l.job l.attempt
@@ -71,9 +76,10 @@ reports_of number began l None = []
 reports_of number began l (Some answer) = entry_of number (report_call began l) answer ∷ []
 
 -- the report of a start made an entry, or none
-abbrev pub Reports : ℕ → Bool → Launch → Bool → List Act → List Act → Type 0
-Reports number began l true mine mine_after = (answer : Reply) × (mine_after ≡ mine ++ reports_of number began l (Some answer))
-Reports number began l false mine mine_after = mine_after ≡ mine
+abbrev pub Reports : Post → Bool → Launch → Bool → Post → Type 0
+Reports old began l true new =
+    (answer : Reply) × (acts_at new ≡ acts_at old ++ reports_of (number_of old.client) began l (Some answer)) × Succeeds old (asked_start began l) answer new
+Reports old began l false new = acts_at new ≡ acts_at old
 
 -- a child is put into an empty place
 pub record PutsAt {T : Type 0} (launch : Launch) (child : T) (old new : Slab (Held T)) : Type 0 where
@@ -112,7 +118,8 @@ pub data IsMissed (old new : Post) (why : Refusal) : Type 0 where
   no_room : why ≡ OutOfMemory → new ≡ old → IsMissed old new why
   not_taken : (fault : NoEntry) → fault ≢ no.Nothing → Fails old call.TakeLaunch fault new → MayFail fault why → IsMissed old new why
 
--- A launch was taken and its child asked for, but the report of the start made no entry.
+-- A launch was taken and its child asked for, but the report of the start made no entry: it was asked for right after the take,
+-- and no other call was.
 pub record MadeUnreported {T : Type 0} (told : T → Option Told) (old new : Post) (asked asked_after : Option (List Asked)) (fate fate_after : ℕ → Fate)
     (children children_after : Slab (Held T)) : Type 0 where
   pub launch : Launch
@@ -120,14 +127,20 @@ pub record MadeUnreported {T : Type 0} (told : T → Option Told) (old new : Pos
   pub made : Made told (number_of old.client) launch began None (acts_at old) (acts_at new) asked asked_after fate fate_after children children_after
   pub fault : NoEntry
   pub fails : FailsWithin old (asked_start began launch) fault new
+  pub taken : acts_at fails.before ≡ acts_at old ++ entry_of (number_of old.client) TakeLaunch (reply.Launch launch) ∷ []
+  pub last : fails.after ≡ new
+  pub takes : TakesOne old launch fails.before
 
--- A launch was taken and its child asked for, and the start was reported.
+-- A launch was taken and its child asked for, and the start was reported: these two calls were asked, and no other.
 pub record MadeReported {T : Type 0} (told : T → Option Told) (began : Bool) (job : JobId) (old new : Post) (asked asked_after : Option (List Asked)) (fate fate_after : ℕ → Fate)
     (children children_after : Slab (Held T)) : Type 0 where
   pub launch : Launch
   pub of_job : launch.job ≡ job
   pub reply : Reply
   pub made : Made told (number_of old.client) launch began (Some reply) (acts_at old) (acts_at new) asked asked_after fate fate_after children children_after
+  pub taken : Post
+  pub takes : TakesOne old launch taken
+  pub reports : Succeeds taken (asked_start began launch) reply new
 
 -- what a round of the launcher did, by its answer
 abbrev pub LaunchSteps : {T : Type 0} → (T → Option Told) → Post → Post → Option (List Asked) → Option (List Asked) → (ℕ → Fate) → (ℕ → Fate)
@@ -148,6 +161,12 @@ abbrev pub IsFailedStart : Launched → Type 0
 IsFailedStart launched.Nothing = ⊥
 IsFailedStart (launched.Began job) = ⊥
 IsFailedStart (launched.StartFailed job) = Unit {0}
+
+-- the spawner's count of faults, before and after a round of the launcher: it rose where the start failed, and else stayed
+abbrev pub CountsStart : Launched → ℕ → ℕ → Type 0
+CountsStart launched.Nothing before after = after ≡ before
+CountsStart (launched.Began job) before after = after ≡ before
+CountsStart (launched.StartFailed job) before after = Rose before after
 
 -- Why a round of the launcher is refused: for want of memory, or for a journal that has no room for the entry of the take, of
 -- this size.

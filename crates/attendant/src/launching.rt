@@ -2,14 +2,15 @@
 ghost use Rattle.std.specs.Prelude.{◌≡◌, ◌≢◌, ◌++◌, ◌∷◌, [], true, false, IfOk, IfErr, IfSome, IfNone, Some, None, IsTrue, is_ok, IsOk, List, ℕ};
 ghost use Rattle.drmaa_model.specs.declared.calls.Call.{Call};
 ghost use Rattle.drmaa_model.specs.declared.faults.NoEntry.{NoEntry};
+ghost use Rattle.drmaa_model.specs.declared.replies.Reply.{Reply};
 ghost use Rattle.turn_lock.specs.Tokens.{IsFree};
 ghost use Rattle.call_history.specs.Clients.{number_of};
 ghost use Rattle.attendant.specs.Acts.{Act, launch_reply, duty_of, own_acts};
-ghost use Rattle.attendant.specs.Posts.{post, IsStillAt, Fails};
+ghost use Rattle.attendant.specs.Posts.{post, IsStillAt, Succeeds, Fails};
 ghost use Rattle.drmaa_types.specs.Counts.{Rose};
 ghost use Rattle.slab.specs.Slab.{get, SameValues, HasRoomFor};
 ghost use Rattle.attendant.specs.Outside.{Tends, Keeps, AgreesOf};
-ghost use Rattle.attendant.specs.Steps.{entry_of, report_call, asked_start, Takes, Reports, PutsAt, LaunchSteps, MayFail, IsNothing, IsFailedStart, IsLaunchRefused};
+ghost use Rattle.attendant.specs.Steps.{entry_of, report_call, asked_start, Takes, Reports, PutsAt, LaunchSteps, MayFail, IsNothing, IsFailedStart, CountsStart, IsLaunchRefused};
 
 use crate::asking::ask;
 use crate::{Held, Reaper};
@@ -55,6 +56,7 @@ fn take_launch<R: Wait, C: Clock>(rt: &R, desk: &mut Desk<C>) -> Result<Option<L
     requires { IsFree desk.old.shared.now desk.old.client }
     ensures desk { IsStillAt (post C.given C.least desk.old) (post C.given C.least desk.new) }
     ensures taken { IfOk result (λ launch. IfSome launch (Takes (number_of desk.old.client) (own_acts desk.old.client) (own_acts desk.new.client))) }
+    ensures served { IfOk result (λ launch. IfSome launch (λ l. Succeeds (post C.given C.least desk.old) Call.TakeLaunch (Reply.Launch l) (post C.given C.least desk.new))) }
     ensures nothing { IfOk result (λ launch. IfNone launch
         ((own_acts desk.new.client ≡ own_acts desk.old.client) × Fails (post C.given C.least desk.old) Call.TakeLaunch NoEntry.Nothing (post C.given C.least desk.new))) }
     ensures err { IfErr result (λ why. (own_acts desk.new.client ≡ own_acts desk.old.client)
@@ -76,7 +78,7 @@ fn take_launch<R: Wait, C: Clock>(rt: &R, desk: &mut Desk<C>) -> Result<Option<L
 fn report_start<R: Wait, C: Clock>(rt: &R, desk: &mut Desk<C>, launch: &Launch, began: bool) -> bool
     requires { IsFree desk.old.shared.now desk.old.client }
     ensures desk { IsStillAt (post C.given C.least desk.old) (post C.given C.least desk.new) }
-    ensures made { Reports (number_of desk.old.client) began launch.now result (own_acts desk.old.client) (own_acts desk.new.client) }
+    ensures made { Reports (post C.given C.least desk.old) began launch.now result (post C.given C.least desk.new) }
     ensures cause { result ≡ false → (fault : NoEntry) × Fails (post C.given C.least desk.old) (asked_start began launch.now) fault (post C.given C.least desk.new) }
 {
     let call = start_report(launch, began);
@@ -121,6 +123,7 @@ fn launch_round<R: Wait, S: Spawner, C: Clock>(
         (S.asked spawner.old) (S.asked spawner.new) (S.fate spawner.old) (S.fate spawner.new)
         reaper.old.children reaper.new.children result }
     ensures failed { IfOk result (λ launched. IsFailedStart launched → Rose (S.faults spawner.old) (S.faults spawner.new)) }
+    ensures counted { IfOk result (λ launched. CountsStart launched (S.faults spawner.old) (S.faults spawner.new)) }
     ensures nothing { IfOk result (λ launched. IsNothing launched → Fails (post C.given C.least desk.old) Call.TakeLaunch NoEntry.Nothing (post C.given C.least desk.new)) }
 {
     if reaper.children.reserve(1).is_err() {
@@ -182,6 +185,7 @@ pub fn launch_once<R: Wait, S: Spawner, C: Clock>(
         AgreesOf (S.asked spawner.old) (S.fate spawner.old) (own_acts desk.old.client) reaped →
         AgreesOf (S.asked spawner.new) (S.fate spawner.new) (own_acts desk.new.client) reaped }
     ensures failed { IfOk result (λ launched. IsFailedStart launched → Rose (S.faults spawner.old) (S.faults spawner.new)) }
+    ensures counted { IfOk result (λ launched. CountsStart launched (S.faults spawner.old) (S.faults spawner.new)) }
     ensures err { IfErr result (IsLaunchRefused (post C.given C.least desk.old) (post C.given C.least desk.new)) }
     ensures nothing { IfOk result (λ launched. IsNothing launched → Fails (post C.given C.least desk.old) Call.TakeLaunch NoEntry.Nothing (post C.given C.least desk.new)) }
 {

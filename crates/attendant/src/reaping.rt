@@ -7,7 +7,7 @@ ghost use Rattle.drmaa_model.specs.declared.replies.Reply.{Reply};
 ghost use Rattle.turn_lock.specs.Tokens.{IsFree};
 ghost use Rattle.call_history.specs.Clients.{number_of};
 ghost use Rattle.attendant.specs.Acts.{signal_reply, is_run, TakeSignal, duty_of, own_acts};
-ghost use Rattle.attendant.specs.Posts.{post, IsStillAt, Fails};
+ghost use Rattle.attendant.specs.Posts.{post, IsStillAt, Succeeds, Fails};
 ghost use Rattle.slab.specs.Slab.{get, SameValues};
 ghost use Rattle.attendant.specs.declared.reaper.Held.{Held};
 ghost use Rattle.child_spawner.specs.declared.fates.Asked.{Asked};
@@ -50,6 +50,7 @@ fn take_signal<R: Wait, C: Clock>(rt: &R, desk: &mut Desk<C>) -> Result<Option<S
     ensures desk { IsStillAt (post C.given C.least desk.old) (post C.given C.least desk.new) }
     ensures taken { IfOk result (λ signal. IfSome signal (λ s. own_acts desk.new.client
         ≡ own_acts desk.old.client ++ entry_of (number_of desk.old.client) TakeSignal (Reply.Signal s) ∷ [])) }
+    ensures served { IfOk result (λ signal. IfSome signal (λ s. Succeeds (post C.given C.least desk.old) Call.TakeSignal (Reply.Signal s) (post C.given C.least desk.new))) }
     ensures nothing { IfOk result (λ signal. IfNone signal
         ((own_acts desk.new.client ≡ own_acts desk.old.client) × Fails (post C.given C.least desk.old) Call.TakeSignal NoEntry.Nothing (post C.given C.least desk.new))) }
     ensures err { IfErr result (λ why. (own_acts desk.new.client ≡ own_acts desk.old.client)
@@ -130,6 +131,7 @@ fn report_signal<R: Wait, C: Clock>(
     requires { IsFree desk.old.shared.now desk.old.client }
     ensures desk { IsStillAt (post C.given C.least desk.old) (post C.given C.least desk.new) }
     ensures made { SignalReports (number_of desk.old.client) answer signal (is_ok result) (own_acts desk.old.client) (own_acts desk.new.client) }
+    ensures served { OnOk result ((r : Reply) × Succeeds (post C.given C.least desk.old) (asked_signal answer signal) r (post C.given C.least desk.new)) }
     ensures err { IfErr result (IsRefusedBy (post C.given C.least desk.old) (asked_signal answer signal) (post C.given C.least desk.new)) }
 {
     match ask(rt, desk, report_of(signal, answer)) {

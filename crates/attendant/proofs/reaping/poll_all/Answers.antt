@@ -4,7 +4,7 @@ use Rattle.std.specs.Result.{result_ok}
 use Rattle.drmaa_types.specs.declared.refusals.Refusal.{Refusal}
 use Rattle.attendant.proofs.Desks.{still-same, still-both}
 use Rattle.attendant.proofs.Ends.{polling_on}
-use Rattle.attendant.proofs.Places.{order_none, gone_on, back_on, places_on, count_on, count_same, kept_some, first_some, places_as, polls_all, loses_later, loses_early}
+use Rattle.attendant.proofs.Places.{order_none, places_on, count_on, count_same, kept_some, first_some, places_as, polls_all, loses_later, loses_early, each_none, each_on}
 use Rattle.attendant.proofs.reaping.poll_all.Goals as goal
 use Rattle.attendant.proofs.reaping.poll_all.Goals.{in-Ok, in-Err}
 
@@ -25,16 +25,16 @@ loop-key-preserved g c =
           i.places e.place;
       lost = elim c.match-poll_at.branch [
         | in-Ok w ↦ kept_some c.loop-key.refused c.match-poll_at.refused _ _ w.refused-is
-            (λ why. loses_later g.T.Child.told g.T.Child.faults _ _ _ _ _ _ why e.desk (gone_on g.T.Child.told g.T.Child.faults c.loop-key.key (c.loop-key.key + 1) _ _ _ _ _ _ _ _ e.place)) i.lost
+            (λ why l. (loses_later g.T.Child.told g.T.Child.faults 0 c.loop-key.key (c.loop-key.key + 1) _ _ _ _ _ _ _ _ _ i.count _ _ _ why e.desk i.places e.place l).0) i.lost
         | in-Err w ↦ first_some c.loop-key.refused c.match-poll_at.refused w.in-Err.why _ _ (w.refused-is ∙ w.first_of-refused.ensures)
-            (λ why. loses_later g.T.Child.told g.T.Child.faults _ _ _ _ _ _ why e.desk (gone_on g.T.Child.told g.T.Child.faults c.loop-key.key (c.loop-key.key + 1) _ _ _ _ _ _ _ _ e.place)) i.lost
-            (loses_early g.T.Child.told g.T.Child.faults _ _ _ _ _ _ w.in-Err.why i.desk
-            (back_on g.T.Child.told g.T.Child.faults 0 c.loop-key.key (c.loop-key.key + 1) _ _ _ _ _ _ _ _ _ _ _ _ _ i.places e.place) w.in-Err.ensures.lost)
+            (λ why l. (loses_later g.T.Child.told g.T.Child.faults 0 c.loop-key.key (c.loop-key.key + 1) _ _ _ _ _ _ _ _ _ i.count _ _ _ why e.desk i.places e.place l).0) i.lost
+            (loses_early g.T.Child.told g.T.Child.faults 0 c.loop-key.key (c.loop-key.key + 1) _ _ _ _ _ _ _ _ _ i.count _ _ _ w.in-Err.why i.desk i.places e.place w.in-Err.ensures.lost).0
       ];
       counted = elim c.match-poll_at.branch [
         | in-Ok w ↦ count_on _ _ _ i.count w.in-Ok.count _ 4294967295 w.reports-is w.saturating_add-reports.ensures i.counted (ap (λ (r : Result ℕ Refusal). unwrap_or (result_ok r) 0) w.in-Ok.is)
         | in-Err w ↦ count_same _ _ i.count _ 4294967295 w.reports-is i.counted (ap (λ (r : Result ℕ Refusal). unwrap_or (result_ok r) 0) w.in-Err.is)
       ];
+      all = each_on g.T.Child.told g.T.Child.faults 0 c.loop-key.key _ _ _ _ _ _ _ _ _ i.count _ _ c.poll_at.result i.desk e.desk i.places e.place i.all e.lost;
     }
 
 pub loop-key-init : goal.loop-key-init
@@ -59,6 +59,7 @@ loop-key-init g c = record {
   };
   lost = tt;
   counted = refl;
+  all = each_none g.T.Child.told g.T.Child.faults _ _;
 }
 
 pub returns-in-Some-clause-places : goal.returns-in-Some-clause-places
@@ -67,4 +68,4 @@ returns-in-Some-clause-places g c =
     polls_all g.T.Child.told g.T.Child.faults c.loop-key.key _ _ c.args.reaper.now.children c.loop-key.reaper.children _ _ i.count (Err c.in-Some.why)
     (omega (arith, c.capacity-key-end.ensures.slots, c.loop-key-test.false))
     (places_as g.T.Child.told g.T.Child.faults 0 c.loop-key.key _ _ _ _ _ _ i.count (c.loop-key.refused ≡ None) (IsOk {T = ℕ} {E = Refusal} (Err c.in-Some.why)) (λ clean. absurd (cc)) i.places)
-    tt (rw c.in-Some.is at i.lost)
+    tt (rw c.in-Some.is at i.lost) i.all

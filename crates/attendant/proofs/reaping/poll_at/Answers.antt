@@ -24,7 +24,7 @@ returns-else-report_end-clause-place g c = place_lost g.T.Child.told g.T.Child.f
 pub returns-else-report_end-clause-lost : goal.returns-else-report_end-clause-lost
 returns-else-report_end-clause-lost g c =
     let w = c.if-report_end.ensures.cause refl in
-    loses_one g.T.Child.told g.T.Child.faults c.args.key c.in-Ended.job c.in-Ended.attempt c.in-Ended.exit _ _ c.args.reaper.now.children c.poll_child.new.children w.0 c.in-Ended.ensures c.requires c.report_end.ensures.desk w.1
+    loses_one g.T.Child.told g.T.Child.faults c.args.key c.in-Ended.job c.in-Ended.attempt c.in-Ended.exit _ _ c.args.reaper.now.children c.poll_child.new.children w.0 c.in-Ended.ensures c.requires c.report_end.ensures.desk c.if-report_end.ensures.made.0 w.1
 
 pub returns-in-Running-clause-desk : goal.returns-in-Running-clause-desk
 returns-in-Running-clause-desk g c = still-same _ c.requires

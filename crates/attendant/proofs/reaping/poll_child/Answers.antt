@@ -18,6 +18,7 @@ returns-in-Ok-None g c =
         child = c.poll.new.self;
         told_is = c.in-Ok-None.ensures.told ∙ ap (λ (o : Option Exit). option_map (after_poll (Ok o)) (g.T.Child.told c.in-Some.held.now.child)) c.in-Ok-None.field-0-is;
         updates = Updates-with_value c.args.children.now c.args.key _ (subst IsSome (sym there) refl);
+        counted = c.in-Ok-None.ensures.counted;
       },
     )
 
@@ -41,6 +42,11 @@ returns-in-Err g c =
       there = there;
       of_job = refl;
       of_attempt = refl;
-      seen = (c.in-Err.ensures.named, c.poll.new.self, c.in-Err.ensures.cause);
+      seen = record {
+        named = c.in-Err.ensures.named;
+        after = c.poll.new.self;
+        rose = c.in-Err.ensures.cause;
+        told_is = c.in-Err.ensures.told;
+      };
       updates = updates_on _ _ _ c.args.key _ _ (Updates-with_value c.args.children.now c.args.key _ (subst IsSome (sym there) refl)) c.try_remove-in-Err.ensures.updates;
     }

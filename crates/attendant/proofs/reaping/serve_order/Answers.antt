@@ -30,7 +30,7 @@ returns-in_err-take_order-clause-steps g c =
       to_taken = c.take_order.ensures.desk;
       takes = rw none at c.take_order.ensures.steps;
       to_new = still-same _ (still-free _ _ c.take_order.ensures.desk);
-      serves = rw (c.in_err-take_order.was, p.1, p.2) (record { mine_is = refl; hand_is = none; same = λ k. refl }, refl);
+      serves = rw (c.in_err-take_order.was, p.1, p.2) (record { mine_is = refl; hand_is = none; same = λ k. refl; unasked = refl }, refl);
     }
 
 pub returns-in-Some-clause-desk : goal.returns-in-Some-clause-desk
@@ -44,5 +44,5 @@ returns-in-None-clause-steps g c = record {
   to_taken = c.take_order.ensures.desk;
   takes = rw c.in-None.is at c.take_order.ensures.steps;
   to_new = still-same _ (still-free _ _ c.take_order.ensures.desk);
-  serves = rw c.in_ok-take_order.was (record { mine_is = refl; hand_is = c.in-None.is; same = λ k. refl }, refl);
+  serves = rw c.in_ok-take_order.was (record { mine_is = refl; hand_is = c.in-None.is; same = λ k. refl; unasked = refl }, refl);
 }

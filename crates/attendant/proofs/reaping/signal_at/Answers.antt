@@ -25,4 +25,5 @@ returns-in-Some g c =
       cause = c.signal.ensures.cause;
       hand_is = ap (λ (b : Bool). record { signal = c.args.hand.now.signal; answer = Some b }) c.is_ok.ensures.value;
       updates = Updates-with_value c.args.children.now c.args.key _ (subst IsSome (sym there) refl);
+      counted = c.signal.ensures.counted;
     }
