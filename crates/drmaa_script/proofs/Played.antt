@@ -14,7 +14,7 @@ use Rattle.drmaa_script.specs.declared.plays.Output.{Output}
 use Rattle.drmaa_script.specs.declared.plays.Output.TheVariants.{Journal as JournalOutput, Listing}
 use Rattle.drmaa_script.specs.declared.status.Status.{Status}
 use Rattle.drmaa_script.specs.declared.status.Status.TheVariants.{Done, Text, Words, ReadFault, WriteFault, Memory, JournalFull, NotLegal}
-use Rattle.drmaa_script.specs.Statuses.{IsQuiet, HasRead, HasWritten, IsUnread, IsRefused, ended_as}
+use Rattle.drmaa_script.specs.Statuses.{IsQuiet, HasRead, HasWritten, IsUnread, IsRefused, IsUnstarted, ended_as}
 use Rattle.drmaa_script.specs.Outcomes.{IsScriptText, IsJournalText, IsReadAs, journal_of, play_text, PlayEnds, PlayedEnds, CheckEnds, CheckedEnds, HasJournal, WritesPlay, legal_text}
 
 -- the text that was written, by how the play ended
@@ -33,6 +33,10 @@ writes_has Listing (Some size) w = tt
 pub ended_loud : (full : Option ℕ) → IsQuiet (ended_as full) → ⊥
 ended_loud None q = q
 ended_loud (Some size) q = q
+
+pub ended_begun : (full : Option ℕ) → IsUnstarted (ended_as full) → ⊥
+ended_begun None u = u
+ended_begun (Some size) u = u
 
 pub ended_written : (full : Option ℕ) → HasWritten (ended_as full)
 ended_written None = tt

@@ -34,6 +34,9 @@ use Rattle.drmaa_script.specs.Statuses.{IsRefused}
 -- Whatever script is read and however its clients, launcher and reaper interleave, the program writes one journal: each client's calls
 -- stand in it once each, in that client's order and after everything that client had seen; replayed on the sequential machine it gives
 -- every reply, refusal and job state; at each point started jobs fit the slots and accepted reservations fit them at every instant.
+-- Of what a client had seen the bytes show this alone: the history begins with the entries of setup, which all others had seen before
+-- their first calls. Within the run each call is one of SharedMachine::call, whose clauses have its entry stand behind the whole list
+-- that its client had seen.
 pub record OneLegalJournal {C : Type 0} (given : C → Option (List ℕ)) (bytes : List ℕ) (old new : Option (List ℕ)) (asked asked_after : Option (List Asked)) (fate : ℕ → Fate) (clocks : List C) : Type 0 where
   -- all bytes that were read spell this script for threads
   pub script : Script

@@ -93,3 +93,14 @@ IsUnread WriteFault = ⊥
 IsUnread Memory = Unit {0}
 IsUnread (JournalFull size) = ⊥
 IsUnread (NotLegal entry given machine) = ⊥
+
+-- no script was begun: nothing was read, or what was read is refused
+abbrev pub IsUnstarted : Status → Type 0
+IsUnstarted Done = ⊥
+IsUnstarted (Text line) = Unit {0}
+IsUnstarted Words = Unit {0}
+IsUnstarted ReadFault = Unit {0}
+IsUnstarted WriteFault = ⊥
+IsUnstarted Memory = ⊥
+IsUnstarted (JournalFull size) = ⊥
+IsUnstarted (NotLegal entry given machine) = Unit {0}

@@ -7,7 +7,7 @@ ghost use Rattle.script_text.specs.declared.scripts.Script.{Script};
 ghost use Rattle.drmaa_script.specs.Commands.{words_of, word_of, NamesNone};
 ghost use Rattle.drmaa_script.specs.Endings.{Ends, IsWhole, limit_of, WritesJournal, HandsClocks, Starts};
 ghost use Rattle.drmaa_script.specs.Outcomes.{IsReadOut, IsScriptText, IsWritten};
-ghost use Rattle.drmaa_script.specs.Statuses.{IsQuiet, HasRead, HasWritten};
+ghost use Rattle.drmaa_script.specs.Statuses.{IsQuiet, HasRead, HasWritten, IsUnstarted};
 
 use crate::checks::run_check;
 use crate::outcomes::{Outcome, without_clocks};
@@ -84,6 +84,7 @@ fn run_command<E: Threads + Wait + Pause + Sync, R: Source, W: Sink, K: Clocks, 
     ensures writable { WritesJournal command result.status → IfSome (R.left source.old) (λ bytes. (script : Script) → IsScriptText mode.Serial bytes script → IsWritten script) }
     ensures clocks { (HandsClocks command result.status → ⊥) → result.clocks ≡ [] }
     ensures unasked { (Starts command → ⊥) → spawner.new ≡ spawner.old }
+    ensures unstarted { IsUnstarted result.status → spawner.new ≡ spawner.old }
     ensures fates { S.fate spawner.new ≡ S.fate spawner.old }
 {
     match command {
@@ -139,9 +140,11 @@ pub fn run<E: Threads + Wait + Pause + Sync, R: Source, W: Sink, K: Clocks, S: S
     ensures writable { (command : Command) → words.now ≡ words_of command → WritesJournal command result.status
         → IfSome (R.left source.old) (λ bytes. (script : Script) → IsScriptText mode.Serial bytes script → IsWritten script) }
 
-    // Clocks come back from a run of threads that was played, and only such a run asks the spawner. Its fates stay.
+    // Clocks come back from a run of threads that was played, and only such a run asks the spawner: not one whose words, reading or
+    // text stopped it. Its fates stay.
     ensures clocks { ((command : Command) → words.now ≡ words_of command → HandsClocks command result.status → ⊥) → result.clocks ≡ [] }
     ensures unasked { ((command : Command) → words.now ≡ words_of command → Starts command → ⊥) → spawner.new ≡ spawner.old }
+    ensures unstarted { IsUnstarted result.status → spawner.new ≡ spawner.old }
     ensures fates { S.fate spawner.new ≡ S.fate spawner.old }
 {
     match command_of(words) {

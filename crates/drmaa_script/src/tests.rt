@@ -15,6 +15,9 @@ use std::test::Fail;
 use std::thread::Threads;
 use std::time::Clock as Pause;
 
+mod flags;
+mod held;
+
 const SCRIPT: &str =
     "machine 4 \"node1\" suspend\ntemplate t\ncommand \"true\"\nend\nclient\ncreate-jobs s \"s\"\nrun j s t\nlaunch\nexit j 0\nstate s j\nend\n";
 

@@ -6,7 +6,7 @@ ghost use Rattle.script_text.specs.declared.scripts.Mode.TheVariants as mode;
 ghost use Rattle.drmaa_script.specs.Outcomes.{IsSpelled, IsReadOut};
 ghost use Rattle.drmaa_script.specs.Runs.{RunEnds, RunIsWhole, LeavesClocks, IsRunEnd};
 ghost use Rattle.drmaa_script.specs.Running.{IsTextOfRun, RanEnds};
-ghost use Rattle.drmaa_script.specs.Statuses.{IsQuiet, HasRead, HasWritten};
+ghost use Rattle.drmaa_script.specs.Statuses.{IsQuiet, HasRead, HasWritten, IsUnstarted};
 
 use crate::inputs::read_script;
 use crate::outcomes::{Outcome, without_clocks};
@@ -78,6 +78,7 @@ fn write_run<E: Threads + Wait + Pause + Sync, W: Sink, K: Clocks, S: Spawner + 
     ensures untouched { IsQuiet result.status → sink.new ≡ sink.old }
     ensures whole { (Rose (W.faults sink.old) (W.faults sink.new) → ⊥) → IsRunEnd result.status }
     ensures clocks { (LeavesClocks result.status → ⊥) → result.clocks ≡ [] }
+    ensures unstarted { IsUnstarted result.status → spawner.new ≡ spawner.old }
     ensures fates { S.fate spawner.new ≡ S.fate spawner.old }
 {
     let Ok(text) = run_text(rt, alloc, script, clocks, spawner, bell) else {
@@ -125,6 +126,7 @@ pub fn run_threads<
     ensures whole { (Rose (R.faults source.old) (R.faults source.new) → ⊥) → (Rose (W.faults sink.old) (W.faults sink.new) → ⊥)
         → IfSome (R.left source.old) (λ bytes. RunIsWhole bytes result.status) }
     ensures clocks { (LeavesClocks result.status → ⊥) → result.clocks ≡ [] }
+    ensures unstarted { IsUnstarted result.status → spawner.new ≡ spawner.old }
     ensures fates { S.fate spawner.new ≡ S.fate spawner.old }
 {
     match read_script(alloc, Mode::Threads, source) {

@@ -35,12 +35,12 @@ module _ {C : Type 0} (given : C → Option (List ℕ)) (s : Script) (history : 
   setup-stands : (full : Option ℕ) → EndsBy given s history asked asked2 fate clocks full → AllByRecursion CallMayStand (calls_of history 0)
   setup-stands None e = stands [] 0 (lines_of s.setup) (calls_of history 0) e.plays.setup
   setup-stands (Some size) (in_setup cut none unasked callers) = stands [] 0 cut.front (calls_of history 0) cut.played
-  setup-stands (Some size) (behind_setup setup clients met callers) = stands [] 0 (lines_of s.setup) (calls_of history 0) setup
+  setup-stands (Some size) (behind_setup setup clients met launched callers) = stands [] 0 (lines_of s.setup) (calls_of history 0) setup
 
   client-stands : (full : Option ℕ) → EndsBy given s history asked asked2 fate clocks full → (i : ℕ) (block : List Line) → slice_get s.clients i ≡ Some block → AllByRecursion CallMayStand (calls_of history (i + 1))
   client-stands None e i block at = stands (names_given s history) 0 block (calls_of history (i + 1)) (e.plays.clients i block at)
   client-stands (Some size) (in_setup cut none unasked callers) i block at = none-stand (calls_of history (i + 1)) (none (i + 1) (omega arith))
-  client-stands (Some size) (behind_setup setup clients met callers) i block at = up-to-stands s (names_given s history) block (i + 1) history stands (clients i block at)
+  client-stands (Some size) (behind_setup setup clients met launched callers) i block at = up-to-stands s (names_given s history) block (i + 1) history stands (clients i block at)
 
   -- the calls of each caller may stand in a journal
   pub run-stands : (full : Option ℕ) → ((e : Entry) → is_attendants e.call ≡ true → CallMayStand e) → HasRun given s history asked asked2 fate clocks full → (k : ℕ) → AllByRecursion CallMayStand (calls_of history k)

@@ -44,7 +44,7 @@ use Rattle.attendant.specs.declared.reaper.Hand.{Hand}
 use Rattle.attendant.specs.Acts.{acts_of, own_acts, Each, is_launched}
 use Rattle.attendant.specs.Posts.{Post, acts_at, FailsWithin}
 use Rattle.attendant.specs.Runs.{is_ended, owed}
-use Rattle.attendant.specs.Outside.{Tends, Keeps, AgreesOf, IsHeldUp, out_of_memory, full_at_launch, full_at_order, full_at_answer, EndsSettled, IsLaunchersEntry, IsReapersEntry}
+use Rattle.attendant.specs.Outside.{Tends, Keeps, Tells, AgreesOf, IsHeldUp, out_of_memory, full_at_launch, full_at_order, full_at_answer, EndsSettled, IsLaunchersEntry, IsReapersEntry}
 use Rattle.attendant.specs.Whole.{AgreesWithOutside, AreAlone}
 use Rattle.block_play.specs.declared.stops.Stopped.{Stopped}
 use Rattle.block_play.specs.declared.stops.Stopped.TheVariants as stopped
@@ -54,7 +54,7 @@ use Rattle.thread_play.specs.declared.firsts.First.{First}
 use Rattle.thread_play.specs.declared.workers.Worker.{Worker}
 use Rattle.thread_play.specs.Stages.{StopsAt, PlaysOn, IsFirst}
 use Rattle.thread_play.specs.Others.{IsBack, IsEnded, IsFullAtEnd, by_attendant, by_client, EndsWhole, Ends, Others}
-use Rattle.thread_play.specs.Runs.{IsForThreads, launcher_of, reaper_of, names_given, IsRun, PlaysAll, IsSettledAt, IsCutShort, PlaysUpTo, MeetsSize, IsMet, by_block, by_launch, by_order, by_answer, IsStopped, in_setup, behind_setup, IsWhole, EndsBy, HasRun}
+use Rattle.thread_play.specs.Runs.{IsForThreads, launcher_of, reaper_of, names_given, IsRun, PlaysAll, IsSettledAt, IsCutShort, PlaysUpTo, MeetsSize, IsMet, by_block, by_launch, by_order, by_answer, AreAsked, IsStopped, in_setup, behind_setup, IsWhole, EndsBy, HasRun}
 use Rattle.thread_play.proofs.Lists.{at-between, at-front, length-mapped, map-at, some-item}
 use Rattle.thread_play.proofs.Beginnings.{calls-append, calls-begin, begins-shorter, none-before, alone, nothing-after}
 use Rattle.thread_play.proofs.Clients.{Lists, own_lists}
@@ -407,6 +407,14 @@ module _ {C T : Type 0} (given : C → Option (List ℕ)) (told : T → Option T
         (subst (λ (es : List Entry). AgreesOf (Some starts) fate (acts_of es) (acts_of (calls_of history (length s.clients + 2)))) (sym of-launcher)
         (subst (λ (es : List Entry). AgreesOf (Some starts) fate (own_acts x.launcher.client) (acts_of es)) (sym of-reaper) a))
 
+    -- the launches are what was asked, however the run ended
+    asked-then : (then : Option (List Asked)) → Keeps told then fate (own_acts x.launcher.client) (own_acts x.reaping) x.at x.hand
+        → IfSome then (λ starts. AreAsked (acts_of (calls_of history (launcher_of s))) starts)
+    asked-then None k = tt
+    asked-then (Some starts) k =
+        let t : Tells told starts fate (own_acts x.launcher.client) (own_acts x.reaping) x.at x.hand = k.tells in
+        subst (λ (es : List Entry). AreAsked (acts_of es) starts) (sym of-launcher) t.asked
+
     -- ---- the ends
 
     callers-are : length clocks ≡ reaper_of s + 1
@@ -442,7 +450,7 @@ module _ {C T : Type 0} (given : C → Option (List ℕ)) (told : T → Option T
           rest = λ c at. subst (λ (y : C). IfSome (given y) (IsSettledAt s.config history)) (launcher-place c at) (subst (λ (g : Option (List ℕ)). IfSome g (IsSettledAt s.config history)) (sym x.launcher_given) rest.last);
           outside = λ none. agreed law (alone-all all) asked2 (x.keeps none) (x.agrees is none);
         }
-    ends-of law (Some size) is e = behind_setup setup-played up-to-all (met-by size e) callers-are
+    ends-of law (Some size) is e = behind_setup setup-played up-to-all (met-by size e) (λ none. asked-then asked2 (x.keeps none)) callers-are
 
     pub has-run : ((starts : List Asked) (es : List Entry) (at : ℕ → Option (Held T)) (hand : Option Hand) → AreAlone (length s.clients + 1) (length s.clients + 2) (acts_of es)
         → Keeps told (Some starts) fate (acts_of (calls_of es (length s.clients + 1))) (acts_of (calls_of es (length s.clients + 2))) at hand

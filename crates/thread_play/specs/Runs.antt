@@ -1,5 +1,5 @@
 -- What a run of a script for threads is, by its history alone: our profile.
-use Rattle.std.specs.Prelude.{◌≡◌, ◌⊎◌, ℕ, ◌+◌, ◌<◌, Bool, true, List, [], ◌∷◌, ◌++◌, length, Option, Some, None, IfSome}
+use Rattle.std.specs.Prelude.{◌≡◌, ◌⊎◌, ℕ, ◌+◌, ◌<◌, Bool, true, List, [], ◌∷◌, ◌++◌, length, map, Option, Some, None, IfSome}
 use Rattle.std.specs.List.{slice_get}
 use Rattle.child_spawner.specs.declared.fates.Asked.{Asked}
 use Rattle.child_spawner.specs.declared.fates.Fate.{Fate}
@@ -27,10 +27,10 @@ use Rattle.script_text.specs.Follows.{lines_of}
 use Rattle.script_text.specs.Scripts.{Spells}
 use Rattle.script_asks.specs.declared.given.Given.{Given}
 use Rattle.script_asks.specs.Plays.{Plays, names_by, setup_names}
-use Rattle.attendant.specs.Acts.{acts_of, Each, is_launched}
+use Rattle.attendant.specs.Acts.{Act, acts_of, Each, is_launched}
 use Rattle.attendant.specs.Outside.{IsLaunchersEntry, IsReapersEntry}
 use Rattle.attendant.specs.Rounds.{asked_signal}
-use Rattle.attendant.specs.Runs.{is_ended, owed}
+use Rattle.attendant.specs.Runs.{is_ended, owed, requests_in}
 use Rattle.attendant.specs.Whole.{AgreesWithOutside}
 use Rattle.block_play.specs.Played.{IsFullFor}
 
@@ -115,14 +115,20 @@ pub data IsMet (s : Script) (history : List Entry) (size : ℕ) : Type 0 where
   by_answer : (signal : Signal) (answer : Bool) → (m : MeetsSize s.config history (asked_signal answer signal) size)
       → owed (acts_of (calls_of m.seen (reaper_of s))) ≡ Some signal → IsMet s history size
 
+-- the launches of these entries, in order, are the job, attempt and words of each start that was asked of a spawner
+abbrev pub AreAsked : List Act → List Asked → Type 0
+AreAsked es starts = requests_in es ≡ map (λ (a : Asked). record { job = a.job; attempt = a.attempt; words = a.words }) starts
+
 -- The run was stopped since the journal would have had this size: within setup, and then nobody else made a call, and nothing was asked
--- of the spawner; or behind it. So many callers there were.
+-- of the spawner; or behind it, and then each launch was asked of the spawner and nothing else, where it tells and nothing had been
+-- asked of it before. So many callers there were.
 pub data IsStopped (s : Script) (history : List Entry) (asked asked_after : Option (List Asked)) (size callers : ℕ) : Type 0 where
   in_setup : IsCutShort s [] (lines_of s.setup) 0 history size → ((caller : ℕ) → 0 < caller → calls_of history caller ≡ []) → asked_after ≡ asked → callers ≡ 1
       → IsStopped s history asked asked_after size callers
   behind_setup : Plays s [] 0 (lines_of s.setup) (calls_of history 0)
       → ((n : ℕ) (block : List Line) → slice_get s.clients n ≡ Some block → PlaysUpTo s (names_given s history) block (n + 1) history)
-      → IsMet s history size → callers ≡ reaper_of s + 1 → IsStopped s history asked asked_after size callers
+      → IsMet s history size → (asked ≡ Some [] → IfSome asked_after (λ starts. AreAsked (acts_of (calls_of history (launcher_of s))) starts)) → callers ≡ reaper_of s + 1
+      → IsStopped s history asked asked_after size callers
 
 -- ---- a run as it is left
 

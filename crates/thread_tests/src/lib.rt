@@ -2,10 +2,6 @@
 #![tactic(auto)]
 
 #[cfg(test)]
-mod flags;
-#[cfg(test)]
-mod held;
-#[cfg(test)]
 mod nights;
 #[cfg(test)]
 mod plays;

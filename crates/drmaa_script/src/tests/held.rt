@@ -3,9 +3,11 @@ ghost use Rattle.std.specs.Prelude.{None};
 ghost use Rattle.drmaa_types.specs.Readings.{step_reading};
 ghost use Rattle.child_spawner.specs.Spawners.{plain_fate};
 
-use crate::flags::Flags;
-use crate::plays::play;
-use call_history::{Bell, Entry, Reply};
+use crate::commands::run;
+use crate::outcomes::Outcome;
+use crate::tests::flags::Flags;
+use crate::tests::{is_legal, sink, source, times, words};
+use call_history::Bell;
 use child_spawner::{Child, Spawner};
 use drmaa_types::{
     CallerId, Clock, Clocks, Exit, Failed, JobId, Moment, SignalKind, StepClock, TextList,
@@ -104,18 +106,6 @@ impl<'a> Clocks for FreeingClocks<'a> {
     }
 }
 
-/// The job that the wait of caller 1 reached, where it is its only entry.
-fn reached(entries: &[Entry]) -> Option<JobId> {
-    let mut own = entries.iter().filter(|entry| entry.caller.0 == 1);
-    match (own.next(), own.next()) {
-        (Some(only), None) => match &only.reply {
-            Reply::Reached(job) => Some(*job),
-            _ => None,
-        },
-        _ => None,
-    }
-}
-
 /// The launcher is within a start while the client reads its clock.
 #[test]
 fn a_client_plays_while_a_start_is_held(rt: HostRuntime) -> Result<(), Fail> {
@@ -126,12 +116,23 @@ fn a_client_plays_while_a_start_is_held(rt: HostRuntime) -> Result<(), Fail> {
         starts: 0,
         freed: false,
     };
-    let clocks = FreeingClocks { flags: &flags };
-    let bell = Bell::silent();
-    let run = play(&rt, alloc, WAIT, &clocks, &mut spawner, &bell)?;
-    assert_eq!(rt; run.full, None);
-    assert_eq!(rt; reached(run.machine.entries()), Some(JobId(1)));
+    let words = words(alloc, "threads")?;
+    let mut source = source(alloc, WAIT, &[])?;
+    let mut sink = sink(alloc, 1000, &[])?;
+    let Outcome { status, clocks } = run(
+        &rt,
+        alloc,
+        &words,
+        &mut source,
+        &mut sink,
+        &FreeingClocks { flags: &flags },
+        &mut spawner,
+        &Bell::silent(),
+    );
+    assert_eq!(rt; status.number(), 0);
+    assert_eq!(rt; clocks.as_slice().len(), 4);
+    assert_eq!(rt; times(sink.bytes(), " = reached 1\n"), 1);
     assert_eq!(rt; spawner.starts, 1);
     assert!(rt; spawner.freed);
-    Ok(())
+    is_legal(&rt, alloc, sink.bytes())
 }
