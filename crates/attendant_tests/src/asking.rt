@@ -83,7 +83,7 @@ fn template(alloc: Global, rerunnable: bool) -> Result<JobTemplate, Fail> {
 const SESSION: SessionId = SessionId(1);
 
 /// A call that needs no memory of its own.
-fn plain_call(ask: Ask) -> Call {
+pub fn plain_call(ask: Ask) -> Call {
     match ask {
         Ask::Control(job, what) => Call::Control {
             session: SESSION,

@@ -6,6 +6,8 @@ mod asking;
 #[cfg(test)]
 mod journals;
 #[cfg(test)]
+mod kills;
+#[cfg(test)]
 mod orders;
 #[cfg(test)]
 mod playing;

@@ -180,3 +180,101 @@ fn an_order_without_a_child_is_kept(rt: HostRuntime) -> Result<(), Fail> {
     )?;
     Ok(())
 }
+
+/// Another caller launched job 1 and has not reported its start: a kill that is asked for is not handed out before that report.
+#[test]
+fn a_kill_waits_for_the_start(rt: HostRuntime) -> Result<(), Fail> {
+    run_play(
+        &rt,
+        rt.alloc(),
+        &Play {
+            journal: 4_000_000,
+            fates: &[],
+            failing: &[],
+            steps: &[
+                CREATE,
+                run(1),
+                Step::Client(Ask::TakeLaunch, Said::Launch(1, 1)),
+                control(1, Control::Terminate),
+                is_in(1, JobState::Running),
+                Step::Reaps(0),
+                Step::Client(Ask::Started(1), Said::Unit),
+                Step::Reaps(0),
+                is_in(1, JobState::Running),
+            ],
+            launcher: &[],
+            reaper: &[Told::Signal(1, 1, SignalKind::Kill)],
+        },
+    )?;
+    Ok(())
+}
+
+/// A child that has ended and was not polled since is sent its stop. The end is reported behind that.
+#[test]
+fn a_stop_reaches_a_child_that_has_just_ended(rt: HostRuntime) -> Result<(), Fail> {
+    run_play(
+        &rt,
+        rt.alloc(),
+        &Play {
+            journal: 4_000_000,
+            fates: &[fate(0, Exit::Code(0))],
+            failing: &[],
+            steps: &[
+                CREATE,
+                run(1),
+                Step::Launches(1),
+                control(1, Control::Suspend),
+                is_in(1, JobState::Suspended),
+                Step::Reaps(2),
+                is_in(1, JobState::Done),
+                Step::Reaps(0),
+            ],
+            launcher: &LAUNCHED,
+            reaper: &[
+                Told::Signal(1, 1, SignalKind::Stop),
+                Told::SignalDone(1, 1, SignalKind::Stop),
+                Told::Exited(1, 1, Exit::Code(0)),
+            ],
+        },
+    )?;
+    Ok(())
+}
+
+/// The end of job 1 is reported by another caller before its stop is taken, which removes the order. Its child is not signalled.
+#[test]
+fn an_end_removes_the_order(rt: HostRuntime) -> Result<(), Fail> {
+    run_play(
+        &rt,
+        rt.alloc(),
+        &Play {
+            journal: 4_000_000,
+            fates: &[fate(1, Exit::Code(0)), fate(0, Exit::Code(0))],
+            failing: &[],
+            steps: &[
+                CREATE,
+                run(1),
+                run(2),
+                Step::Launches(1),
+                Step::Launches(2),
+                control(1, Control::Suspend),
+                Step::Client(Ask::Exited(1, Exit::Code(0)), Said::Unit),
+                is_in(1, JobState::Done),
+                Step::Reaps(1),
+                is_in(2, JobState::Done),
+                Step::Reaps(1),
+                Step::Reaps(0),
+            ],
+            launcher: &[
+                Told::Launch(1, 1),
+                Told::Started(1, 1),
+                Told::Launch(2, 1),
+                Told::Started(2, 1),
+            ],
+            reaper: &[
+                Told::Exited(2, 1, Exit::Code(0)),
+                Told::Exited(1, 1, Exit::Code(0)),
+            ],
+        },
+    )?;
+    Ok(())
+}

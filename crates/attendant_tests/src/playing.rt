@@ -163,7 +163,7 @@ fn compare<R: Abort>(rt: &R, machine: &Machine, caller: u32, told: &[Told]) {
 }
 
 /// A machine with four slots that nobody has called, and who opens it.
-fn open_machine(alloc: Global, journal: u64) -> Result<(SharedMachine, MachineOpener), Fail>
+pub fn open_machine(alloc: Global, journal: u64) -> Result<(SharedMachine, MachineOpener), Fail>
     ensures opener { IfOk result (λ made. BelongsTo made.0 made.1) }
     ensures retired { IfOk result (λ made. retired_of made.1 ≡ []) }
 {
@@ -186,7 +186,7 @@ fn spawner_of(alloc: Global, play: &Play) -> Result<MemorySpawner, Fail> {
 }
 
 /// A desk with a clock that stands at 0.
-fn desk_of<'a>(shared: &'a SharedMachine, client: Client, bell: &'a Bell) -> Desk<'a, StepClock>
+pub fn desk_of<'a>(shared: &'a SharedMachine, client: Client, bell: &'a Bell) -> Desk<'a, StepClock>
     ensures shared { result.shared.now ≡ shared.now }
     ensures client { result.client ≡ client }
 {

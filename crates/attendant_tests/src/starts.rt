@@ -4,6 +4,7 @@ use crate::playing::{Play, Step, run_play};
 use crate::wording::{CREATE, fate, is_in, run, run_again};
 use child_spawner::{Fate, MemorySpawner};
 use drmaa_types::{Exit, JobState};
+use std::alloc::Global;
 use std::process::Abort;
 use std::test::Fail;
 
@@ -249,5 +250,83 @@ fn the_loops_end_once_all_is_settled(rt: HostRuntime) -> Result<(), Fail> {
             ],
         },
     )?;
+    Ok(())
+}
+
+/// Ten jobs, with the polls that their children run for, and their ends. Child 1 ends at its first poll, and 2, 3 and 4 each a round
+/// later. Each other child is started once the fourth before it has ended, and so ends in a round of its own.
+const TEN: [(u64, u32, Exit); 10] = [
+    (1, 0, Exit::Code(0)),
+    (2, 1, Exit::Code(2)),
+    (3, 2, Exit::Signal(15)),
+    (4, 3, Exit::Code(0)),
+    (5, 3, Exit::Code(99)),
+    (6, 3, Exit::Code(0)),
+    (7, 3, Exit::Code(0)),
+    (8, 3, Exit::Code(0)),
+    (9, 3, Exit::Code(0)),
+    (10, 3, Exit::Code(1)),
+];
+
+/// Four children are started, and no fifth. In each round after that one ends, and the next is started in its place.
+fn ten_steps(alloc: Global) -> Result<Vec<Step>, Fail> {
+    let mut steps = Vec::new(alloc);
+    steps.push(CREATE)?;
+    for (job, _, _) in TEN {
+        steps.push(run(job))?;
+    }
+    for job in [1, 2, 3, 4] {
+        steps.push(Step::Launches(job))?;
+    }
+    steps.push(Step::LaunchesNone)?;
+    for job in [5, 6, 7, 8, 9, 10] {
+        steps.push(is_in(job, JobState::Queued))?;
+        steps.push(Step::Reaps(1))?;
+        steps.push(Step::Launches(job))?;
+        steps.push(Step::LaunchesNone)?;
+    }
+    for reports in [1, 1, 1, 1, 0] {
+        steps.push(Step::Reaps(reports))?;
+    }
+    for job in [1, 4, 6, 7, 8, 9] {
+        steps.push(is_in(job, JobState::Done))?;
+    }
+    for job in [2, 3, 5, 10] {
+        steps.push(is_in(job, JobState::Failed))?;
+    }
+    Ok(steps)
+}
+
+/// Ten jobs on four slots: each is started and reaped once, in order.
+#[test]
+fn ten_jobs_share_four_slots(rt: HostRuntime) -> Result<(), Fail> {
+    let alloc = rt.alloc();
+    let mut fates = Vec::new(alloc);
+    let mut starts = Vec::new(alloc);
+    let mut ends = Vec::new(alloc);
+    for (job, polls, exit) in TEN {
+        fates.push(fate(polls, exit))?;
+        starts.push(Told::Launch(job, 1))?;
+        starts.push(Told::Started(job, 1))?;
+        ends.push(Told::Exited(job, 1, exit))?;
+    }
+    let steps = ten_steps(alloc)?;
+    let spawner = run_play(
+        &rt,
+        alloc,
+        &Play {
+            journal: 4_000_000,
+            fates: fates.as_slice(),
+            failing: &[],
+            steps: steps.as_slice(),
+            launcher: starts.as_slice(),
+            reaper: ends.as_slice(),
+        },
+    )?;
+    assert!(rt; spawner.told());
+    assert_eq!(rt; spawner.asked().len(), 10);
+    for (asked, (job, _, _)) in spawner.asked().iter().zip(TEN) {
+        assert_eq!(rt; (asked.job.0, asked.attempt, asked.began), (job, 1, true));
+    }
     Ok(())
 }
