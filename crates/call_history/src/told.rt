@@ -173,7 +173,7 @@ impl Told for JobInfo {
 
     fn of(reply: Reply) -> Option<JobInfo> {
         match reply {
-            Reply::Info(info) => Some(info),
+            Reply::Info(info) => Some(info.into_inner()),
             _ => None,
         }
     }
@@ -205,7 +205,7 @@ impl Told for ReservationInfo {
 
     fn of(reply: Reply) -> Option<ReservationInfo> {
         match reply {
-            Reply::Reservation(info) => Some(info),
+            Reply::Reservation(info) => Some(info.into_inner()),
             _ => None,
         }
     }

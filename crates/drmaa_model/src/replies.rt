@@ -1,7 +1,7 @@
 //! What a machine answers.
 use drmaa_types::{
-    ArrayId, IdList, InfoList, JobId, JobInfo, JobState, MachineInfo, Refusal, ReservationInfo,
-    ReservationList, Reserved, SessionId, SignalKind, TextList,
+    ArrayId, Boxed, IdList, InfoList, JobId, JobInfo, JobState, MachineInfo, Refusal,
+    ReservationInfo, ReservationList, Reserved, SessionId, SignalKind, TextList,
 };
 
 /// A job that is to be started.
@@ -32,7 +32,8 @@ pub struct Submitted {
     pub count: u32,
 }
 
-/// The answer to a call. A refusal is an answer too, and stands in the history.
+/// The answer to a call. A refusal is an answer too, and stands in the history. An info lies in memory of its own, so that an
+/// entry is not as large as the largest of them.
 #[derive(Drop)]
 pub enum Reply {
     /// The call was served and has nothing to tell.
@@ -48,11 +49,11 @@ pub enum Reply {
     /// Jobs, by number.
     Jobs(IdList),
     State(JobState),
-    Info(JobInfo),
+    Info(Boxed<JobInfo>),
     /// The first listed job that has reached the state.
     Reached(JobId),
     Reserved(Reserved),
-    Reservation(ReservationInfo),
+    Reservation(Boxed<ReservationInfo>),
     /// Reservations, by number.
     Reservations(IdList),
     Infos(InfoList),

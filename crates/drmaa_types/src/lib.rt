@@ -2,6 +2,7 @@
 //! filters, refusals, clocks, and the trait of a value that keeps a history.
 #![tactic(auto)]
 
+mod boxed;
 mod capabilities;
 mod changes;
 mod chronicles;
@@ -16,6 +17,7 @@ mod sessions;
 mod states;
 mod texts;
 
+pub use boxed::Boxed;
 pub use capabilities::{Capability, supports};
 pub use changes::{Change, ChangeBatch, Failed, Notification};
 pub use chronicles::{Chronicle, ChronicleEntry};

@@ -61,7 +61,7 @@ impl Same for Reply {
                 _ => false,
             },
             Reply::Info(one) => match other {
-                Reply::Info(other) => one.is_same(other),
+                Reply::Info(other) => one.get().is_same(other.get()),
                 _ => false,
             },
             Reply::Reached(one) => match other {
@@ -73,7 +73,7 @@ impl Same for Reply {
                 _ => false,
             },
             Reply::Reservation(one) => match other {
-                Reply::Reservation(other) => one.is_same(other),
+                Reply::Reservation(other) => one.get().is_same(other.get()),
                 _ => false,
             },
             Reply::Reservations(one) => match other {

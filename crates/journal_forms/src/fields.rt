@@ -3,6 +3,7 @@ ghost use Rattle.std.specs.Prelude.{◌≡◌, ◌++◌, OnOk};
 ghost use Rattle.text_codec.specs.Formats.{Answers, pair};
 ghost use Rattle.text_codec.specs.Sums.{arm, keyed};
 
+use drmaa_types::Boxed;
 use std::alloc::AllocError;
 use text_codec::{Cursor, Unread};
 use text_words::{PrintForm, ReadForm, push_behind};
@@ -14,6 +15,14 @@ pub(crate) fn one<A: ReadForm>(cursor: &mut Cursor) -> Result<A, Unread>
     cursor.expect(b" ")?;
     let first = A::read(cursor)?;
     Ok(first)
+}
+
+/// Reads one value, which is to lie in memory of its own.
+pub(crate) fn boxed<A: ReadForm + Drop>(cursor: &mut Cursor) -> Result<Boxed<A>, Unread>
+    ensures { Answers (arm A.form (λ x. x)) cursor.old result cursor.new }
+{
+    let value = one(cursor)?;
+    Ok(Boxed::new(cursor.alloc(), value)?)
 }
 
 /// Reads two values.

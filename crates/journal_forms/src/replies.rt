@@ -4,7 +4,7 @@ ghost use Rattle.text_codec.specs.Formats.{Answers};
 ghost use Rattle.journal_forms.specs.Replies as replies;
 ghost use Rattle.journal_forms.specs.declared.reply_words.ReplyWord.TheVariants as told;
 
-use crate::fields::{one, three};
+use crate::fields::{boxed, one, three};
 use crate::{ReplyWord, reply_word_of};
 use drmaa_model::{Launch, Reply, Signal};
 use drmaa_types::{MachineInfo, Reserved};
@@ -33,7 +33,7 @@ fn state_at(cursor: &mut Cursor) -> Result<Reply, Unread>
 fn info_at(cursor: &mut Cursor) -> Result<Reply, Unread>
     ensures { Answers (replies.reply_arms told.Info) cursor.old result cursor.new }
 {
-    Ok(Reply::Info(one(cursor)?))
+    Ok(Reply::Info(boxed(cursor)?))
 }
 
 fn reached_at(cursor: &mut Cursor) -> Result<Reply, Unread>
@@ -45,7 +45,7 @@ fn reached_at(cursor: &mut Cursor) -> Result<Reply, Unread>
 fn reservation_at(cursor: &mut Cursor) -> Result<Reply, Unread>
     ensures { Answers (replies.reply_arms told.Reservation) cursor.old result cursor.new }
 {
-    Ok(Reply::Reservation(one(cursor)?))
+    Ok(Reply::Reservation(boxed(cursor)?))
 }
 
 fn callback_at(cursor: &mut Cursor) -> Result<Reply, Unread>

@@ -98,10 +98,10 @@ pub fn push_reply(out: &mut Vec<u8>, reply: &Reply) -> Result<(), AllocError>
         } => push_three(out, b"array", array, first, count),
         Reply::Jobs(jobs) => push_listed(out, b"jobs", jobs.as_slice()),
         Reply::State(state) => push_one(out, b"state", state),
-        Reply::Info(info) => push_one(out, b"info", info),
+        Reply::Info(info) => push_one(out, b"info", info.get()),
         Reply::Reached(job) => push_one(out, b"reached", job),
         Reply::Reserved(reserved) => push_reserved(out, reserved),
-        Reply::Reservation(info) => push_one(out, b"reservation", info),
+        Reply::Reservation(info) => push_one(out, b"reservation", info.get()),
         Reply::Reservations(reservations) => push_listed(
             out,
             b"reservations",

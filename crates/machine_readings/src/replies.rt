@@ -13,10 +13,10 @@ use crate::infos::default_queue;
 use crate::store::Store;
 use drmaa_model::{Call, Reply, Target};
 use drmaa_types::{
-    ArrayId, JobFilter, JobId, JobInfo, JobState, Moment, ReservationId, SessionId, SessionKind,
-    TextList,
+    ArrayId, Boxed, JobFilter, JobId, JobInfo, JobState, Moment, ReservationId, SessionId,
+    SessionKind, TextList,
 };
-use std::alloc::AllocError;
+use std::alloc::{AllocError, Global};
 
 impl Store {
     /// The reply to a call that only reads.
@@ -108,7 +108,7 @@ impl Store {
     {
         match self.seen_refusal(at, session, job) {
             Some(why) => Ok(Reply::Refused(why)),
-            None => Ok(told_info(self.info_of(at, job)?)),
+            None => told_info(self.alloc, self.info_of(at, job)?),
         }
     }
 
@@ -131,7 +131,10 @@ impl Store {
         ensures { IfOk result (λ reply. reply ≡ reservation_reply (world_at at self.now) number) }
     {
         match self.core.reservation(at, number) {
-            Some(accepted) => Ok(Reply::Reservation(self.reservation_info(accepted)?)),
+            Some(accepted) => {
+                let info = self.reservation_info(accepted)?;
+                Ok(Reply::Reservation(Boxed::new(self.alloc, info)?))
+            }
             None => Ok(Reply::Unit),
         }
     }
@@ -199,11 +202,11 @@ impl Store {
     }
 }
 
-fn told_info(info: Option<JobInfo>) -> Reply
-    ensures { result ≡ option_map_or Reply.Info info Reply.Unit }
+fn told_info(alloc: Global, info: Option<JobInfo>) -> Result<Reply, AllocError>
+    ensures { IfOk result (λ reply. reply ≡ option_map_or Reply.Info info Reply.Unit) }
 {
     match info {
-        Some(info) => Reply::Info(info),
-        None => Reply::Unit,
+        Some(info) => Ok(Reply::Info(Boxed::new(alloc, info)?)),
+        None => Ok(Reply::Unit),
     }
 }

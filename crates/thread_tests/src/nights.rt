@@ -34,6 +34,7 @@ fn count(entries: &[Entry], state: JobState, note: Note) -> u32 {
     let mut count: u32 = 0;
     for entry in entries {
         if let Reply::Info(info) = &entry.reply {
+            let info = info.get();
             if info.state == state && info.note == note {
                 count = count.saturating_add(1);
             }
