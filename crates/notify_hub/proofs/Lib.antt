@@ -1,4 +1,1 @@
-mod Calls
-mod Growing
 mod Listens
-mod Registering
