@@ -99,7 +99,31 @@ fn outcome<E: Threads + Wait + Pause + Sync>(
     ))
 }
 
-/// The number of the status with which a run of these words ends.
+/// A run: its words, its text and the reads that fail, how many bytes can be written, the writes that fail, and whether finishing
+/// fails.
+#[derive(Clone, Copy)]
+struct Setting<'a> {
+    line: &'a str,
+    text: &'a str,
+    reads: &'a [u64],
+    room: usize,
+    writes: &'a [u64],
+    finish_fails: bool,
+}
+
+/// A run of these words on this text of which nothing fails.
+fn plain<'a>(line: &'a str, text: &'a str) -> Setting<'a> {
+    Setting {
+        line,
+        text,
+        reads: &[],
+        room: 1000,
+        writes: &[],
+        finish_fails: false,
+    }
+}
+
+/// The number of the status with which a run ends.
 fn number<E: Threads + Wait + Pause + Sync>(
     rt: &E,
     alloc: Global,
@@ -112,33 +136,30 @@ fn number<E: Threads + Wait + Pause + Sync>(
     Ok(status.number())
 }
 
-/// How many calls move so many bytes, of which each moves at most 64.
-fn calls(length: usize) -> u64 {
-    length.div_ceil(64) as u64
+/// The same, and what is written.
+fn ended<E: Threads + Wait + Pause + Sync>(
+    rt: &E,
+    alloc: Global,
+    run: &Setting,
+) -> Result<(u8, Vec<u8>), Fail> {
+    let mut source = source(alloc, run.text, run.reads)?;
+    let failing = places(alloc, run.writes)?;
+    let mut sink = MemorySink::new(alloc, run.room, failing, run.finish_fails)?;
+    let number = number(rt, alloc, run.line, &mut source, &mut sink)?;
+    Ok((number, Vec::from_slice(alloc, sink.bytes())?))
 }
 
-#[test]
-fn each_read_may_fail(rt: HostRuntime) -> Result<(), Fail> {
-    let alloc = rt.alloc();
-    for (word, text, written) in &COMMANDS {
-        // The last read finds the end, and no other one follows.
-        let last = calls(text.len()).saturating_add(1);
-        for failing in 1..=last.saturating_add(1) {
-            let mut source = source(alloc, text, &[failing])?;
-            let mut sink = sink(alloc, 1000, &[])?;
-            let (status, wanted) = if failing <= last {
-                (3, "")
-            } else {
-                (0, *written)
-            };
-            assert!(rt;
-                number(&rt, alloc, word, &mut source, &mut sink)? == status,
-                "{word} {failing}"
-            );
-            assert!(rt; sink.bytes() == wanted.as_bytes(), "{word} {failing}");
-        }
-    }
-    Ok(())
+/// Whether a run ends with this status, and the bytes that it writes are so many first ones of this text.
+fn ends<E: Threads + Wait + Pause + Sync>(
+    rt: &E,
+    alloc: Global,
+    run: &Setting,
+    status: u8,
+    written: &str,
+    count: usize,
+) -> Result<bool, Fail> {
+    let (number, bytes) = ended(rt, alloc, run)?;
+    Ok(number == status && is_front(bytes.as_slice(), written, count))
 }
 
 /// Whether these are so many first bytes of the text.
@@ -146,24 +167,55 @@ fn is_front(bytes: &[u8], text: &str, count: usize) -> bool {
     bytes.len() == count && text.as_bytes().starts_with(bytes)
 }
 
+/// How many calls move so many bytes, of which each moves at most 64.
+fn calls(length: usize) -> u64 {
+    length.div_ceil(64) as u64
+}
+
+#[test]
+fn each_read_may_fail(rt: HostRuntime) -> Result<(), Fail> {
+    for (word, text, written) in &COMMANDS {
+        // The last read finds the end, and no other one follows.
+        let last = calls(text.len()).saturating_add(1);
+        for failing in 1..=last.saturating_add(1) {
+            let (status, count) = if failing <= last {
+                (3, 0)
+            } else {
+                (0, written.len())
+            };
+            let reads = [failing];
+            let run = Setting {
+                reads: &reads,
+                ..plain(word, text)
+            };
+            assert!(rt;
+                ends(&rt, rt.alloc(), &run, status, written, count)?,
+                "{word} {failing}"
+            );
+        }
+    }
+    Ok(())
+}
+
 #[test]
 fn each_write_may_fail(rt: HostRuntime) -> Result<(), Fail> {
-    let alloc = rt.alloc();
     for (word, text, written) in &COMMANDS {
         let last = calls(written.len());
         for failing in 1..=last.saturating_add(1) {
-            let mut source = source(alloc, text, &[])?;
-            let mut sink = sink(alloc, 1000, &[failing])?;
             let (status, count) = if failing <= last {
                 (4, (failing.saturating_sub(1) as usize).saturating_mul(64))
             } else {
                 (0, written.len())
             };
+            let writes = [failing];
+            let run = Setting {
+                writes: &writes,
+                ..plain(word, text)
+            };
             assert!(rt;
-                number(&rt, alloc, word, &mut source, &mut sink)? == status,
+                ends(&rt, rt.alloc(), &run, status, written, count)?,
                 "{word} {failing}"
             );
-            assert!(rt; is_front(sink.bytes(), written, count), "{word} {failing}");
         }
     }
     Ok(())
@@ -171,7 +223,6 @@ fn each_write_may_fail(rt: HostRuntime) -> Result<(), Fail> {
 
 #[test]
 fn the_last_bytes_may_find_no_room_and_finishing_may_fail(rt: HostRuntime) -> Result<(), Fail> {
-    let alloc = rt.alloc();
     for (word, text, written) in &COMMANDS {
         let length = written.len();
         for (room, finish_fails, status) in [
@@ -179,13 +230,15 @@ fn the_last_bytes_may_find_no_room_and_finishing_may_fail(rt: HostRuntime) -> Re
             (length.saturating_sub(1), false, 4),
             (length, true, 4),
         ] {
-            let mut source = source(alloc, text, &[])?;
-            let mut sink = MemorySink::new(alloc, room, places(alloc, &[])?, finish_fails)?;
+            let run = Setting {
+                room,
+                finish_fails,
+                ..plain(word, text)
+            };
             assert!(rt;
-                number(&rt, alloc, word, &mut source, &mut sink)? == status,
+                ends(&rt, rt.alloc(), &run, status, written, room)?,
                 "{word} {room}"
             );
-            assert!(rt; is_front(sink.bytes(), written, room), "{word} {room}");
         }
     }
     Ok(())
@@ -214,15 +267,16 @@ const ORDER: [(&str, &str, &[u64], u8); 16] = [
 
 #[test]
 fn causes_come_in_their_order(rt: HostRuntime) -> Result<(), Fail> {
-    let alloc = rt.alloc();
-    for (line, text, failing, status) in &ORDER {
-        let mut source = source(alloc, text, failing)?;
-        let mut sink = sink(alloc, 1000, &[1, 2, 3, 4, 5])?;
+    for (line, text, reads, status) in &ORDER {
+        let run = Setting {
+            reads,
+            writes: &[1, 2, 3, 4, 5],
+            ..plain(line, text)
+        };
         assert!(rt;
-            number(&rt, alloc, line, &mut source, &mut sink)? == *status,
+            ends(&rt, rt.alloc(), &run, *status, "", 0)?,
             "{line} {status}"
         );
-        assert!(rt; sink.bytes().is_empty(), "{line} {status}");
     }
     Ok(())
 }
@@ -308,24 +362,35 @@ const FORGED: [(&str, u64, Said, Said); 6] = [
 const FRONT: &str =
     "drmaa-journal 1 4 \"node1\" suspend\n1 1 @0 create-jobs \"s\" = session 1\n2 1 @0 run 1 {command \"true\"} = job 1\n";
 
+/// The fault of a journal with these entries behind the first two; each write would fail.
+fn fault_in<E: Threads + Wait + Pause + Sync>(
+    rt: &E,
+    alloc: Global,
+    entries: &str,
+) -> Result<Option<(u64, Said, Said)>, Fail> {
+    let journal = format!(in alloc; "{FRONT}{entries}")?;
+    let mut source = source(alloc, journal.as_str(), &[])?;
+    let mut sink = sink(alloc, 1000, &[1])?;
+    fault_at(rt, alloc, &mut source, &mut sink)
+}
+
+/// The fault of the journal that the source has.
+fn fault_at<E: Threads + Wait + Pause + Sync>(
+    rt: &E,
+    alloc: Global,
+    source: &mut MemorySource,
+    sink: &mut MemorySink,
+) -> Result<Option<(u64, Said, Said)>, Fail> {
+    let mut spawner = MemorySpawner::new(alloc, FateList::new(alloc), PlaceList::new(alloc));
+    let Outcome { status, .. } = outcome(rt, alloc, "check", source, sink, &mut spawner)?;
+    Ok(fault_of(&status))
+}
+
 #[test]
 fn a_fault_has_the_reply_given_and_the_machine_s(rt: HostRuntime) -> Result<(), Fail> {
-    let alloc = rt.alloc();
     for (entries, entry, given, machine) in &FORGED {
-        let journal = format!(in alloc; "{FRONT}{entries}")?;
-        let mut source = source(alloc, journal.as_str(), &[])?;
-        let mut sink = sink(alloc, 1000, &[1])?;
-        let mut spawner = MemorySpawner::new(alloc, FateList::new(alloc), PlaceList::new(alloc));
-        let Outcome { status, .. } = outcome(
-            &rt,
-            alloc,
-            "check",
-            &mut source,
-            &mut sink,
-            &mut spawner,
-        )?;
         assert!(rt;
-            fault_of(&status) == Some((*entry, *given, *machine)),
+            fault_in(&rt, rt.alloc(), entries)? == Some((*entry, *given, *machine)),
             "{entries}"
         );
     }
@@ -344,27 +409,54 @@ fn times(bytes: &[u8], text: &str) -> usize {
         .count()
 }
 
-#[test]
-fn clients_in_threads_leave_a_legal_journal(rt: HostRuntime) -> Result<(), Fail> {
-    let alloc = rt.alloc();
+/// What is compared of a run of clients in threads: its status, how many clocks it gives back, how many starts were asked for, and
+/// the journal.
+struct Ran {
+    status: u8,
+    clocks: usize,
+    starts: usize,
+    journal: Vec<u8>,
+}
+
+/// A run of that script, of which the second start fails.
+fn night<E: Threads + Wait + Pause + Sync>(rt: &E, alloc: Global) -> Result<Ran, Fail> {
     let mut source = source(alloc, NIGHTLY, &[])?;
     let mut sink = sink(alloc, 8000, &[])?;
     let mut spawner = MemorySpawner::new(alloc, FateList::new(alloc), places(alloc, &[2])?);
-    let Outcome { status, clocks } = outcome(
-        &rt,
-        alloc,
-        "threads",
-        &mut source,
-        &mut sink,
-        &mut spawner,
-    )?;
-    assert_eq!(rt; status.number(), 0);
-    assert_eq!(rt; clocks.as_slice().len(), 5);
-    assert_eq!(rt; spawner.asked().len(), 2);
-    assert_eq!(rt; times(sink.bytes(), "= info {"), 2);
-    assert_eq!(rt; times(sink.bytes(), " state DONE "), 1);
-    assert_eq!(rt; times(sink.bytes(), "note startFailed"), 1);
-    is_legal(&rt, alloc, sink.bytes())
+    let (status, clocks) = counted(rt, alloc, &mut source, &mut sink, &mut spawner)?;
+    Ok(Ran {
+        status,
+        clocks,
+        starts: spawner.asked().len(),
+        journal: Vec::from_slice(alloc, sink.bytes())?,
+    })
+}
+
+/// The status of a run of `threads`, and how many clocks it gives back.
+fn counted<E: Threads + Wait + Pause + Sync>(
+    rt: &E,
+    alloc: Global,
+    source: &mut MemorySource,
+    sink: &mut MemorySink,
+    spawner: &mut MemorySpawner,
+) -> Result<(u8, usize), Fail> {
+    let Outcome { status, clocks } = outcome(rt, alloc, "threads", source, sink, spawner)?;
+    Ok((status.number(), clocks.as_slice().len()))
+}
+
+#[test]
+fn clients_in_threads_leave_a_legal_journal(rt: HostRuntime) -> Result<(), Fail> {
+    let Ran {
+        status,
+        clocks,
+        starts,
+        journal,
+    } = night(&rt, rt.alloc())?;
+    assert_eq!(rt; (status, clocks, starts), (0, 5, 2));
+    assert_eq!(rt; times(journal.as_slice(), "= info {"), 2);
+    assert_eq!(rt; times(journal.as_slice(), " state DONE "), 1);
+    assert_eq!(rt; times(journal.as_slice(), "note startFailed"), 1);
+    is_legal(&rt, rt.alloc(), journal.as_slice())
 }
 
 /// Checks a journal.

@@ -1,5 +1,8 @@
 use crate::asking::{Ask, Said, answer_to, machine};
+use drmaa_machine::Machine;
 use drmaa_types::{Control, JobState, Refusal, SignalKind};
+use std::alloc::AllocGlobal;
+use std::process::Abort;
 use std::test::Fail;
 
 const RUNNING: Said = Said::Refused(Refusal::InvalidState(JobState::Running));
@@ -32,15 +35,25 @@ const HISTORY: [(Ask, Said, u64); 15] = [
 fn a_journal_is_full_at_its_size(rt: HostRuntime) -> Result<(), Fail> {
     for journal in 1..=40 {
         let mut machine = machine(rt.alloc(), journal)?;
-        for (call, answer, size) in HISTORY {
-            let found = answer_to(rt.alloc(), &mut machine, call)?;
-            if size > journal {
-                assert_eq!(rt; found, Said::Full(size));
-                break;
-            }
-            assert_eq!(rt; found, answer);
-        }
-        assert_eq!(rt; machine.config().journal, journal);
+        assert_full(&rt, &mut machine, journal)?;
     }
+    Ok(())
+}
+
+/// Asserts that a machine with this journal size answers so.
+fn assert_full(
+    rt: &(impl Abort + AllocGlobal),
+    machine: &mut Machine,
+    journal: u64,
+) -> Result<(), Fail> {
+    for (call, answer, size) in HISTORY {
+        let found = answer_to(rt.alloc(), machine, call)?;
+        if size > journal {
+            assert_eq!(rt; found, Said::Full(size));
+            break;
+        }
+        assert_eq!(rt; found, answer);
+    }
+    assert_eq!(rt; machine.config().journal, journal);
     Ok(())
 }

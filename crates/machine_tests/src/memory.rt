@@ -1,5 +1,8 @@
 use crate::asking::{Ask, Said, answer_to, machine};
+use drmaa_machine::Machine;
 use drmaa_types::{Control, JobState, Limit, Refusal};
+use std::alloc::AllocGlobal;
+use std::process::Abort;
 use std::test::Fail;
 
 /// Each call that may want memory, once, with ample memory.
@@ -33,31 +36,38 @@ const CALLS: [(Ask, Said); 27] = [
     (Ask::Exited, Said::Unit),
 ];
 
-#[test]
-fn calls_are_served_where_memory_is_ample(rt: HostRuntime) -> Result<(), Fail> {
-    let mut machine = machine(rt.alloc(), 4_000_000)?;
+/// Asserts that the machine serves these calls.
+fn assert_served(rt: &(impl Abort + AllocGlobal), machine: &mut Machine) -> Result<(), Fail> {
     assert!(rt; machine.reserve(100).is_ok());
     for (call, answer) in CALLS {
-        assert_eq!(rt;
-            answer_to(rt.alloc(), &mut machine, call)?,
-            answer,
-            "{call:?}"
-        );
+        assert_eq!(rt; answer_to(rt.alloc(), machine, call)?, answer, "{call:?}");
     }
     assert_eq!(rt; machine.entries().len(), CALLS.len());
     Ok(())
 }
 
 #[test]
+fn calls_are_served_where_memory_is_ample(rt: HostRuntime) -> Result<(), Fail> {
+    let mut machine = machine(rt.alloc(), 4_000_000)?;
+    assert_served(&rt, &mut machine)
+}
+
+/// Asserts that the machine takes 64 callbacks and no more.
+fn assert_64(rt: &(impl Abort + AllocGlobal), machine: &mut Machine) -> Result<(), Fail> {
+    for number in 1..=64 {
+        let answer = answer_to(rt.alloc(), machine, Ask::Register)?;
+        assert_eq!(rt; answer, Said::Callback(number));
+    }
+    let answer = answer_to(rt.alloc(), machine, Ask::Register)?;
+    assert_eq!(rt;
+        answer,
+        Said::Refused(Refusal::OutOfResource(Limit::Callbacks))
+    );
+    Ok(())
+}
+
+#[test]
 fn a_machine_takes_64_callbacks(rt: HostRuntime) -> Result<(), Fail> {
     let mut machine = machine(rt.alloc(), 4_000_000)?;
-    for number in 1..=64 {
-        assert_eq!(rt;
-            answer_to(rt.alloc(), &mut machine, Ask::Register)?,
-            Said::Callback(number)
-        );
-    }
-    let answer = Said::Refused(Refusal::OutOfResource(Limit::Callbacks));
-    assert_eq!(rt; answer_to(rt.alloc(), &mut machine, Ask::Register)?, answer);
-    Ok(())
+    assert_64(&rt, &mut machine)
 }

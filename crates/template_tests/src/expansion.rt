@@ -2,7 +2,7 @@
 use crate::builders::{Sample, job, list, sample_text, text};
 use drmaa_types::{Refusal, Text, TextList};
 use job_template::{JobTemplate, Pair, PairList, expand, launch_words};
-use std::alloc::Global;
+use std::alloc::{AllocError, Global};
 use std::test::Fail;
 
 const PLACEHOLDER: &str = "$DRMAA2_INDEX$";
@@ -34,18 +34,28 @@ fn one(alloc: Global, characters: &str) -> TextList {
     list(alloc, vec![in alloc; text(alloc, characters)])
 }
 
-/// The arguments of the member with this index of an array whose template has this argument.
-fn expanded(alloc: Global, arg: &str, index: u32) -> Result<TextList, Refusal> {
+/// The template of the member with this index of an array with this template.
+fn member(alloc: Global, template: JobTemplate, index: u32) -> Result<JobTemplate, Refusal> {
+    expand(alloc, &template, index)
+}
+
+/// Whether the template has this argument alone.
+fn has_arg(template: JobTemplate, want: &str) -> bool {
+    is_alone(&template.args, want)
+}
+
+/// A template with this argument.
+fn with_arg(alloc: Global, arg: &str) -> JobTemplate {
     let mut template = job(alloc, sample_text(alloc, Sample::Word));
     template.args = one(alloc, arg);
-    Ok(expand(alloc, &template, index)?.args)
+    template
 }
 
 #[test]
 fn an_index_stands_for_each_placeholder(rt: HostRuntime) -> Result<(), Fail> {
     let alloc = rt.alloc();
     for (arg, index, want) in &EXPANSIONS {
-        assert!(rt; is_alone(&expanded(alloc, arg, *index)?, want));
+        assert!(rt; has_arg(member(alloc, with_arg(alloc, arg), *index)?, want));
     }
     Ok(())
 }
@@ -86,41 +96,46 @@ fn is_pair(pairs: &PairList, name: &str, value: &str) -> bool {
     }
 }
 
+/// Whether args, values and paths of the member are this, and its name and its command are placeholders still.
+fn is_expanded(member: JobTemplate, index: &str) -> bool {
+    is_alone(&member.args, index)
+        && is_pair(&member.job_environment, PLACEHOLDER, index)
+        && is_set(&member.working_directory, index)
+        && is_set(&member.input_path, index)
+        && is_set(&member.output_path, index)
+        && is_set(&member.error_path, index)
+        && is_set(&member.job_name, PLACEHOLDER)
+        && member.remote_command.as_str() == PLACEHOLDER
+}
+
 #[test]
 fn args_values_and_paths_are_expanded(rt: HostRuntime) -> Result<(), Fail> {
-    let member = expand(rt.alloc(), &marked(rt.alloc()), 12)?;
-    let index = "12";
-    assert!(rt; is_alone(&member.args, index));
-    assert!(rt; is_pair(&member.job_environment, PLACEHOLDER, index));
-    for path in [
-        &member.working_directory,
-        &member.input_path,
-        &member.output_path,
-        &member.error_path,
-    ] {
-        assert!(rt; is_set(path, index));
-    }
-    assert!(rt; is_set(&member.job_name, PLACEHOLDER));
-    assert!(rt; member.remote_command.as_str() == PLACEHOLDER);
+    let alloc = rt.alloc();
+    assert!(rt; is_expanded(member(alloc, marked(alloc), 12)?, "12"));
     Ok(())
 }
 
-/// Whether these words launch the template. Bars stand between them.
-fn is_launched_by(alloc: Global, template: &JobTemplate, line: &str) -> Result<bool, Refusal> {
-    let words = launch_words(alloc, template)?;
+/// The words that launch a template.
+fn words_of(alloc: Global, template: JobTemplate) -> Result<TextList, Refusal> {
+    launch_words(alloc, &template)
+}
+
+/// Whether the words are these. Bars stand between them.
+fn are(words: &TextList, line: &str) -> bool {
     let mut wanted = line.split('|');
     for word in words.as_slice() {
         if wanted.next() != Some(word.as_str()) {
-            return Ok(false);
+            return false;
         }
     }
-    Ok(wanted.next().is_none())
+    wanted.next().is_none()
 }
 
 #[test]
 fn a_command_is_launched_by_seven_words(rt: HostRuntime) -> Result<(), Fail> {
-    let template = job(rt.alloc(), text(rt.alloc(), "true"));
-    assert!(rt; is_launched_by(rt.alloc(), &template, "||||apart|0|true")?);
+    let alloc = rt.alloc();
+    let words = words_of(alloc, job(alloc, text(alloc, "true")))?;
+    assert!(rt; are(&words, "||||apart|0|true"));
     Ok(())
 }
 
@@ -154,18 +169,26 @@ fn set(alloc: Global, input: Option<Text>, error: Option<Text>) -> JobTemplate {
 #[test]
 fn the_words_stand_in_order(rt: HostRuntime) -> Result<(), Fail> {
     let alloc = rt.alloc();
-    let template = set(alloc, Some(text(alloc, "in")), None);
-    let line = "/tmp|in|out.txt||apart|1|A=b=c|sh|-c|exit 0";
-    assert!(rt; is_launched_by(alloc, &template, line)?);
+    let words = words_of(alloc, set(alloc, Some(text(alloc, "in")), None))?;
+    assert!(rt; are(&words, "/tmp|in|out.txt||apart|1|A=b=c|sh|-c|exit 0"));
     Ok(())
+}
+
+/// The template with its files joined.
+fn joined(mut template: JobTemplate) -> JobTemplate {
+    template.join_files = true;
+    template
+}
+
+fn copy_of(template: JobTemplate) -> Result<JobTemplate, AllocError> {
+    template.clone()
 }
 
 #[test]
 fn the_files_of_a_copy_are_joined(rt: HostRuntime) -> Result<(), Fail> {
     let alloc = rt.alloc();
-    let mut template = set(alloc, None, Some(text(alloc, "err"))).clone()?;
-    template.join_files = true;
-    let line = "/tmp||out.txt|err|join|1|A=b=c|sh|-c|exit 0";
-    assert!(rt; is_launched_by(alloc, &template, line)?);
+    let copy = copy_of(set(alloc, None, Some(text(alloc, "err"))))?;
+    let words = words_of(alloc, joined(copy))?;
+    assert!(rt; are(&words, "/tmp||out.txt|err|join|1|A=b=c|sh|-c|exit 0"));
     Ok(())
 }

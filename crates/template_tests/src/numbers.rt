@@ -38,12 +38,16 @@ fn wide(alloc: Global, min: Option<u32>, max: Option<u32>) -> JobTemplate {
     template
 }
 
+/// What is refused of a template with these numbers of slots, on a machine of so many.
+fn refused_of(alloc: Global, slots: u32, min: Option<u32>, max: Option<u32>) -> Option<Refusal> {
+    validate_job(&wide(alloc, min, max), slots, moment(0)).err()
+}
+
 #[test]
 fn slots_are_those_of_the_machine(rt: HostRuntime) {
     for (slots, min, max, which) in &SLOTS {
-        let template = wide(rt.alloc(), *min, *max);
-        let said = validate_job(&template, *slots, moment(0));
-        assert_eq!(rt; said.err(), refusal(*which));
+        let said = refused_of(rt.alloc(), *slots, *min, *max);
+        assert_eq!(rt; said, refusal(*which));
     }
 }
 
@@ -71,17 +75,30 @@ fn timed(alloc: Global, start: Option<u64>, deadline: Option<u64>) -> JobTemplat
     template
 }
 
+/// What is refused at this moment of a template with this start and this deadline.
+fn refused_at(
+    alloc: Global,
+    now: u64,
+    start: Option<u64>,
+    deadline: Option<u64>,
+) -> Option<Refusal> {
+    validate_job(&timed(alloc, start, deadline), 4, moment(now)).err()
+}
+
+/// What is refused where the deadline is not good.
+fn wanted(good: bool) -> Option<Refusal> {
+    if good {
+        None
+    } else {
+        refusal(Some(Which::DeadlineTime))
+    }
+}
+
 #[test]
 fn a_deadline_is_after_now_and_after_the_start(rt: HostRuntime) {
     for (now, start, deadline, good) in &DEADLINES {
-        let template = timed(rt.alloc(), *start, *deadline);
-        let said = validate_job(&template, 4, moment(*now));
-        let which = if *good {
-            None
-        } else {
-            Some(Which::DeadlineTime)
-        };
-        assert_eq!(rt; said.err(), refusal(which));
+        let said = refused_at(rt.alloc(), *now, *start, *deadline);
+        assert_eq!(rt; said, wanted(*good));
     }
 }
 
@@ -92,16 +109,21 @@ const ATTRIBUTES: [(Attribute, Attribute); 4] = [
     (Attribute::StageInFiles, Attribute::CandidateMachines),
 ];
 
-/// What is refused of a template with these attributes, at least two slots and at most so many.
+/// A template with these attributes, at least two slots and at most so many.
+fn lacking(alloc: Global, first: Attribute, second: Attribute, max: Option<u32>) -> JobTemplate {
+    let mut template = wide(alloc, Some(2), max);
+    template.others = attributes(alloc, first, second);
+    template
+}
+
+/// What is refused of that template.
 fn refused(
     alloc: Global,
     first: Attribute,
     second: Attribute,
     max: Option<u32>,
 ) -> Option<Refusal> {
-    let mut template = wide(alloc, Some(2), max);
-    template.others = attributes(alloc, first, second);
-    validate_job(&template, 4, moment(0)).err()
+    validate_job(&lacking(alloc, first, second, max), 4, moment(0)).err()
 }
 
 #[test]

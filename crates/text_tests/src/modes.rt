@@ -3,7 +3,7 @@ use crate::builders::{at_line, changed};
 use crate::lines::assert_block;
 use drmaa_types::Timeout;
 use script_lines::Line;
-use script_text::{Mode, Script, read_script};
+use script_text::{Block, Mode, Script, read_script};
 use std::alloc::{AllocGlobal, Global};
 use std::process::Abort;
 use std::test::Fail;
@@ -160,17 +160,50 @@ fn read_for_threads(alloc: Global, text: &str) -> Result<Script, Fail> {
     Ok(read_script(alloc, text.as_bytes(), Mode::Threads)?)
 }
 
+/// Asserts that the setup block has these lines.
+fn assert_setup(
+    rt: &(impl Abort + AllocGlobal),
+    script: &Script,
+    lines: &[&'static str],
+) -> Result<(), Fail> {
+    match &script.setup {
+        Some(setup) => assert_block(rt, setup, lines),
+        None => Err("no setup block".into()),
+    }
+}
+
+/// Asserts that the block has these lines, of which the one at this place is a wait with this timeout.
+fn assert_waiting(
+    rt: &(impl Abort + AllocGlobal),
+    block: &Block,
+    lines: &[&'static str],
+    place: usize,
+    timeout: Timeout,
+) -> Result<(), Fail> {
+    assert_block(rt, block, lines)?;
+    let wait = block.lines().get(place).ok_or("no wait")?;
+    assert_eq!(rt; timeout_of(wait), Some(timeout));
+    Ok(())
+}
+
+/// Asserts that the script is the one above.
+fn assert_nightly(rt: &(impl Abort + AllocGlobal), script: &Script) -> Result<(), Fail> {
+    assert_setup(rt, script, &["create-jobs z \"nightly\""])?;
+    assert_eq!(rt; script.clients.as_slice().len(), 2);
+    for block in script.clients.as_slice() {
+        assert_waiting(rt, block, NIGHTLY_LINES.as_slice(), 2, Timeout::Infinite)?;
+    }
+    Ok(())
+}
+
 #[test]
 fn two_clients_wait_without_end(rt: HostRuntime) -> Result<(), Fail> {
     let script = read_for_threads(rt.alloc(), NIGHTLY)?;
-    let setup = script.setup.as_ref().ok_or("no setup block")?;
-    assert_block(&rt, setup, &["create-jobs z \"nightly\""])?;
-    assert_eq!(rt; script.clients.as_slice().len(), 2);
-    for block in script.clients.as_slice() {
-        assert_block(&rt, block, NIGHTLY_LINES.as_slice())?;
-        let wait = block.lines().get(2).ok_or("no wait")?;
-        assert_eq!(rt; timeout_of(wait), Some(Timeout::Infinite));
-    }
+    assert_nightly(&rt, &script)
+}
+
+#[test]
+fn a_script_whose_waits_have_no_end_is_no_serial_one(rt: HostRuntime) -> Result<(), Fail> {
     let fault = read_script(rt.alloc(), NIGHTLY.as_bytes(), Mode::Serial).err();
     assert_eq!(rt; fault, at_line(18));
     Ok(())
@@ -180,16 +213,23 @@ fn two_clients_wait_without_end(rt: HostRuntime) -> Result<(), Fail> {
 const HELD_START: &str =
     "machine 4 \"node1\" suspend\ntemplate t\ncommand \"true\"\nend\nsetup\ncreate-jobs s \"s\"\nrun j s t\nend\nclient\nwait-terminated s 5000000 j\nend\n";
 
+/// Asserts that the script is the one above.
+fn assert_held_start(rt: &(impl Abort + AllocGlobal), script: &Script) -> Result<(), Fail> {
+    assert_setup(rt, script, &["create-jobs s \"s\"", "run j s t"])?;
+    match script.clients.as_slice() {
+        [block] => assert_waiting(
+            rt,
+            block,
+            &["wait-terminated s 5000000 j"],
+            0,
+            Timeout::Seconds(5_000_000),
+        ),
+        _ => Err("not one client".into()),
+    }
+}
+
 #[test]
 fn one_client_waits_for_a_number_of_seconds(rt: HostRuntime) -> Result<(), Fail> {
     let script = read_for_threads(rt.alloc(), HELD_START)?;
-    let setup = script.setup.as_ref().ok_or("no setup block")?;
-    assert_block(&rt, setup, &["create-jobs s \"s\"", "run j s t"])?;
-    let [block] = script.clients.as_slice() else {
-        return Err("not one client".into());
-    };
-    assert_block(&rt, block, &["wait-terminated s 5000000 j"])?;
-    let wait = block.lines().first().ok_or("no wait")?;
-    assert_eq!(rt; timeout_of(wait), Some(Timeout::Seconds(5_000_000)));
-    Ok(())
+    assert_held_start(&rt, &script)
 }

@@ -4,6 +4,7 @@ use drmaa_model::{Call, Entry, Reply};
 use drmaa_types::{ArrayId, Exit, JobId, ReservationId, SessionId, SignalKind};
 use journal_text::{Journal, print_journal, read_journal};
 use std::alloc::Global;
+use std::process::Abort;
 use std::test::Fail;
 
 /// A journal that has every call and every reply.
@@ -95,23 +96,32 @@ fn entry(journal: &Journal, number: usize) -> Option<&Entry> {
     journal.entries.as_slice().get(number.checked_sub(1)?)
 }
 
+/// Asserts that the journal has its fields in their order.
+fn assert_in_order(rt: &impl Abort, journal: &Journal) -> Result<(), Fail> {
+    let bulk = entry(journal, 15).ok_or("no entry")?;
+    assert!(rt; is_bulk(&bulk.call));
+    assert!(rt; is_array(&bulk.reply));
+    let launch = entry(journal, 50).ok_or("no entry")?;
+    assert!(rt; is_launch(&launch.reply));
+    let reserved = entry(journal, 38).ok_or("no entry")?;
+    assert!(rt; is_reserved(&reserved.reply));
+    let done = entry(journal, 57).ok_or("no entry")?;
+    assert!(rt; is_stop(&done.call));
+    let exit = entry(journal, 54).ok_or("no entry")?;
+    assert!(rt; is_signal_9(&exit.call));
+    Ok(())
+}
+
+fn every(alloc: Global) -> Result<Journal, Fail> {
+    let text = whole(alloc, EVERY.as_slice())?;
+    Ok(read_journal(alloc, text.as_str().as_bytes())?)
+}
+
 /// The fields that a journal has in an order of its own.
 #[test]
 fn fields_stand_in_their_order(rt: HostRuntime) -> Result<(), Fail> {
-    let text = whole(rt.alloc(), EVERY.as_slice())?;
-    let journal = read_journal(rt.alloc(), text.as_str().as_bytes())?;
-    let bulk = entry(&journal, 15).ok_or("no entry")?;
-    assert!(rt; is_bulk(&bulk.call));
-    assert!(rt; is_array(&bulk.reply));
-    let launch = entry(&journal, 50).ok_or("no entry")?;
-    assert!(rt; is_launch(&launch.reply));
-    let reserved = entry(&journal, 38).ok_or("no entry")?;
-    assert!(rt; is_reserved(&reserved.reply));
-    let done = entry(&journal, 57).ok_or("no entry")?;
-    assert!(rt; is_stop(&done.call));
-    let exit = entry(&journal, 54).ok_or("no entry")?;
-    assert!(rt; is_signal_9(&exit.call));
-    Ok(())
+    let journal = every(rt.alloc())?;
+    assert_in_order(&rt, &journal)
 }
 
 fn is_bulk(call: &Call) -> bool {

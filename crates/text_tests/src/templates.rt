@@ -3,7 +3,8 @@ use drmaa_model::Config;
 use drmaa_types::{Attribute, Text, TextList};
 use job_template::{JobTemplate, Pair, ReservationTemplate, ResourceLimit, Start};
 use script_text::{Keyed, Mode, Script, read_script};
-use std::alloc::Global;
+use std::alloc::{AllocGlobal, Global};
+use std::process::Abort;
 use std::test::Fail;
 
 /// The machine line.
@@ -188,6 +189,11 @@ fn are_read(
     reservations: &[&str],
 ) -> Result<bool, Fail> {
     let script = script_of(alloc, jobs, reservations)?;
+    has_templates(alloc, &script, want)
+}
+
+/// Whether the script has both templates with every field.
+fn has_templates(alloc: Global, script: &Script, want: &Twice) -> Result<bool, Fail> {
     let template = named(alloc, &script.jobs, "t")?;
     let frame = named(alloc, &script.reservations, "f")?;
     Ok(is_whole(template, want) && is_frame(frame))
@@ -238,12 +244,17 @@ fn is_now(template: &ReservationTemplate) -> bool {
         && template.duration.is_none()
 }
 
-#[test]
-fn what_no_line_sets_is_unset(rt: HostRuntime) -> Result<(), Fail> {
-    let script = script_of(rt.alloc(), &["command \"sh\""], &["start now"])?;
+/// Asserts that the script has its machine line, a job template that no line sets, a start, and no block.
+fn assert_bare(rt: &(impl Abort + AllocGlobal), script: &Script) -> Result<(), Fail> {
     assert!(rt; is_machine(&script.config));
     assert!(rt; is_bare(named(rt.alloc(), &script.jobs, "bare")?));
     assert!(rt; is_now(named(rt.alloc(), &script.reservations, "f")?));
     assert!(rt; script.setup.is_none() && script.clients.as_slice().is_empty());
     Ok(())
+}
+
+#[test]
+fn what_no_line_sets_is_unset(rt: HostRuntime) -> Result<(), Fail> {
+    let script = script_of(rt.alloc(), &["command \"sh\""], &["start now"])?;
+    assert_bare(&rt, &script)
 }

@@ -3,9 +3,11 @@ use crate::plays::play;
 use crate::stopped::StoppedClocks;
 use call_history::{Bell, Entry, Reply};
 use child_spawner::{FateList, MemorySpawner};
-use drmaa_types::{JobState, Note, PlaceList};
-use std::alloc::{AllocError, Global};
+use drmaa_types::{JobState, Note, PlaceList, StepClock};
+use std::alloc::{AllocError, AllocGlobal, Global};
+use std::process::Abort;
 use std::test::Fail;
+use thread_play::Run;
 
 /// Two clients run a job each in sessions of the same name.
 const NIGHTLY: &str =
@@ -54,17 +56,16 @@ fn infos(entries: &[Entry]) -> u32 {
     count
 }
 
-/// The second start fails, and with it the job of one of the clients. Setup, clients, launcher and reaper are five callers.
-#[test]
-fn two_clients_run_a_job_each(rt: HostRuntime) -> Result<(), Fail> {
-    let alloc = rt.alloc();
-    let mut spawner = spawner(alloc, &[2])?;
-    let bell = Bell::new();
-    let run = play(&rt, alloc, NIGHTLY, &StoppedClocks, &mut spawner, &bell)?;
+/// Asserts that two jobs were run, one of which has not started. Setup, clients, launcher and reaper are five callers.
+fn assert_night(
+    rt: &(impl Abort + AllocGlobal),
+    run: &Run<StepClock>,
+    spawner: &MemorySpawner,
+) -> Result<(), Fail> {
     assert_eq!(rt; run.full, None);
     assert_eq!(rt; run.clocks.as_slice().len(), 5);
     assert!(rt; spawner.told());
-    let begun = begun(alloc, &spawner)?;
+    let begun = begun(rt.alloc(), spawner)?;
     assert_eq!(rt; begun.as_slice(), [true, false].as_slice());
     let entries = run.machine.entries();
     assert_eq!(rt; infos(entries), 2);
@@ -73,17 +74,43 @@ fn two_clients_run_a_job_each(rt: HostRuntime) -> Result<(), Fail> {
     Ok(())
 }
 
-/// Setup, launcher and reaper have a clock where there are no clients.
+/// The second start fails, and with it the job of one of the clients.
 #[test]
-fn a_machine_alone_is_called_by_nobody(rt: HostRuntime) -> Result<(), Fail> {
-    let alloc = rt.alloc();
-    let mut spawner = spawner(alloc, &[])?;
-    let bell = Bell::silent();
-    let run = play(&rt, alloc, MACHINE, &StoppedClocks, &mut spawner, &bell)?;
+fn two_clients_run_a_job_each(rt: HostRuntime) -> Result<(), Fail> {
+    let mut spawner = spawner(rt.alloc(), &[2])?;
+    let bell = Bell::new();
+    let run = play(
+        &rt,
+        rt.alloc(),
+        NIGHTLY,
+        &StoppedClocks,
+        &mut spawner,
+        &bell,
+    )?;
+    assert_night(&rt, &run, &spawner)
+}
+
+/// Asserts that nothing was called and nothing started. Setup, launcher and reaper have a clock where there are no clients.
+fn assert_quiet(rt: &impl Abort, run: &Run<StepClock>, spawner: &MemorySpawner) {
     assert_eq!(rt; run.full, None);
     assert_eq!(rt; run.clocks.as_slice().len(), 3);
     assert!(rt; run.machine.entries().is_empty());
     assert!(rt; spawner.told());
     assert!(rt; spawner.asked().is_empty());
+}
+
+#[test]
+fn a_machine_alone_is_called_by_nobody(rt: HostRuntime) -> Result<(), Fail> {
+    let mut spawner = spawner(rt.alloc(), &[])?;
+    let bell = Bell::silent();
+    let run = play(
+        &rt,
+        rt.alloc(),
+        MACHINE,
+        &StoppedClocks,
+        &mut spawner,
+        &bell,
+    )?;
+    assert_quiet(&rt, &run, &spawner);
     Ok(())
 }

@@ -7,12 +7,17 @@ use crate::commands::run;
 use crate::outcomes::Outcome;
 use crate::tests::flags::Flags;
 use crate::tests::{is_legal, sink, source, times, words};
+use byte_streams::{MemorySink, MemorySource};
 use call_history::Bell;
 use child_spawner::{Child, Spawner};
 use drmaa_types::{
     CallerId, Clock, Clocks, Exit, Failed, JobId, Moment, SignalKind, StepClock, TextList,
 };
+use std::alloc::Global;
+use std::sync::Wait;
 use std::test::Fail;
+use std::thread::Threads;
+use std::time::Clock as Pause;
 
 /// A client waits for a job of setup, for 5,000,000 seconds at most.
 const WAIT: &str =
@@ -106,33 +111,56 @@ impl<'a> Clocks for FreeingClocks<'a> {
     }
 }
 
-/// The launcher is within a start while the client reads its clock.
-#[test]
-fn a_client_plays_while_a_start_is_held(rt: HostRuntime) -> Result<(), Fail> {
-    let alloc = rt.alloc();
-    let flags = Flags::new();
+/// The status of a run with these flags, how many clocks it gives back, and the journal; how often something was started, and
+/// whether the start was freed.
+fn held<E: Threads + Wait + Pause + Sync>(
+    rt: &E,
+    alloc: Global,
+    flags: &Flags,
+) -> Result<(u8, usize, Vec<u8>, u32, bool), Fail> {
     let mut spawner = HeldSpawner {
-        flags: &flags,
+        flags,
         starts: 0,
         freed: false,
     };
-    let words = words(alloc, "threads")?;
     let mut source = source(alloc, WAIT, &[])?;
     let mut sink = sink(alloc, 1000, &[])?;
+    let (status, clocks) = counted(rt, alloc, flags, &mut source, &mut sink, &mut spawner)?;
+    let journal = Vec::from_slice(alloc, sink.bytes())?;
+    Ok((status, clocks, journal, spawner.starts, spawner.freed))
+}
+
+/// The status of that run, and how many clocks it gives back.
+fn counted<E: Threads + Wait + Pause + Sync>(
+    rt: &E,
+    alloc: Global,
+    flags: &Flags,
+    source: &mut MemorySource,
+    sink: &mut MemorySink,
+    spawner: &mut HeldSpawner,
+) -> Result<(u8, usize), Fail> {
+    let words = words(alloc, "threads")?;
+    let clocks = FreeingClocks { flags };
     let Outcome { status, clocks } = run(
-        &rt,
+        rt,
         alloc,
         &words,
-        &mut source,
-        &mut sink,
-        &FreeingClocks { flags: &flags },
-        &mut spawner,
+        source,
+        sink,
+        &clocks,
+        spawner,
         &Bell::silent(),
     );
-    assert_eq!(rt; status.number(), 0);
-    assert_eq!(rt; clocks.as_slice().len(), 4);
-    assert_eq!(rt; times(sink.bytes(), " = reached 1\n"), 1);
-    assert_eq!(rt; spawner.starts, 1);
-    assert!(rt; spawner.freed);
-    is_legal(&rt, alloc, sink.bytes())
+    Ok((status.number(), clocks.as_slice().len()))
+}
+
+/// The launcher is within a start while the client reads its clock.
+#[test]
+fn a_client_plays_while_a_start_is_held(rt: HostRuntime) -> Result<(), Fail> {
+    let flags = Flags::new();
+    let (status, clocks, journal, starts, freed) = held(&rt, rt.alloc(), &flags)?;
+    assert_eq!(rt; (status, clocks, starts), (0, 4, 1));
+    assert!(rt; freed);
+    assert_eq!(rt; times(journal.as_slice(), " = reached 1\n"), 1);
+    is_legal(&rt, rt.alloc(), journal.as_slice())
 }
