@@ -1,1 +1,8 @@
+mod Calls
+mod Growing
 mod Listens
+mod Looking
+mod Noting
+mod Pumping
+mod Registering
+mod Registrations

@@ -2,6 +2,8 @@ pub mod Ears
 pub mod Handed
 pub mod Hearing
 pub mod HearingLaws
+pub mod Hubs
 pub mod Kept
 pub mod PlaceLaws
 pub mod Places
+pub mod Registered

@@ -1,14 +1,16 @@
--- Laws of places: what stands from a place on is what a history has for its callback.
-use Rattle.std.specs.Prelude.{◌≡◌, ℕ, ◌+◌, List, [], map, drop, slice_index_or, Option, Some, None, refl}
+-- Laws of places: what stands from a place on is what a history has for its callback, and how many calls a batch makes.
+use Rattle.std.specs.Prelude.{◌≡◌, ℕ, ◌+◌, List, [], length, map, drop, take, slice_index_or, Option, Some, None, refl}
 use Rattle.std.specs.Option.{option_map_or}
-use Rattle.std.proofs.Common.{ap, ◌∙◌, subst}
+use Rattle.std.proofs.Common.{sym, ap, ◌∙◌, subst}
+use Rattle.std.proofs.Math.Seq.{take-append_seam}
 use Rattle.drmaa_types.specs.Notifications.{notification_of}
 use Rattle.drmaa_types.specs.declared.changes.Change.{Change}
 use Rattle.drmaa_types.specs.declared.changes.Notification.{Notification}
 use Rattle.drmaa_model.specs.declared.configs.Config.{Config}
 use Rattle.drmaa_model.specs.declared.entries.Entry.{Entry}
 use Rattle.drmaa_model.specs.Heard.{heard}
-use Rattle.notify_hub.specs.Ears.{Listening, place_at, from_place, notifications, HaveHeard}
+use Rattle.turn_lock.specs.Histories.{BeginsWith}
+use Rattle.notify_hub.specs.Ears.{Listening, place_at, from_place, notifications, EachHeard, HaveHeard}
 use Rattle.notify_hub.specs.Hearing.{HasHeard}
 use Rattle.notify_hub.specs.Places.{changes_of, place_of, HaveHeardAll}
 
@@ -21,7 +23,16 @@ heard-is config history n =
       | Some place ↦ refl
     ]
 
+-- a list that begins with another begins with as many of its items
+pub first-ones : (whole front : List Change) → BeginsWith whole front → take (length front) whole ≡ front
+first-ones whole front b = ap (take (length front)) b.whole ∙ take-append_seam front b.rest
+
 module _ {B : Type 0} {counted : B → ℕ} {told : B → Option (List Notification)} where
+  -- where the changes handed over are the first ones of a list, that is what was heard from each place on
+  pub heard-first : (ears : Listening B) (whole : List Change) → BeginsWith whole ears.handed → HaveHeard counted told ears
+      → EachHeard counted told (from_place (take (length ears.handed) whole)) ears.places ears.begun ears.callbacks
+  heard-first ears whole b h = subst (λ (xs : List Change). EachHeard counted told (from_place xs) ears.places ears.begun ears.callbacks) (sym (first-ones whole ears.handed b)) h
+
   -- where all changes of a history were handed over, each callback that has its place in the history heard all that the history has for it
   pub heard-all : (config : Config) (history : List Entry) (ears : Listening B) → ears.handed ≡ changes_of config history → HaveHeard counted told ears
       → HaveHeardAll counted told config history ears.places ears.begun ears.callbacks

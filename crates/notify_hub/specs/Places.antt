@@ -1,22 +1,41 @@
 -- Where callbacks stand in a machine's history, and which of its changes were handed over: our profile.
-use Rattle.std.specs.Prelude.{◌≡◌, ℕ, ◌+◌, ◌<◌, List, length, slice_index_or, Option}
+use Rattle.std.specs.Prelude.{◌≡◌, ℕ, ◌+◌, ◌<◌, ◌^◌, Bool, nat_le, List, length, slice_index_or, Option, Some}
 use Rattle.drmaa_types.specs.declared.changes.Change.{Change}
 use Rattle.drmaa_types.specs.declared.changes.Notification.{Notification}
 use Rattle.drmaa_model.specs.declared.configs.Config.{Config}
 use Rattle.drmaa_model.specs.declared.entries.Entry.{Entry}
 use Rattle.drmaa_model.specs.Heard.{place_from, heard}
-use Rattle.drmaa_model.specs.History.{replay}
+use Rattle.drmaa_model.specs.History.{IsLegal, replay}
 use Rattle.drmaa_model.specs.World.{opening_world}
-use Rattle.notify_hub.specs.Ears.{place_at}
+use Rattle.turn_lock.specs.Histories.{BeginsWith}
+use Rattle.notify_hub.specs.Ears.{Listening, place_at}
 use Rattle.notify_hub.specs.Hearing.{HasHeard}
 
 -- the changes of a history, in order
 abbrev pub changes_of : Config → List Entry → List Change
 changes_of config history = (replay config history).plan.changes
 
+-- the change is of this entry or of an earlier one
+abbrev pub is_up_to : ℕ → Change → Bool
+is_up_to entry change = nat_le change.entry entry
+
 -- the place of a number: how many changes there were right after the entry that registers it
 abbrev pub place_of : Config → List Entry → ℕ → Option ℕ
 place_of config history n = place_from (opening_world config) n history
+
+-- how many callbacks a history registers
+abbrev pub registrations_of : Config → List Entry → ℕ
+registrations_of config history = (replay config history).registrations
+
+-- A number of 64 bits tells how many changes there are, as in each history of a journal size below 2 ^ 64.
+abbrev pub AreCountable : Config → List Entry → Type 0
+AreCountable config history = length (changes_of config history) < 2 ^ 64
+
+-- Each place given is that of its Register entry in this history, and the changes handed over are its first ones.
+pub record Follows {B : Type 0} (config : Config) (history : List Entry) (ears : Listening B) : Type 0 where
+  pub legal : IsLegal config history
+  pub places : (i place : ℕ) → place_at ears.places i ≡ Some place → place_of config history (i + 1) ≡ Some place
+  pub handed : BeginsWith (changes_of config history) ears.handed
 
 -- Between the two lists each callback, if its place is that of its Register entry or there is neither, heard exactly what
 -- this history has for it.
