@@ -4,5 +4,4 @@ mod Listens
 mod Looking
 mod Noting
 mod Pumping
-mod Registering
 mod Registrations

@@ -24,7 +24,7 @@ use Rattle.notify_hub.specs.Hubs.IsUnregistered.{by_entry, by_fault}
 use Rattle.notify_hub.specs.Places.{changes_of, place_of, registrations_of, Follows, AreCountable}
 use Rattle.notify_hub.specs.Registered.{IsNew, IsCounted}
 use Rattle.notify_hub.proofs.Growing.{changes-begin, begins-changes, begins-length}
-use Rattle.notify_hub.proofs.Registering.{place-stays, placed-among}
+use Rattle.notify_hub.specs.RegisterLaws.{place-stays, placed-among}
 use Rattle.notify_hub.proofs.Registrations.{fewer-begins}
 
 pub begins-nothing : (l : List Entry) → BeginsWith l []

@@ -5,5 +5,7 @@ pub mod HearingLaws
 pub mod Hubs
 pub mod Kept
 pub mod PlaceLaws
+pub mod PlacedLaws
 pub mod Places
 pub mod Registered
+pub mod RegisterLaws

@@ -37,6 +37,11 @@ pub record Follows {B : Type 0} (config : Config) (history : List Entry) (ears :
   pub places : (i place : ℕ) → place_at ears.places i ≡ Some place → place_of config history (i + 1) ≡ Some place
   pub handed : BeginsWith (changes_of config history) ears.handed
 
+-- These are the places of the numbers from 1 to 64, and no other number has one.
+pub record ArePlaced (config : Config) (history : List Entry) (places : List (Option ℕ)) : Type 0 where
+  pub as_many : length places ≡ 64
+  pub each : (i : ℕ) → place_at places i ≡ place_of config history (i + 1)
+
 -- Between the two lists each callback, if its place is that of its Register entry or there is neither, heard exactly what
 -- this history has for it.
 pub record HaveHeardAll {B : Type 0} (counted : B → ℕ) (told : B → Option (List Notification)) (config : Config) (history : List Entry) (places : List (Option ℕ)) (before after : List B) : Type 0 where

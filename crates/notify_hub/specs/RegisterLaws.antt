@@ -237,7 +237,7 @@ run-no_fewer w (x ∷ xs) legal =
     let rest = run-no_fewer (after_entry w x) xs legal.1 in
     omega (arith, one, rest)
 
-registers-is : (n : ℕ) (r : Reply) → registers n r ≡ true → r ≡ reply.Callback n
+pub registers-is : (n : ℕ) (r : Reply) → registers n r ≡ true → r ≡ reply.Callback n
 registers-is n (reply.Callback number) is = ap reply.Callback (eqb-true number n is)
 registers-is n reply.Unit is = absurd (cc)
 registers-is n (reply.Session session) is = absurd (cc)
@@ -258,7 +258,7 @@ registers-is n (reply.Launch launch) is = absurd (cc)
 registers-is n (reply.Signal signal) is = absurd (cc)
 registers-is n (reply.Refused why) is = absurd (cc)
 
-registers-own : (n : ℕ) (r : Reply) → r ≡ reply.Callback n → registers n r ≡ true
+pub registers-own : (n : ℕ) (r : Reply) → r ≡ reply.Callback n → registers n r ≡ true
 registers-own n r is = ap (registers n) is ∙ eq-eqb n n refl
 
 -- a place stays where a history goes on
