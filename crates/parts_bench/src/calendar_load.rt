@@ -22,17 +22,22 @@ const ASKED: u32 = 100;
 /// long each step took. It answers whether all were booked, found and cancelled.
 pub fn measure(rt: HostRuntime, count: u32, way: Way) -> io::Result<bool> {
     let mut calendar = Calendar::new(rt.alloc(), SLOTS);
+    measure_in(rt, &mut calendar, count, way)
+}
+
+// The same in an empty calendar.
+fn measure_in(rt: HostRuntime, calendar: &mut Calendar, count: u32, way: Way) -> io::Result<bool> {
     let begun = Instant::now(&rt)?;
-    let booked = book_all(&mut calendar, count, way);
+    let booked = book_all(calendar, count, way);
     let book = each(begun.elapsed(&rt)?, count);
     let begun = Instant::now(&rt)?;
-    let found = find_places(&calendar);
+    let found = find_places(calendar);
     let search = each(begun.elapsed(&rt)?, ASKED);
     let begun = Instant::now(&rt)?;
-    let fitting = ask_fits(&calendar);
+    let fitting = ask_fits(calendar);
     let fits = each(begun.elapsed(&rt)?, ASKED);
     let begun = Instant::now(&rt)?;
-    let gone = cancel_all(&mut calendar, count, way);
+    let gone = cancel_all(calendar, count, way);
     let cancel = each(begun.elapsed(&rt)?, count);
     let name = way.name();
     println!(rt;

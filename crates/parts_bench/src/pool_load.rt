@@ -14,12 +14,19 @@ pub fn measure(rt: HostRuntime, count: u32, way: Way) -> io::Result<bool> {
     if pool.reserve(count).is_err() {
         return Ok(false);
     }
+    measure_in(rt, &mut pool, count, way)
+}
+
+// The same in a pool that has room for all.
+fn measure_in(rt: HostRuntime, pool: &mut SlotPool, count: u32, way: Way) -> io::Result<bool>
+    requires { count ≤ pool.old.spare }
+{
     let begun = Instant::now(&rt)?;
-    let all = take_all(&mut pool, count, way);
+    let all = take_all(pool, count, way);
     let take = each(begun.elapsed(&rt)?, count);
     let used = pool.used();
     let begun = Instant::now(&rt)?;
-    let given = give_all(&mut pool, count, way);
+    let given = give_all(pool, count, way);
     let give = each(begun.elapsed(&rt)?, count);
     let name = way.name();
     println!(rt; "pool, {count} {name}: take {take} ns, give {give} ns")?;

@@ -14,14 +14,21 @@ const LOOKS: u32 = 100;
 /// prints how long each step took. It answers whether all were there.
 pub fn measure(rt: HostRuntime, count: u32, way: Way) -> io::Result<bool> {
     let mut queue = RunQueue::new(rt.alloc());
+    measure_in(rt, &mut queue, count, way)
+}
+
+// The same in an empty queue.
+fn measure_in(rt: HostRuntime, queue: &mut RunQueue, count: u32, way: Way) -> io::Result<bool>
+    requires { queue.old.items ≡ [] }
+{
     let begun = Instant::now(&rt)?;
-    let all = insert_all(&mut queue, count, way);
+    let all = insert_all(queue, count, way);
     let insert = each(begun.elapsed(&rt)?, count);
     let begun = Instant::now(&rt)?;
-    let found = look(&queue, count);
+    let found = look(queue, count);
     let look = each(begun.elapsed(&rt)?, LOOKS);
     let begun = Instant::now(&rt)?;
-    let removed = remove_all(&mut queue, count, way);
+    let removed = remove_all(queue, count, way);
     let remove = each(begun.elapsed(&rt)?, count);
     let name = way.name();
     println!(rt;

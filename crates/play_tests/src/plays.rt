@@ -1,11 +1,12 @@
 //! Plays of a setup block and of a client's block.
-ghost use Rattle.std.specs.Prelude.{◌≡◌, ◌≤◌};
-ghost use Rattle.turn_lock.specs.Tokens.{IsFree};
+ghost use Rattle.std.specs.Prelude.{◌≡◌, ◌≤◌, []};
+ghost use Rattle.turn_lock.specs.Tokens.{BelongsTo, IsFree};
+ghost use Rattle.call_history.specs.Clients.{retired_of};
 
 use crate::machines::{closed, desk, machine};
 use block_play::{Stopped, play_block, play_setup};
-use call_history::{Bell, Desk};
-use drmaa_types::StepClock;
+use call_history::{Bell, Desk, MachineOpener, SharedMachine};
+use drmaa_types::{Bytes, StepClock};
 use journal_text::journal_bytes;
 use script_text::{Mode, Script, read_script};
 use std::alloc::{AllocGlobal, Global};
@@ -51,29 +52,57 @@ fn played<R: Wait + Pause>(
     }
 }
 
+/// The play of the script by two clients, who are back then.
+fn play_at<R: Wait + Pause>(
+    rt: &R,
+    alloc: Global,
+    script: &Script,
+    shared: &SharedMachine,
+    opener: &mut MachineOpener,
+) -> Result<(), Stopped>
+    requires opener { BelongsTo shared.now opener.old }
+    requires retired { retired_of opener.old ≡ [] }
+    ensures { BelongsTo shared.now opener.new }
+{
+    let bell = Bell::silent();
+    let one = shared.open_client(opener);
+    let other = shared.open_client(opener);
+    let mut first = desk(shared, one, &bell, 0, 0);
+    let mut second = desk(shared, other, &bell, 10, 1);
+    let ended = played(rt, alloc, script, &mut first, &mut second);
+    shared.retire(opener, first.client);
+    shared.retire(opener, second.client);
+    ended
+}
+
+/// How the play of a script ends on a machine with a journal of this size, and its journal.
+fn play<R: Abort + AllocGlobal + Wait + Pause>(
+    rt: &R,
+    script: &Script,
+    journal: u64,
+) -> Result<(Result<(), Stopped>, Bytes), Fail>
+    requires { 1 ≤ journal × journal ≤ 4000000 }
+{
+    let alloc = rt.alloc();
+    let (shared, mut opener) = machine(rt, alloc, journal);
+    let ended = play_at(rt, alloc, script, &shared, &mut opener);
+    let machine = closed(rt, shared, opener);
+    let bytes = journal_bytes(alloc, machine.config(), machine.entries())?;
+    Ok((ended, bytes))
+}
+
 /// Asserts how the play of the script ends on a machine with a journal of this size, and its journal.
 fn assert_played<R: Abort + AllocGlobal + Wait + Pause>(
     rt: &R,
     journal: u64,
-    ended: Result<(), Stopped>,
+    wanted: Result<(), Stopped>,
     text: &str,
 ) -> Result<(), Fail>
     requires { 1 ≤ journal × journal ≤ 4000000 }
 {
-    let alloc = rt.alloc();
-    let script = read_script(alloc, SCRIPT.as_bytes(), Mode::Threads)?;
-    let (shared, mut opener) = machine(rt, alloc, journal);
-    let bell = Bell::silent();
-    let one = shared.open_client(&mut opener);
-    let other = shared.open_client(&mut opener);
-    let mut first = desk(&shared, one, &bell, 0, 0);
-    let mut second = desk(&shared, other, &bell, 10, 1);
-    assert_eq!(rt; played(rt, alloc, &script, &mut first, &mut second), ended);
-    shared.retire(&mut opener, first.client);
-    shared.retire(&mut opener, second.client);
-    let machine = closed(rt, shared, opener);
-    let bytes = journal_bytes(alloc, machine.config(), machine.entries())?;
-    assert_eq!(rt; bytes.as_slice(), text.as_bytes());
+    let script = read_script(rt.alloc(), SCRIPT.as_bytes(), Mode::Threads)?;
+    let (ended, bytes) = play(rt, &script, journal)?;
+    assert!(rt; ended == wanted && bytes.as_slice() == text.as_bytes());
     Ok(())
 }
 

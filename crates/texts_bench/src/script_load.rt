@@ -6,16 +6,19 @@ use std::time::Instant;
 /// Reads the script, and prints how long it took. It answers whether the bytes were a script's.
 pub fn measure(rt: HostRuntime, bytes: &[u8]) -> io::Result<bool> {
     let begun = Instant::now(&rt)?;
-    let read = read_script(rt.alloc(), bytes, Mode::Serial);
-    let reading = begun.elapsed(&rt)?.as_millis();
-    let script = match read {
-        Ok(script) => script,
+    match read_script(rt.alloc(), bytes, Mode::Serial) {
+        Ok(script) => tell(rt, &script, begun),
         Err(fault) => {
             println!(rt; "{fault}")?;
-            return Ok(false);
+            Ok(false)
         }
-    };
-    let count = line_count(&script);
+    }
+}
+
+// Prints how long it took to read this script, which was begun at this instant.
+fn tell(rt: HostRuntime, script: &Script, begun: Instant) -> io::Result<bool> {
+    let reading = begun.elapsed(&rt)?.as_millis();
+    let count = line_count(script);
     println!(rt; "{count} lines of blocks, read in {reading} ms")?;
     Ok(true)
 }

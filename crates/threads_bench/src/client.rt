@@ -22,9 +22,8 @@ fn run_one<R: Wait + Pause, C: Clock>(
     ensures { IsFree desk.new.shared.now desk.new.client }
 {
     let command = Text::from_string(String::from_str(alloc, "true").ok()?);
-    let template = plain_job(alloc, command);
     let begun = Instant::now(rt).ok()?;
-    let job = session.run_job(rt, desk, template).ok()?;
+    let job = session.run_job(rt, desk, plain_job(alloc, command)).ok()?;
     let spent = begun.elapsed(rt).ok()?.as_nanos();
     Some((u64::try_from(spent).ok()?, job))
 }

@@ -126,6 +126,8 @@ pub fn run<R: Threads + Wait + Pause + Sync>(
         bell: &bell,
     };
     let (attended, spent) = side_by_side(rt, alloc, launcher, reaping, client, spawner, count);
-    attended.ok()?;
-    spent
+    match attended {
+        Ok(()) => spent,
+        Err(_) => None,
+    }
 }
