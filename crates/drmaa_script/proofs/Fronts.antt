@@ -1,5 +1,5 @@
 -- What was read of a source is the front of a text.
-use Rattle.std.proofs.Common.{◌≡◌, ℕ, ◌<◌, ◌≤◌, nat_le, Bool, true, false, List, length, take, Option, Some, None, Result, Ok, Err, ◌⊎◌, inl, inr, refl, sym, ap, subst, ◌∙◌, arith}
+use Rattle.std.proofs.Common.{◌≡◌, ℕ, ◌<◌, ◌≤◌, nat_le, Bool, true, false, List, length, Option, Some, None, Result, Ok, Err, ◌⊎◌, inl, inr, refl, sym, ap, ◌∙◌, arith}
 use Rattle.std.proofs.lemmas.Bool.Decides.{nat_tests}
 use Rattle.std.proofs.lemmas.List.{take_all}
 use Rattle.std.specs.Io.KnownBytes.{IsAtEnd}
@@ -11,7 +11,7 @@ use Rattle.text_lines.specs.Lines.{IsFront}
 use Rattle.drmaa_script.specs.declared.status.Status.{Status}
 use Rattle.drmaa_script.specs.declared.status.Status.TheVariants.{Text, ReadFault, Memory}
 use Rattle.drmaa_script.specs.Statuses.{status_of}
-use Rattle.drmaa_script.specs.Outcomes.{IsReadAs, IsReadOut}
+use Rattle.drmaa_script.specs.Outcomes.{IsReadOut}
 
 is_within : (n limit : ℕ) → n ≤ limit → true ≡ nat_le n limit
 is_within n limit h = grind (arith, nat_tests)

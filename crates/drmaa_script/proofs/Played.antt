@@ -1,10 +1,6 @@
 -- How a play ends, and what was written then.
-use Rattle.std.proofs.Common.{◌≡◌, ℕ, List, Option, Some, None, ◌⊎◌, inl, inr, refl, sym, ap, subst, ◌∙◌}
+use Rattle.std.proofs.Common.{◌≡◌, ℕ, ◌≤◌, List, Option, Some, None, refl, sym, subst}
 use Rattle.std.specs.Io.KnownBytes.{Appends}
-use Rattle.byte_streams.specs.Streams.{AppendsFront}
-use Rattle.drmaa_model.specs.declared.replies.Reply.{Reply}
-use Rattle.drmaa_model.specs.History.{IsLegal}
-use Rattle.journal_check.specs.Faults.{FirstFault}
 use Rattle.journal_text.specs.declared.journals.Journal.{Journal}
 use Rattle.script_asks.specs.Plays.{serial_play}
 use Rattle.script_text.specs.declared.scripts.Mode.TheVariants as mode
@@ -15,15 +11,16 @@ use Rattle.drmaa_script.specs.declared.plays.Output.TheVariants.{Journal as Jour
 use Rattle.drmaa_script.specs.declared.status.Status.{Status}
 use Rattle.drmaa_script.specs.declared.status.Status.TheVariants.{Done, Text, Words, ReadFault, WriteFault, Memory, JournalFull, NotLegal}
 use Rattle.drmaa_script.specs.Statuses.{IsQuiet, HasRead, HasWritten, IsUnread, IsRefused, IsUnstarted, ended_as}
-use Rattle.drmaa_script.specs.Outcomes.{IsScriptText, IsJournalText, IsReadAs, journal_of, play_text, PlayEnds, PlayedEnds, CheckEnds, CheckedEnds, HasJournal, WritesPlay, legal_text}
+use Rattle.drmaa_script.specs.Registers.{registers_of, HasPlayed}
+use Rattle.drmaa_script.specs.Outcomes.{IsScriptText, IsJournalText, journal_of, play_text, PlayEnds, PlayedEnds, CheckEnds, CheckedEnds, HasJournal, WritesPlay}
 
 -- the text that was written, by how the play ended
-pub written_ends : (own : Script → List ℕ) (s : Script) (full : Option ℕ) (old new : Option (List ℕ)) → full ≡ (serial_play s).full → Appends old new (play_text own s)
-    → PlayedEnds own s (ended_as full) old new
-written_ends own s None old new is written =
-    (sym is, subst (λ (o : Option ℕ). Appends old new (choose o (λ (n : ℕ). journal_of s) (own s))) (sym is) written)
-written_ends own s (Some size) old new is written =
-    (sym is, subst (λ (o : Option ℕ). Appends old new (choose o (λ (n : ℕ). journal_of s) (own s))) (sym is) written)
+pub written_ends : (own : Script → List ℕ) (callbacks : ℕ) (s : Script) (full : Option ℕ) (old new : Option (List ℕ)) → registers_of s ≤ callbacks → full ≡ (serial_play s).full → Appends old new (play_text own s)
+    → PlayedEnds own callbacks s (ended_as full) old new
+written_ends own callbacks s None old new enough is written =
+    (enough, sym is, subst (λ (o : Option ℕ). Appends old new (choose o (λ (n : ℕ). journal_of s) (own s))) (sym is) written)
+written_ends own callbacks s (Some size) old new enough is written =
+    (enough, sym is, subst (λ (o : Option ℕ). Appends old new (choose o (λ (n : ℕ). journal_of s) (own s))) (sym is) written)
 
 pub writes_has : (output : Output) (full : Option ℕ) → WritesPlay output (ended_as full) → HasJournal output full
 writes_has JournalOutput full w = tt
@@ -47,15 +44,16 @@ ended_no_fault None e = absurd (cc)
 ended_no_fault (Some size) e = absurd (cc)
 
 -- from the script that was read to the bytes that spell it
-pub played_ends : (own : Script → List ℕ) (bytes : List ℕ) (s : Script) (status : Status) (old new : Option (List ℕ)) → IsScriptText mode.Serial bytes s → PlayedEnds own s status old new → PlayEnds own bytes status old new
-played_ends own bytes s Done old new spelled (full, written) = (s, spelled, full, written)
-played_ends own bytes s (Text line) old new spelled ends = absurd ends
-played_ends own bytes s Words old new spelled ends = absurd ends
-played_ends own bytes s ReadFault old new spelled ends = absurd ends
-played_ends own bytes s WriteFault old new spelled ends = (s, spelled, ends)
-played_ends own bytes s Memory old new spelled ends = tt
-played_ends own bytes s (JournalFull size) old new spelled (full, written) = (s, spelled, full, written)
-played_ends own bytes s (NotLegal entry given machine) old new spelled ends = absurd ends
+pub played_ends : (own : Script → List ℕ) (callbacks : ℕ) (bytes : List ℕ) (s : Script) (status : Status) (old new : Option (List ℕ)) → IsScriptText mode.Serial bytes s → PlayedEnds own callbacks s status old new
+    → PlayEnds own callbacks bytes status old new
+played_ends own callbacks bytes s Done old new spelled ends = (s, spelled, ends)
+played_ends own callbacks bytes s (Text line) old new spelled ends = absurd ends
+played_ends own callbacks bytes s Words old new spelled ends = (s, spelled, ends)
+played_ends own callbacks bytes s ReadFault old new spelled ends = absurd ends
+played_ends own callbacks bytes s WriteFault old new spelled ends = (s, spelled, ends)
+played_ends own callbacks bytes s Memory old new spelled ends = tt
+played_ends own callbacks bytes s (JournalFull size) old new spelled ends = (s, spelled, ends)
+played_ends own callbacks bytes s (NotLegal entry given machine) old new spelled ends = absurd ends
 
 pub checked_ends : (bytes : List ℕ) (j : Journal) (status : Status) (old new : Option (List ℕ)) → IsJournalText bytes j → CheckedEnds j status old new → CheckEnds bytes status old new
 checked_ends bytes j Done old new spelled (legal, written) = (j, spelled, legal, written)
@@ -68,15 +66,15 @@ checked_ends bytes j (JournalFull size) old new spelled ends = absurd ends
 checked_ends bytes j (NotLegal entry given machine) old new spelled ends = (j, spelled, ends)
 
 -- why nothing was read
-pub unread_ends : (own : Script → List ℕ) (bytes : List ℕ) (status : Status) (old new : Option (List ℕ)) → IsUnread status → ((n : ℕ) → status ≡ Text n → PlayEnds own bytes (Text n) old new) → PlayEnds own bytes status old new
-unread_ends own bytes Done old new is line = absurd is
-unread_ends own bytes (Text n) old new is line = line n refl
-unread_ends own bytes Words old new is line = absurd is
-unread_ends own bytes ReadFault old new is line = tt
-unread_ends own bytes WriteFault old new is line = absurd is
-unread_ends own bytes Memory old new is line = tt
-unread_ends own bytes (JournalFull size) old new is line = absurd is
-unread_ends own bytes (NotLegal entry given machine) old new is line = absurd is
+pub unread_ends : (own : Script → List ℕ) (callbacks : ℕ) (bytes : List ℕ) (status : Status) (old new : Option (List ℕ)) → IsUnread status → ((n : ℕ) → status ≡ Text n → PlayEnds own callbacks bytes (Text n) old new) → PlayEnds own callbacks bytes status old new
+unread_ends own callbacks bytes Done old new is line = absurd is
+unread_ends own callbacks bytes (Text n) old new is line = line n refl
+unread_ends own callbacks bytes Words old new is line = absurd is
+unread_ends own callbacks bytes ReadFault old new is line = tt
+unread_ends own callbacks bytes WriteFault old new is line = absurd is
+unread_ends own callbacks bytes Memory old new is line = tt
+unread_ends own callbacks bytes (JournalFull size) old new is line = absurd is
+unread_ends own callbacks bytes (NotLegal entry given machine) old new is line = absurd is
 
 pub unread_check : (bytes : List ℕ) (status : Status) (old new : Option (List ℕ)) → IsUnread status → ((n : ℕ) → status ≡ Text n → CheckEnds bytes (Text n) old new) → CheckEnds bytes status old new
 unread_check bytes Done old new is line = absurd is
@@ -94,6 +92,16 @@ unread_words status is e = subst IsUnread e is
 
 pub unread_writes : (status : Status) → IsUnread status → status ≡ WriteFault → ⊥
 unread_writes status is e = subst IsUnread e is
+
+pub unread_played : (status : Status) → IsUnread status → HasPlayed status → ⊥
+unread_played Done is h = is
+unread_played (Text n) is h = h
+unread_played Words is h = is
+unread_played ReadFault is h = h
+unread_played WriteFault is h = is
+unread_played Memory is h = h
+unread_played (JournalFull size) is h = is
+unread_played (NotLegal entry given machine) is h = is
 
 pub unread_reads : (status : Status) → IsUnread status → HasRead status → ⊥
 unread_reads Done is h = is
@@ -136,11 +144,8 @@ unread_refused Memory is calm = tt
 unread_refused (JournalFull size) is calm = absurd is
 unread_refused (NotLegal entry given machine) is calm = absurd is
 
-pub read_no_fault : (own : Script → List ℕ) (s : Script) (status : Status) (old new : Option (List ℕ)) → PlayedEnds own s status old new → (status ≡ ReadFault → ⊥) × (status ≡ Words → ⊥)
-read_no_fault own s status old new ends = (
-  λ e. subst (λ (x : Status). PlayedEnds own s x old new) e ends,
-  λ e. subst (λ (x : Status). PlayedEnds own s x old new) e ends,
-)
+pub read_no_fault : (own : Script → List ℕ) (callbacks : ℕ) (s : Script) (status : Status) (old new : Option (List ℕ)) → PlayedEnds own callbacks s status old new → status ≡ ReadFault → ⊥
+read_no_fault own callbacks s status old new ends is = subst (λ (x : Status). PlayedEnds own callbacks s x old new) is ends
 
 pub checked_no_fault : (j : Journal) (status : Status) (old new : Option (List ℕ)) → CheckedEnds j status old new → (status ≡ ReadFault → ⊥) × ((status ≡ Words → ⊥) × ((n : ℕ) → status ≡ JournalFull n → ⊥))
 checked_no_fault j status old new ends = (

@@ -1,5 +1,5 @@
 -- What each command comes to: our profile.
-use Rattle.std.specs.Prelude.{◌≡◌, ℕ, List, Option}
+use Rattle.std.specs.Prelude.{ℕ, List, Option}
 use Rattle.child_spawner.specs.declared.fates.Asked.{Asked}
 use Rattle.child_spawner.specs.declared.fates.Fate.{Fate}
 use Rattle.drmaa_script.specs.declared.commands.Command.{Command}
@@ -9,17 +9,17 @@ use Rattle.drmaa_script.specs.declared.status.Status.{Status}
 use Rattle.drmaa_script.specs.Outcomes.{PlayEnds, CheckEnds, PlayIsWhole, CheckIsWhole, WritesPlay, journal_of, listing_of}
 use Rattle.drmaa_script.specs.Runs.{RunEnds, RunIsWhole, LeavesClocks}
 
-abbrev pub Ends : {C : Type 0} → (C → Option (List ℕ)) → Command → List ℕ → Option (List ℕ) → Option (List ℕ) → Option (List Asked) → Option (List Asked) → (ℕ → Fate) → List C → Status → Type 0
-Ends given Serial bytes old new asked asked_after fate clocks status = PlayEnds journal_of bytes status old new
-Ends given Threads bytes old new asked asked_after fate clocks status = RunEnds given bytes old new asked asked_after fate clocks status
-Ends given Table bytes old new asked asked_after fate clocks status = PlayEnds listing_of bytes status old new
-Ends given Check bytes old new asked asked_after fate clocks status = CheckEnds bytes status old new
+abbrev pub Ends : {C : Type 0} → (C → Option (List ℕ)) → Command → ℕ → List ℕ → Option (List ℕ) → Option (List ℕ) → Option (List Asked) → Option (List Asked) → (ℕ → Fate) → List C → Status → Type 0
+Ends given Serial callbacks bytes old new asked asked_after fate clocks status = PlayEnds journal_of callbacks bytes status old new
+Ends given Threads callbacks bytes old new asked asked_after fate clocks status = RunEnds given bytes old new asked asked_after fate clocks status
+Ends given Table callbacks bytes old new asked asked_after fate clocks status = PlayEnds listing_of callbacks bytes status old new
+Ends given Check callbacks bytes old new asked asked_after fate clocks status = CheckEnds bytes status old new
 
-abbrev pub IsWhole : Command → List ℕ → Status → Type 0
-IsWhole Serial = PlayIsWhole
-IsWhole Threads = RunIsWhole
-IsWhole Table = PlayIsWhole
-IsWhole Check = CheckIsWhole
+abbrev pub IsWhole : Command → ℕ → List ℕ → Status → Type 0
+IsWhole Serial callbacks = PlayIsWhole callbacks
+IsWhole Threads callbacks = RunIsWhole
+IsWhole Table callbacks = PlayIsWhole callbacks
+IsWhole Check callbacks = CheckIsWhole
 
 -- the journal of a play on one thread is written
 abbrev pub WritesJournal : Command → Status → Type 0

@@ -1,6 +1,7 @@
 pub mod Commands
 pub mod Endings
 pub mod Outcomes
+pub mod Registers
 pub mod Running
 pub mod Runs
 pub mod Statuses

@@ -1,5 +1,5 @@
 -- What each command comes to, given all the bytes that it reads: our profile.
-use Rattle.std.specs.Prelude.{◌≡◌, ◌<◌, ◌⊎◌, ℕ, List, [], ◌∷◌, ◌++◌, length, codes, decimal, Option, Some, None, IfSome, Result, Ok, Err}
+use Rattle.std.specs.Prelude.{◌≡◌, ◌<◌, ◌≤◌, ◌⊎◌, ℕ, List, [], ◌∷◌, ◌++◌, length, codes, decimal, Option, Some, None, IfSome, Result, Ok, Err}
 use Rattle.std.specs.Io.KnownBytes.{Appends, IsAtEnd}
 use Rattle.byte_streams.specs.Streams.{AppendsFront}
 use Rattle.drmaa_model.specs.declared.entries.Entry.{Entry}
@@ -23,7 +23,8 @@ use Rattle.drmaa_script.specs.declared.plays.Output.{Output}
 use Rattle.drmaa_script.specs.declared.plays.Output.TheVariants.{Journal as JournalOutput, Listing}
 use Rattle.drmaa_script.specs.declared.status.Status.{Status}
 use Rattle.drmaa_script.specs.declared.status.Status.TheVariants.{Done, Text, Words, ReadFault, WriteFault, Memory, JournalFull, NotLegal}
-use Rattle.drmaa_script.specs.Statuses.{IsRefused, IsUnread, ended_as}
+use Rattle.drmaa_script.specs.Registers.{registers_of, end_of}
+use Rattle.drmaa_script.specs.Statuses.{IsRefused}
 
 -- ---- texts
 
@@ -55,20 +56,33 @@ legal_text entries = codes "legal " ++ decimal (length entries) ++ 10 ∷ []
 
 -- ---- commands that play a script
 
--- For each status: what the bytes are, and what was written of them, by what the sink had before and has then.
-abbrev pub PlayEnds : (Script → List ℕ) → List ℕ → Status → Option (List ℕ) → Option (List ℕ) → Type 0
-PlayEnds own bytes Done old new = (script : Script) × IsScriptText mode.Serial bytes script × ((serial_play script).full ≡ None) × Appends old new (own script)
-PlayEnds own bytes (Text line) old new = IsFirstBad (SpellsScript mode.Serial) 16_777_216 bytes line
-PlayEnds own bytes Words old new = ⊥
-PlayEnds own bytes ReadFault old new = Unit {0}
-PlayEnds own bytes WriteFault old new = (script : Script) × IsScriptText mode.Serial bytes script × AppendsFront old new (play_text own script)
-PlayEnds own bytes Memory old new = Unit {0}
-PlayEnds own bytes (JournalFull size) old new = (script : Script) × IsScriptText mode.Serial bytes script × ((serial_play script).full ≡ Some size) × Appends old new (journal_of script)
-PlayEnds own bytes (NotLegal entry given machine) old new = ⊥
+-- How a script that was read ends where so many callbacks are there, by what the sink had before and has then: it is played where it
+-- has no more register lines.
+abbrev pub PlayedEnds : (Script → List ℕ) → ℕ → Script → Status → Option (List ℕ) → Option (List ℕ) → Type 0
+PlayedEnds own callbacks script Done old new = (registers_of script ≤ callbacks) × ((serial_play script).full ≡ None) × Appends old new (own script)
+PlayedEnds own callbacks script (Text line) old new = ⊥
+PlayedEnds own callbacks script Words old new = callbacks < registers_of script
+PlayedEnds own callbacks script ReadFault old new = ⊥
+PlayedEnds own callbacks script WriteFault old new = (registers_of script ≤ callbacks) × AppendsFront old new (play_text own script)
+PlayedEnds own callbacks script Memory old new = Unit {0}
+PlayedEnds own callbacks script (JournalFull size) old new = (registers_of script ≤ callbacks) × ((serial_play script).full ≡ Some size) × Appends old new (journal_of script)
+PlayedEnds own callbacks script (NotLegal entry given machine) old new = ⊥
 
--- Where no read and no write failed: a script is played, and other bytes are refused, unless memory runs out.
-pub record PlayIsWhole (bytes : List ℕ) (status : Status) : Type 0 where
-  pub script : (s : Script) → IsScriptText mode.Serial bytes s → (status ≡ ended_as (serial_play s).full) ⊎ (status ≡ Memory)
+-- For each status: what the bytes are, and what was written of them, by what the sink had before and has then.
+abbrev pub PlayEnds : (Script → List ℕ) → ℕ → List ℕ → Status → Option (List ℕ) → Option (List ℕ) → Type 0
+PlayEnds own callbacks bytes (Text line) old new = IsFirstBad (SpellsScript mode.Serial) 16_777_216 bytes line
+PlayEnds own callbacks bytes ReadFault old new = Unit {0}
+PlayEnds own callbacks bytes Memory old new = Unit {0}
+PlayEnds own callbacks bytes (NotLegal entry given machine) old new = ⊥
+PlayEnds own callbacks bytes Done old new = (script : Script) × IsScriptText mode.Serial bytes script × PlayedEnds own callbacks script Done old new
+PlayEnds own callbacks bytes Words old new = (script : Script) × IsScriptText mode.Serial bytes script × PlayedEnds own callbacks script Words old new
+PlayEnds own callbacks bytes WriteFault old new = (script : Script) × IsScriptText mode.Serial bytes script × PlayedEnds own callbacks script WriteFault old new
+PlayEnds own callbacks bytes (JournalFull size) old new = (script : Script) × IsScriptText mode.Serial bytes script × PlayedEnds own callbacks script (JournalFull size) old new
+
+-- Where no read and no write failed: a script is played, if it has no more register lines than there are callbacks, and other bytes
+-- are refused, unless memory runs out.
+pub record PlayIsWhole (callbacks : ℕ) (bytes : List ℕ) (status : Status) : Type 0 where
+  pub script : (s : Script) → IsScriptText mode.Serial bytes s → (status ≡ end_of callbacks s) ⊎ (status ≡ Memory)
   pub other : ((s : Script) → IsScriptText mode.Serial bytes s → ⊥) → IsRefused status
 
 -- ---- the check of a journal
@@ -124,17 +138,6 @@ IsSpelled grammar script = (lines : List (List ℕ)) × scripts.Spells grammar l
 abbrev pub own_of : Output → Script → List ℕ
 own_of JournalOutput = journal_of
 own_of Listing = listing_of
-
--- how the play of a script ends, by what the sink had before and has then
-abbrev pub PlayedEnds : (Script → List ℕ) → Script → Status → Option (List ℕ) → Option (List ℕ) → Type 0
-PlayedEnds own script Done old new = ((serial_play script).full ≡ None) × Appends old new (own script)
-PlayedEnds own script (Text line) old new = ⊥
-PlayedEnds own script Words old new = ⊥
-PlayedEnds own script ReadFault old new = ⊥
-PlayedEnds own script WriteFault old new = AppendsFront old new (play_text own script)
-PlayedEnds own script Memory old new = Unit {0}
-PlayedEnds own script (JournalFull size) old new = ((serial_play script).full ≡ Some size) × Appends old new (journal_of script)
-PlayedEnds own script (NotLegal entry given machine) old new = ⊥
 
 -- a journal is written of such a play
 abbrev pub HasJournal : Output → Option ℕ → Type 0

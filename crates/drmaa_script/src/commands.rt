@@ -1,16 +1,19 @@
 //! The commands of the program.
-ghost use Rattle.std.specs.Prelude.{◌≡◌, ◌≢◌, ◌↔◌, ℕ, [], IfSome, IsTrue, MatchOption, codes};
+ghost use Rattle.std.specs.Prelude.{◌≡◌, ◌≢◌, ◌⊎◌, ℕ, [], length, IfSome, IsTrue, MatchOption, codes};
 ghost use Rattle.std.specs.Io.KnownBytes.{IsAtEnd};
 ghost use Rattle.drmaa_types.specs.Counts.{Rose};
+ghost use Rattle.script_asks.specs.Plays.{serial_play};
+ghost use Rattle.script_play.specs.Callbacks.{HearHistory};
 ghost use Rattle.script_text.specs.declared.scripts.Mode.TheVariants as mode;
 ghost use Rattle.script_text.specs.declared.scripts.Script.{Script};
 ghost use Rattle.drmaa_script.specs.Commands.{words_of, word_of, NamesNone};
 ghost use Rattle.drmaa_script.specs.Endings.{Ends, IsWhole, limit_of, WritesJournal, HandsClocks, Starts};
 ghost use Rattle.drmaa_script.specs.Outcomes.{IsReadOut, IsScriptText, IsWritten};
+ghost use Rattle.drmaa_script.specs.Registers.{PlaysAlone, HasPlayed, AreKept};
 ghost use Rattle.drmaa_script.specs.Statuses.{IsQuiet, HasRead, HasWritten, IsUnstarted};
 
 use crate::checks::run_check;
-use crate::outcomes::{Outcome, without_clocks};
+use crate::outcomes::{Ended, Outcome, without_clocks};
 use crate::plays::{Output, run_play};
 use crate::status::Status;
 use crate::threads::run_threads;
@@ -18,6 +21,7 @@ use byte_streams::{Sink, Source};
 use call_history::Bell;
 use child_spawner::Spawner;
 use drmaa_types::{Clocks, Text, TextList};
+use notify_hub::{Callback, Callbacks};
 use std::alloc::Global;
 use std::sync::Wait;
 use std::thread::Threads;
@@ -60,7 +64,14 @@ fn command_of(words: &TextList) -> Option<Command>
 }
 
 /// Runs a command on a source and a sink.
-fn run_command<E: Threads + Wait + Pause + Sync, R: Source, W: Sink, K: Clocks, S: Spawner + Send>(
+fn run_command<
+    E: Threads + Wait + Pause + Sync,
+    R: Source,
+    W: Sink,
+    K: Clocks,
+    S: Spawner + Send,
+    B: Callback,
+>(
     rt: &E,
     alloc: Global,
     command: Command,
@@ -69,10 +80,11 @@ fn run_command<E: Threads + Wait + Pause + Sync, R: Source, W: Sink, K: Clocks, 
     clocks: &K,
     spawner: &mut S,
     bell: &Bell,
-) -> Outcome<K::One>
-    ensures ends { IfSome (R.left source.old) (λ bytes. Ends K.One.given command bytes (W.written sink.old) (W.written sink.new)
+    callbacks: Callbacks<B>,
+) -> Outcome<K::One, B>
+    ensures ends { IfSome (R.left source.old) (λ bytes. Ends K.One.given command (length callbacks) bytes (W.written sink.old) (W.written sink.new)
         (S.asked spawner.old) (S.asked spawner.new) (S.fate spawner.new) result.clocks result.status) }
-    ensures words { result.status ≢ Status.Words }
+    ensures words { result.status ≡ Status.Words → IsAtEnd (R.left source.new) }
     ensures read_whole { HasRead result.status → IsAtEnd (R.left source.new) }
     ensures read_out { (line : ℕ) → result.status ≡ Status.Text line → IsReadOut (limit_of command) (R.left source.old) (R.left source.new) }
     ensures finished { HasWritten result.status → W.finished sink.new }
@@ -80,18 +92,35 @@ fn run_command<E: Threads + Wait + Pause + Sync, R: Source, W: Sink, K: Clocks, 
     ensures write_fault { result.status ≡ Status.WriteFault → Rose (W.faults sink.old) (W.faults sink.new) }
     ensures untouched { IsQuiet result.status → sink.new ≡ sink.old }
     ensures whole { (Rose (R.faults source.old) (R.faults source.new) → ⊥) → (Rose (W.faults sink.old) (W.faults sink.new) → ⊥)
-        → IfSome (R.left source.old) (λ bytes. IsWhole command bytes result.status) }
+        → IfSome (R.left source.old) (λ bytes. IsWhole command (length callbacks) bytes result.status) }
     ensures writable { WritesJournal command result.status → IfSome (R.left source.old) (λ bytes. (script : Script) → IsScriptText mode.Serial bytes script → IsWritten script) }
     ensures clocks { (HandsClocks command result.status → ⊥) → result.clocks ≡ [] }
     ensures unasked { (Starts command → ⊥) → spawner.new ≡ spawner.old }
     ensures unstarted { IsUnstarted result.status → spawner.new ≡ spawner.old }
     ensures fates { S.fate spawner.new ≡ S.fate spawner.old }
+    ensures heard { PlaysAlone command → HasPlayed result.status → IfSome (R.left source.old) (λ bytes. (script : Script) → IsScriptText mode.Serial bytes script
+        → HearHistory B.counted B.told script.config (serial_play script).entries callbacks result.callbacks) }
+    ensures kept { AreKept B.counted B.told callbacks result.callbacks }
+    ensures unheard { IsUnstarted result.status → result.callbacks ≡ callbacks }
+    ensures deaf { (PlaysAlone command → ⊥) → result.callbacks ≡ callbacks }
 {
     match command {
-        Command::Serial => without_clocks(alloc, run_play(alloc, Output::Journal, source, sink)),
-        Command::Threads => run_threads(rt, alloc, source, sink, clocks, spawner, bell),
-        Command::Table => without_clocks(alloc, run_play(alloc, Output::Listing, source, sink)),
-        Command::Check => without_clocks(alloc, run_check(alloc, source, sink)),
+        Command::Serial => without_clocks(
+            alloc,
+            run_play(alloc, Output::Journal, source, sink, callbacks),
+        ),
+        Command::Threads => run_threads(rt, alloc, source, sink, clocks, spawner, bell, callbacks),
+        Command::Table => without_clocks(
+            alloc,
+            run_play(alloc, Output::Listing, source, sink, callbacks),
+        ),
+        Command::Check => without_clocks(
+            alloc,
+            Ended {
+                status: run_check(alloc, source, sink),
+                callbacks,
+            },
+        ),
     }
 }
 
@@ -101,9 +130,19 @@ fn run_command<E: Threads + Wait + Pause + Sync, R: Source, W: Sink, K: Clocks, 
 /// journal. Where the play stops for the journal's size, all three write the journal of the entries made. `check` reads a journal and
 /// writes how many entries it has, where it is legal. With `threads` it may wait for good.
 ///
-/// The clauses speak of the bytes that the source had left and that the sink was given, of the readings that the clocks gave, and of
-/// what was asked of the spawner, where these are told.
-pub fn run<E: Threads + Wait + Pause + Sync, R: Source, W: Sink, K: Clocks, S: Spawner + Send>(
+/// In a play on one thread, the nth callback hears what follows the nth `register` line. A script with more such lines than there are
+/// callbacks is not played: the status is Words.
+///
+/// The clauses speak of the bytes that the source had left and that the sink was given, of the readings that the clocks gave, of
+/// what was asked of the spawner, and of what the callbacks heard, where these are told.
+pub fn run<
+    E: Threads + Wait + Pause + Sync,
+    R: Source,
+    W: Sink,
+    K: Clocks,
+    S: Spawner + Send,
+    B: Callback,
+>(
     rt: &E,
     alloc: Global,
     words: &TextList,
@@ -112,10 +151,11 @@ pub fn run<E: Threads + Wait + Pause + Sync, R: Source, W: Sink, K: Clocks, S: S
     clocks: &K,
     spawner: &mut S,
     bell: &Bell,
-) -> Outcome<K::One>
+    callbacks: Callbacks<B>,
+) -> Outcome<K::One, B>
     // What each status says of the bytes that were read, and what was written then.
     ensures ends { (command : Command) → words.now ≡ words_of command
-        → IfSome (R.left source.old) (λ bytes. Ends K.One.given command bytes (W.written sink.old) (W.written sink.new)
+        → IfSome (R.left source.old) (λ bytes. Ends K.One.given command (length callbacks) bytes (W.written sink.old) (W.written sink.new)
         (S.asked spawner.old) (S.asked spawner.new) (S.fate spawner.new) result.clocks result.status) }
     ensures read_whole { HasRead result.status → IsAtEnd (R.left source.new) }
     ensures read_out { (command : Command) (line : ℕ) → words.now ≡ words_of command → result.status ≡ Status.Text line
@@ -123,9 +163,10 @@ pub fn run<E: Threads + Wait + Pause + Sync, R: Source, W: Sink, K: Clocks, S: S
     ensures finished { HasWritten result.status → W.finished sink.new }
     ensures untouched { IsQuiet result.status → sink.new ≡ sink.old }
 
-    // Words that are no command, and then nothing is read.
-    ensures words { (result.status ≡ Status.Words) ↔ NamesNone words.now }
-    ensures unread { result.status ≡ Status.Words → source.new ≡ source.old }
+    // Words that are no command, and then nothing is read; or a script that was read whole.
+    ensures words { NamesNone words.now → result.status ≡ Status.Words }
+    ensures unread { NamesNone words.now → source.new ≡ source.old }
+    ensures words_read { result.status ≡ Status.Words → NamesNone words.now ⊎ IsAtEnd (R.left source.new) }
 
     // The causes of faults.
     ensures read_fault { result.status ≡ Status.ReadFault → Rose (R.faults source.old) (R.faults source.new) }
@@ -134,7 +175,7 @@ pub fn run<E: Threads + Wait + Pause + Sync, R: Source, W: Sink, K: Clocks, S: S
     // Without a fault the bytes decide, unless memory runs out.
     ensures whole { (command : Command) → words.now ≡ words_of command
         → (Rose (R.faults source.old) (R.faults source.new) → ⊥) → (Rose (W.faults sink.old) (W.faults sink.new) → ⊥)
-        → IfSome (R.left source.old) (λ bytes. IsWhole command bytes result.status) }
+        → IfSome (R.left source.old) (λ bytes. IsWhole command (length callbacks) bytes result.status) }
 
     // A journal of a play on one thread that is written is legal, and can be read again, as no other.
     ensures writable { (command : Command) → words.now ≡ words_of command → WritesJournal command result.status
@@ -146,9 +187,26 @@ pub fn run<E: Threads + Wait + Pause + Sync, R: Source, W: Sink, K: Clocks, S: S
     ensures unasked { ((command : Command) → words.now ≡ words_of command → Starts command → ⊥) → spawner.new ≡ spawner.old }
     ensures unstarted { IsUnstarted result.status → spawner.new ≡ spawner.old }
     ensures fates { S.fate spawner.new ≡ S.fate spawner.old }
+
+    // Each callback heard, of a play on one thread, what its history has for its number, and nothing else. At each status they come
+    // back in their order. They heard nothing where no script was played, and nothing of a run that is not on one thread.
+    ensures heard { (command : Command) → words.now ≡ words_of command → PlaysAlone command → HasPlayed result.status
+        → IfSome (R.left source.old) (λ bytes. (script : Script) → IsScriptText mode.Serial bytes script
+        → HearHistory B.counted B.told script.config (serial_play script).entries callbacks result.callbacks) }
+    ensures kept { AreKept B.counted B.told callbacks result.callbacks }
+    ensures unheard { IsUnstarted result.status → result.callbacks ≡ callbacks }
+    ensures deaf { ((command : Command) → words.now ≡ words_of command → PlaysAlone command → ⊥) → result.callbacks ≡ callbacks }
 {
     match command_of(words) {
-        Some(command) => run_command(rt, alloc, command, source, sink, clocks, spawner, bell),
-        None => without_clocks(alloc, Status::Words),
+        Some(command) => run_command(
+            rt, alloc, command, source, sink, clocks, spawner, bell, callbacks,
+        ),
+        None => without_clocks(
+            alloc,
+            Ended {
+                status: Status::Words,
+                callbacks,
+            },
+        ),
     }
 }

@@ -6,6 +6,7 @@ use byte_streams::{StdSink, StdSource};
 use call_history::Bell;
 use child_spawner::LocalSpawner;
 use drmaa_types::{Text, TextList};
+use printed::printed_callbacks;
 use std::alloc::{AllocError, Global};
 use std::process::ExitCode;
 use std::sync::Wait;
@@ -19,6 +20,8 @@ mod commands;
 mod inputs;
 mod outcomes;
 mod plays;
+mod printed;
+mod registers;
 mod status;
 #[cfg(test)]
 mod tests;
@@ -27,6 +30,7 @@ mod threads;
 pub use clocks::{SystemClock, SystemClocks};
 pub use commands::{Command, run};
 pub use outcomes::Outcome;
+pub use printed::PrintedCallback;
 pub use status::Status;
 
 /// The words behind the program's name.
@@ -57,6 +61,7 @@ fn status_of<E: Threads + Wait + Pause + Sync>(
     let mut source = StdSource::new(rt.stdin());
     let mut sink = StdSink::new(rt.stdout());
     let mut spawner = LocalSpawner::new(rt, folder);
+    let callbacks = printed_callbacks(rt)?;
     let Outcome { status, .. } = run(
         threads,
         rt.alloc(),
@@ -66,6 +71,7 @@ fn status_of<E: Threads + Wait + Pause + Sync>(
         &SystemClocks::new(rt),
         &mut spawner,
         &Bell::new(),
+        callbacks,
     );
     Ok(status)
 }

@@ -2,24 +2,36 @@
 ghost use Rattle.std.specs.Prelude.{◌≡◌, []};
 
 use crate::status::Status;
+use notify_hub::Callbacks;
 use std::alloc::Global;
 use thread_play::ClockList;
 
-/// What a run leaves: how it ended, and the clocks of the callers of a script that was played in threads, in the order of their
-/// numbers: of the setup block, of the clients' blocks, of the launcher and of the reaper.
+/// What a run leaves: how it ended, the callbacks that were handed in, in their order, and the clocks of the callers of a script that
+/// was played in threads, in the order of their numbers: of the setup block, of the clients' blocks, of the launcher and of the reaper.
 #[derive(Drop)]
-pub struct Outcome<C> {
+pub struct Outcome<C, B> {
     pub status: Status,
+    pub callbacks: Callbacks<B>,
     pub clocks: ClockList<C>,
 }
 
+/// How a command ended that has no clocks, and the callbacks.
+#[derive(Drop)]
+pub(crate) struct Ended<B> {
+    pub status: Status,
+    pub callbacks: Callbacks<B>,
+}
+
 /// A run without callers of its own.
-pub(crate) fn without_clocks<C>(alloc: Global, status: Status) -> Outcome<C>
-    ensures status { result.status ≡ status }
+pub(crate) fn without_clocks<C, B>(alloc: Global, ended: Ended<B>) -> Outcome<C, B>
+    ensures status { result.status ≡ ended.status }
+    ensures callbacks { result.callbacks ≡ ended.callbacks }
     ensures clocks { result.clocks ≡ [] }
 {
+    let Ended { status, callbacks } = ended;
     Outcome {
         status,
+        callbacks,
         clocks: ClockList::new(alloc),
     }
 }

@@ -1,23 +1,29 @@
 //! The commands that play a script.
-ghost use Rattle.std.specs.Prelude.{◌≡◌, ◌≢◌, ◌⊎◌, ℕ, IfSome, IfOk, OnOk};
+ghost use Rattle.std.specs.Prelude.{◌≡◌, ◌≤◌, ◌⊎◌, ℕ, length, IfSome, IfOk, OnOk};
 ghost use Rattle.std.specs.Io.KnownBytes.{IsAtEnd};
 ghost use Rattle.drmaa_types.specs.Counts.{Rose};
 ghost use Rattle.drmaa_model.specs.History.{now_of};
 ghost use Rattle.drmaa_model.specs.Infos.{infos};
 ghost use Rattle.monitor_session.specs.Listings.{listing_text};
+ghost use Rattle.notify_hub.specs.Ears.{HaveHeard, silent};
 ghost use Rattle.script_asks.specs.Plays.{serial_play};
+ghost use Rattle.script_play.specs.Callbacks.{AreCurrent, HearHistory};
 ghost use Rattle.script_text.specs.declared.scripts.Mode.TheVariants as mode;
 ghost use Rattle.script_text.specs.declared.scripts.Script.{Script};
 ghost use Rattle.drmaa_script.specs.Outcomes.{IsSpelled, IsScriptText, IsReadOut, IsWritten, HasJournal, WritesPlay, PlayEnds, PlayIsWhole, PlayedEnds, own_of, journal_of, play_text};
-ghost use Rattle.drmaa_script.specs.Statuses.{IsQuiet, HasRead, HasWritten, ended_as};
+ghost use Rattle.drmaa_script.specs.Registers.{registers_of, end_of, HasPlayed, AreKept};
+ghost use Rattle.drmaa_script.specs.Statuses.{IsQuiet, IsUnstarted, HasRead, HasWritten, ended_as};
 
 use crate::inputs::read_script;
+use crate::outcomes::Ended;
+use crate::registers::are_enough;
 use crate::status::Status;
 use byte_streams::{Sink, Source, write_all};
 use drmaa_machine::Machine;
 use drmaa_types::Bytes;
 use journal_text::journal_bytes;
 use monitor_session::listing;
+use notify_hub::{Callback, Callbacks, Ears};
 use script_journals::a_play_is_printable;
 use script_play::{Played, each_script_can_be_played, play};
 use script_text::{Mode, Script};
@@ -102,15 +108,25 @@ fn text_of(
     }
 }
 
-/// Plays a script, and gives what is written of the play.
-fn played_text(alloc: Global, output: Output, script: &Script) -> Result<PlayText, AllocError>
-    requires { IsSpelled mode.Serial script.now }
+/// Plays a script, which callbacks hear, and gives what is written of the play.
+fn played_text<B: Callback>(
+    alloc: Global,
+    output: Output,
+    script: &Script,
+    ears: &mut Ears<B>,
+) -> Result<PlayText, AllocError>
+    requires spelled { IsSpelled mode.Serial script.now }
+    requires silent { ears.old ≡ silent ears.old.begun }
+    requires unheard { HaveHeard B.counted B.told ears.old }
     ensures text { IfOk result (λ text. text.bytes ≡ play_text (own_of output) script.now) }
     ensures full { IfOk result (λ text. text.full ≡ (serial_play script.now).full) }
     ensures writable { HasJournal output (serial_play script.now).full → OnOk result (IsWritten script.now) }
+    ensures current { OnOk result (AreCurrent B.counted B.told (record { config = script.now.config; history = (serial_play script.now).entries }) ears.new) }
+    ensures begun { ears.new.begun ≡ ears.old.begun }
+    ensures heard { HaveHeard B.counted B.told ears.new }
 {
     each_script_can_be_played();
-    let Played { machine, full } = play(alloc, script)?;
+    let Played { machine, full } = play(alloc, script, ears)?;
     let bytes = text_of(alloc, output, script, &machine, full)?;
     Ok(PlayText { bytes, full })
 }
@@ -125,18 +141,31 @@ pub(crate) fn ended_as(full: Option<u64>) -> Status
     }
 }
 
-/// Plays a script, and writes what is written of it.
-fn write_play<W: Sink>(alloc: Global, output: Output, script: &Script, sink: &mut W) -> Status
-    requires { IsSpelled mode.Serial script.now }
-    ensures ends { PlayedEnds (own_of output) script.now result (W.written sink.old) (W.written sink.new) }
+/// Plays a script, which callbacks hear, and writes what is written of it.
+fn write_play<B: Callback, W: Sink>(
+    alloc: Global,
+    output: Output,
+    script: &Script,
+    sink: &mut W,
+    ears: &mut Ears<B>,
+) -> Status
+    requires spelled { IsSpelled mode.Serial script.now }
+    requires enough { registers_of script.now ≤ length ears.old.begun }
+    requires silent { ears.old ≡ silent ears.old.begun }
+    requires unheard { HaveHeard B.counted B.told ears.old }
+    ensures ends { PlayedEnds (own_of output) (length ears.old.begun) script.now result (W.written sink.old) (W.written sink.new) }
     ensures finished { HasWritten result → W.finished sink.new }
     ensures fault { result ≡ Status.WriteFault → Rose (W.faults sink.old) (W.faults sink.new) }
     ensures untouched { IsQuiet result → sink.new ≡ sink.old }
     ensures whole { (Rose (W.faults sink.old) (W.faults sink.new) → ⊥)
         → (result ≡ ended_as (serial_play script.now).full) ⊎ (result ≡ Status.Memory) }
+    ensures begins { IsUnstarted result → ⊥ }
     ensures writable { WritesPlay output result → IsWritten script.now }
+    ensures current { HasPlayed result → AreCurrent B.counted B.told (record { config = script.now.config; history = (serial_play script.now).entries }) ears.new }
+    ensures begun { ears.new.begun ≡ ears.old.begun }
+    ensures heard { HaveHeard B.counted B.told ears.new }
 {
-    let Ok(text) = played_text(alloc, output, script) else {
+    let Ok(text) = played_text(alloc, output, script, ears) else {
         return Status::Memory;
     };
     match write_all(sink, text.bytes.as_slice()) {
@@ -145,27 +174,74 @@ fn write_play<W: Sink>(alloc: Global, output: Output, script: &Script, sink: &mu
     }
 }
 
-/// Reads a script, plays it, and writes what is written of it.
-pub fn run_play<R: Source, W: Sink>(
+/// Plays a script to these callbacks, if there are enough, and writes what is written of it.
+fn play_to<B: Callback, W: Sink>(
+    alloc: Global,
+    output: Output,
+    script: &Script,
+    sink: &mut W,
+    callbacks: Callbacks<B>,
+) -> Ended<B>
+    requires { IsSpelled mode.Serial script.now }
+    ensures ends { PlayedEnds (own_of output) (length callbacks) script.now result.status (W.written sink.old) (W.written sink.new) }
+    ensures finished { HasWritten result.status → W.finished sink.new }
+    ensures fault { result.status ≡ Status.WriteFault → Rose (W.faults sink.old) (W.faults sink.new) }
+    ensures untouched { IsQuiet result.status → sink.new ≡ sink.old }
+    ensures whole { (Rose (W.faults sink.old) (W.faults sink.new) → ⊥)
+        → (result.status ≡ end_of (length callbacks) script.now) ⊎ (result.status ≡ Status.Memory) }
+    ensures writable { WritesPlay output result.status → IsWritten script.now }
+    ensures heard { HasPlayed result.status → HearHistory B.counted B.told script.now.config (serial_play script.now).entries callbacks result.callbacks }
+    ensures kept { AreKept B.counted B.told callbacks result.callbacks }
+    ensures unheard { IsUnstarted result.status → result.callbacks ≡ callbacks }
+{
+    if !are_enough(script, callbacks.as_slice().len()) {
+        return Ended {
+            status: Status::Words,
+            callbacks,
+        };
+    }
+    let mut ears = match Ears::new(alloc, callbacks) {
+        Ok(ears) => ears,
+        Err(callbacks) => {
+            return Ended {
+                status: Status::Memory,
+                callbacks,
+            };
+        }
+    };
+    let status = write_play(alloc, output, script, sink, &mut ears);
+    Ended {
+        status,
+        callbacks: ears.take_back(),
+    }
+}
+
+/// Reads a script, plays it to these callbacks, and writes what is written of it.
+pub(crate) fn run_play<B: Callback, R: Source, W: Sink>(
     alloc: Global,
     output: Output,
     source: &mut R,
     sink: &mut W,
-) -> Status
-    ensures ends { IfSome (R.left source.old) (λ bytes. PlayEnds (own_of output) bytes result (W.written sink.old) (W.written sink.new)) }
-    ensures words { result ≢ Status.Words }
-    ensures read_whole { HasRead result → IsAtEnd (R.left source.new) }
-    ensures read_out { (line : ℕ) → result ≡ Status.Text line → IsReadOut 16_777_216 (R.left source.old) (R.left source.new) }
-    ensures finished { HasWritten result → W.finished sink.new }
-    ensures read_fault { result ≡ Status.ReadFault → Rose (R.faults source.old) (R.faults source.new) }
-    ensures write_fault { result ≡ Status.WriteFault → Rose (W.faults sink.old) (W.faults sink.new) }
-    ensures untouched { IsQuiet result → sink.new ≡ sink.old }
+    callbacks: Callbacks<B>,
+) -> Ended<B>
+    ensures ends { IfSome (R.left source.old) (λ bytes. PlayEnds (own_of output) (length callbacks) bytes result.status (W.written sink.old) (W.written sink.new)) }
+    ensures words { result.status ≡ Status.Words → IsAtEnd (R.left source.new) }
+    ensures read_whole { HasRead result.status → IsAtEnd (R.left source.new) }
+    ensures read_out { (line : ℕ) → result.status ≡ Status.Text line → IsReadOut 16_777_216 (R.left source.old) (R.left source.new) }
+    ensures finished { HasWritten result.status → W.finished sink.new }
+    ensures read_fault { result.status ≡ Status.ReadFault → Rose (R.faults source.old) (R.faults source.new) }
+    ensures write_fault { result.status ≡ Status.WriteFault → Rose (W.faults sink.old) (W.faults sink.new) }
+    ensures untouched { IsQuiet result.status → sink.new ≡ sink.old }
     ensures whole { (Rose (R.faults source.old) (R.faults source.new) → ⊥) → (Rose (W.faults sink.old) (W.faults sink.new) → ⊥)
-        → IfSome (R.left source.old) (λ bytes. PlayIsWhole bytes result) }
-    ensures writable { WritesPlay output result → IfSome (R.left source.old) (λ bytes. (script : Script) → IsScriptText mode.Serial bytes script → IsWritten script) }
+        → IfSome (R.left source.old) (λ bytes. PlayIsWhole (length callbacks) bytes result.status) }
+    ensures writable { WritesPlay output result.status → IfSome (R.left source.old) (λ bytes. (script : Script) → IsScriptText mode.Serial bytes script → IsWritten script) }
+    ensures heard { HasPlayed result.status → IfSome (R.left source.old) (λ bytes. (script : Script) → IsScriptText mode.Serial bytes script
+        → HearHistory B.counted B.told script.config (serial_play script).entries callbacks result.callbacks) }
+    ensures kept { AreKept B.counted B.told callbacks result.callbacks }
+    ensures unheard { IsUnstarted result.status → result.callbacks ≡ callbacks }
 {
     match read_script(alloc, Mode::Serial, source) {
-        Ok(script) => write_play(alloc, output, &script, sink),
-        Err(status) => status,
+        Ok(script) => play_to(alloc, output, &script, sink, callbacks),
+        Err(status) => Ended { status, callbacks },
     }
 }

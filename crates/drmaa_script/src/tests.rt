@@ -9,6 +9,7 @@ use drmaa_model::Reply;
 use drmaa_types::{
     Bytes, CallerId, Clocks, JobState, Moment, PlaceList, Refusal, StepClock, Text, TextList,
 };
+use notify_hub::{Callbacks, MemoryCallback};
 use std::alloc::Global;
 use std::sync::Wait;
 use std::test::Fail;
@@ -16,6 +17,7 @@ use std::thread::Threads;
 use std::time::Clock as Pause;
 
 mod flags;
+mod heard;
 mod held;
 
 const SCRIPT: &str =
@@ -77,7 +79,7 @@ impl Clocks for StillClocks {
     }
 }
 
-/// What a run of these words leaves.
+/// What a run of these words leaves that nobody hears.
 fn outcome<E: Threads + Wait + Pause + Sync>(
     rt: &E,
     alloc: Global,
@@ -85,7 +87,7 @@ fn outcome<E: Threads + Wait + Pause + Sync>(
     source: &mut MemorySource,
     sink: &mut MemorySink,
     spawner: &mut MemorySpawner,
-) -> Result<Outcome<StepClock>, Fail> {
+) -> Result<Outcome<StepClock, MemoryCallback>, Fail> {
     let words = words(alloc, line)?;
     Ok(run(
         rt,
@@ -96,6 +98,7 @@ fn outcome<E: Threads + Wait + Pause + Sync>(
         &StillClocks {},
         spawner,
         &Bell::new(),
+        Callbacks::new(alloc),
     ))
 }
 
@@ -440,7 +443,7 @@ fn counted<E: Threads + Wait + Pause + Sync>(
     sink: &mut MemorySink,
     spawner: &mut MemorySpawner,
 ) -> Result<(u8, usize), Fail> {
-    let Outcome { status, clocks } = outcome(rt, alloc, "threads", source, sink, spawner)?;
+    let Outcome { status, clocks, .. } = outcome(rt, alloc, "threads", source, sink, spawner)?;
     Ok((status.number(), clocks.as_slice().len()))
 }
 

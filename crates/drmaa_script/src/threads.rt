@@ -9,7 +9,7 @@ ghost use Rattle.drmaa_script.specs.Running.{IsTextOfRun, RanEnds};
 ghost use Rattle.drmaa_script.specs.Statuses.{IsQuiet, HasRead, HasWritten, IsUnstarted};
 
 use crate::inputs::read_script;
-use crate::outcomes::{Outcome, without_clocks};
+use crate::outcomes::{Ended, Outcome, without_clocks};
 use crate::plays::ended_as;
 use crate::status::Status;
 use byte_streams::{Sink, Source, write_all};
@@ -17,6 +17,7 @@ use call_history::Bell;
 use child_spawner::Spawner;
 use drmaa_types::{Bytes, Clocks};
 use journal_text::journal_bytes;
+use notify_hub::{Callback, Callbacks};
 use script_text::{Mode, Script};
 use std::alloc::{AllocError, Global};
 use std::sync::Wait;
@@ -61,7 +62,7 @@ fn run_text<E: Threads + Wait + Pause + Sync, K: Clocks, S: Spawner + Send>(
 }
 
 /// Plays a script in threads, and writes its journal.
-fn write_run<E: Threads + Wait + Pause + Sync, W: Sink, K: Clocks, S: Spawner + Send>(
+fn write_run<E: Threads + Wait + Pause + Sync, W: Sink, K: Clocks, S: Spawner + Send, B: Callback>(
     rt: &E,
     alloc: Global,
     script: &Script,
@@ -69,7 +70,8 @@ fn write_run<E: Threads + Wait + Pause + Sync, W: Sink, K: Clocks, S: Spawner + 
     clocks: &K,
     spawner: &mut S,
     bell: &Bell,
-) -> Outcome<K::One>
+    callbacks: Callbacks<B>,
+) -> Outcome<K::One, B>
     requires { IsSpelled mode.Threads script.now }
     ensures ends { RanEnds K.One.given script.now (W.written sink.old) (W.written sink.new)
         (S.asked spawner.old) (S.asked spawner.new) (S.fate spawner.new) result.clocks result.status }
@@ -80,9 +82,16 @@ fn write_run<E: Threads + Wait + Pause + Sync, W: Sink, K: Clocks, S: Spawner + 
     ensures clocks { (LeavesClocks result.status → ⊥) → result.clocks ≡ [] }
     ensures unstarted { IsUnstarted result.status → spawner.new ≡ spawner.old }
     ensures fates { S.fate spawner.new ≡ S.fate spawner.old }
+    ensures callbacks { result.callbacks ≡ callbacks }
 {
     let Ok(text) = run_text(rt, alloc, script, clocks, spawner, bell) else {
-        return without_clocks(alloc, Status::Memory);
+        return without_clocks(
+            alloc,
+            Ended {
+                status: Status::Memory,
+                callbacks,
+            },
+        );
     };
     let RunText {
         bytes,
@@ -92,9 +101,16 @@ fn write_run<E: Threads + Wait + Pause + Sync, W: Sink, K: Clocks, S: Spawner + 
     match write_all(sink, bytes.as_slice()) {
         Ok(()) => Outcome {
             status: ended_as(full),
+            callbacks,
             clocks,
         },
-        Err(_) => without_clocks(alloc, Status::WriteFault),
+        Err(_) => without_clocks(
+            alloc,
+            Ended {
+                status: Status::WriteFault,
+                callbacks,
+            },
+        ),
     }
 }
 
@@ -105,6 +121,7 @@ pub fn run_threads<
     W: Sink,
     K: Clocks,
     S: Spawner + Send,
+    B: Callback,
 >(
     rt: &E,
     alloc: Global,
@@ -113,7 +130,8 @@ pub fn run_threads<
     clocks: &K,
     spawner: &mut S,
     bell: &Bell,
-) -> Outcome<K::One>
+    callbacks: Callbacks<B>,
+) -> Outcome<K::One, B>
     ensures ends { IfSome (R.left source.old) (λ bytes. RunEnds K.One.given bytes (W.written sink.old) (W.written sink.new)
         (S.asked spawner.old) (S.asked spawner.new) (S.fate spawner.new) result.clocks result.status) }
     ensures words { result.status ≢ Status.Words }
@@ -128,9 +146,10 @@ pub fn run_threads<
     ensures clocks { (LeavesClocks result.status → ⊥) → result.clocks ≡ [] }
     ensures unstarted { IsUnstarted result.status → spawner.new ≡ spawner.old }
     ensures fates { S.fate spawner.new ≡ S.fate spawner.old }
+    ensures callbacks { result.callbacks ≡ callbacks }
 {
     match read_script(alloc, Mode::Threads, source) {
-        Ok(script) => write_run(rt, alloc, &script, sink, clocks, spawner, bell),
-        Err(status) => without_clocks(alloc, status),
+        Ok(script) => write_run(rt, alloc, &script, sink, clocks, spawner, bell, callbacks),
+        Err(status) => without_clocks(alloc, Ended { status, callbacks }),
     }
 }

@@ -22,13 +22,13 @@ use Rattle.script_asks.specs.Asks.{asks}
 use Rattle.script_asks.specs.Attempts.{attempt_in, Notes, Shows, shows_more}
 use Rattle.script_asks.specs.Plays.{Playing, after_answer, entered}
 use Rattle.script_asks.specs.Replies.{names_after}
-use Rattle.script_play.specs.Looks.{IsLook, asks_from}
-use Rattle.script_play.specs.View.{View, playing, replies_of}
+use Rattle.script_play.specs.Looks.{IsLook, Learns, asks_from}
+use Rattle.script_play.specs.View.{View, IsNoted, playing, replies_of}
 use Rattle.script_play.specs.declared.players.Looked.TheVariants.{Done, NotYet}
 
 -- A line asks the same by the table of attempts and by the replies that it shows.
-pub asks_same : (s : Script) (v : View) (attempts : List (ℕ × ℕ)) (begun : ℕ) (l : Line) → Shows attempts (replies_of v.ledger.history) → asks s v.names (attempt_in attempts) begun l ≡ asks_from s v begun l
-asks_same s v attempts begun l shows = ap (λ f. asks s v.names f begun l) (fun_ext shows)
+pub asks_same : (s : Script) (v : View) (begun : ℕ) (l : Line) → IsNoted v → asks s v.names (attempt_in v.attempts) begun l ≡ asks_from s v begun l
+asks_same s v begun l noted = ap (λ f. asks s v.names f begun l) (fun_ext noted)
 
 -- A step that is made.
 within : (p : Playing) (caller : CallerId) (l : Line) (c : Call) (r : Reply) (next : World) → size next ≤ p.world.config.journal
@@ -47,11 +47,17 @@ above p caller l c r next h =
     let test : nat_le (size next) p.world.config.journal ≡ false = grind (arith, nat_tests) in
     rw test refl
 
-pub look_made : (v next : View) (caller : CallerId) (l : Line) (c : Call) (reply : Reply)
+-- The attempts are those of the replies with the one of an entry.
+shows_after : (old new : List (ℕ × ℕ)) (ledger next : Ledger) (e : Entry) → Shows old (replies_of ledger.history) → Notes old e.reply new → next ≡ served ledger e → Shows new (replies_of next.history)
+shows_after old new ledger next e shows notes same =
+    let replies : replies_of next.history ≡ replies_of ledger.history ++ e.reply ∷ [] = ap (λ (k : Ledger). replies_of k.history) same ∙ map-append (λ (x : Entry). x.reply) ledger.history (e ∷ []) in
+    subst (Shows new) (sym replies) (shows_more old new (replies_of ledger.history) e.reply shows notes)
+
+made-of : (v next : View) (caller : CallerId) (l : Line) (c : Call) (reply : Reply)
     → IsStep (now_of v.ledger) (record { caller = caller; at = v.moment; call = kept c; reply = reply }) (now_of next.ledger)
     → next.ledger ≡ served v.ledger (record { caller = caller; at = v.moment; call = kept c; reply = reply })
-    → next.moment ≡ v.moment → next.names ≡ names_after l reply v.names → next.full ≡ v.full → IsLook v caller l c (Done next)
-look_made v next caller l c reply step entry moment names full = record {
+    → next.moment ≡ v.moment → next.names ≡ names_after l reply v.names → next.full ≡ v.full → Notes v.attempts reply next.attempts → IsLook v caller l c Done next
+made-of v next caller l c reply step entry moment names full notes = record {
   comes = λ second.
       ap (λ a. after_answer (playing v) caller l c a second) step.answered
       ∙ within (playing v) caller l c reply (now_of next.ledger) step.within
@@ -60,38 +66,49 @@ look_made v next caller l c reply step entry moment names full = record {
       ∙ ap (λ (ns : List (List ℕ × Given)). record { world = now_of next.ledger; moment = next.moment; names = ns; entries = next.ledger.history; full = v.full }) (sym names)
       ∙ ap (λ (f : Option ℕ). record { world = now_of next.ledger; moment = next.moment; names = next.names; entries = next.ledger.history; full = f }) (sym full);
   config = ap (λ (k : Ledger). k.config) entry;
+  noted = λ h. shows_after v.attempts next.attempts v.ledger next.ledger (record { caller = caller; at = v.moment; call = kept c; reply = reply }) h notes entry;
 }
 
-pub look_full : (v : View) (ledger : Ledger) (caller : CallerId) (l : Line) (c : Call) (n : ℕ) → IsTooLarge (now_of v.ledger) v.moment (kept c) n → ledger ≡ v.ledger
-    → IsLook v caller l c (Done (record v { ledger = ledger; full = Some n }))
-look_full v ledger caller l c n large same = record {
+-- A step, and then what its reply tells.
+pub look_made : (v mid next : View) (caller : CallerId) (l : Line) (c : Call) (reply : Reply)
+    → IsStep (now_of v.ledger) (record { caller = caller; at = v.moment; call = kept c; reply = reply }) (now_of mid.ledger)
+    → mid.ledger ≡ served v.ledger (record { caller = caller; at = v.moment; call = kept c; reply = reply })
+    → mid ≡ record v { ledger = mid.ledger } → Learns mid l reply next → IsLook v caller l c Done next
+look_made v mid next caller l c reply step entry same learns =
+    let e : Entry = record { caller = caller; at = v.moment; call = kept c; reply = reply } in
+    let ledger : next.ledger ≡ mid.ledger = ap (λ (u : View). u.ledger) learns.same in
+    let moment : next.moment ≡ v.moment = ap (λ (u : View). u.moment) learns.same ∙ ap (λ (u : View). u.moment) same in
+    let full : next.full ≡ v.full = ap (λ (u : View). u.full) learns.same ∙ ap (λ (u : View). u.full) same in
+    let names : next.names ≡ names_after l reply v.names = learns.names ∙ ap (λ (u : View). names_after l reply u.names) same in
+    made-of v next caller l c reply (subst (λ (k : Ledger). IsStep (now_of v.ledger) e (now_of k)) (sym ledger) step) (ledger ∙ entry) moment names full
+    (subst (λ (u : View). Notes u.attempts reply next.attempts) same learns.attempts)
+
+-- A step that would be too large stops the play.
+pub look_full : (v next : View) (caller : CallerId) (l : Line) (c : Call) (n : ℕ) → IsTooLarge (now_of v.ledger) v.moment (kept c) n → next ≡ record v { full = Some n }
+    → IsLook v caller l c Done next
+look_full v next caller l c n large same = record {
   comes = λ second.
       ap (λ a. after_answer (playing v) caller l c a second) large.answered
       ∙ above (playing v) caller l c large.reply large.after (subst (λ k. (now_of v.ledger).config.journal < k) large.size_is large.above)
       ∙ ap (λ (k : ℕ). record (playing v) { full = Some k }) (sym large.size_is)
-      ∙ ap (λ (k : Ledger). playing (record v { ledger = k; full = Some n })) (sym same);
-  config = ap (λ (k : Ledger). k.config) same;
+      ∙ ap (λ (u : View). playing u) (sym same);
+  config = ap (λ (u : View). u.ledger.config) same;
+  noted = λ h. subst (λ (u : View). IsNoted u) (sym same) h;
 }
 
-pub look_nothing : (v : View) (ledger : Ledger) (caller : CallerId) (l : Line) (c : Call) → answer (now_of v.ledger) v.moment (kept c) ≡ nothing → ledger ≡ v.ledger
-    → IsLook v caller l c (Done (record v { ledger = ledger }))
-look_nothing v ledger caller l c e same = record {
-  comes = λ second. ap (λ a. after_answer (playing v) caller l c a second) e ∙ ap (λ (k : Ledger). playing (record v { ledger = k })) (sym same);
-  config = ap (λ (k : Ledger). k.config) same;
+pub look_nothing : (v next : View) (caller : CallerId) (l : Line) (c : Call) → answer (now_of v.ledger) v.moment (kept c) ≡ nothing → next ≡ v → IsLook v caller l c Done next
+look_nothing v next caller l c e same = record {
+  comes = λ second. ap (λ a. after_answer (playing v) caller l c a second) e ∙ ap (λ (u : View). playing u) (sym same);
+  config = ap (λ (u : View). u.ledger.config) same;
+  noted = λ h. subst (λ (u : View). IsNoted u) (sym same) h;
 }
 
-pub look_waits : (v : View) (ledger : Ledger) (caller : CallerId) (l : Line) (c : Call) → answer (now_of v.ledger) v.moment (kept c) ≡ not_yet → ledger ≡ v.ledger
-    → IsLook v caller l c (NotYet (record v { ledger = ledger }))
-look_waits v ledger caller l c e same = record {
-  comes = (ap (λ (k : Ledger). playing (record v { ledger = k })) same, λ second. ap (λ a. after_answer (playing v) caller l c a second) e);
-  config = ap (λ (k : Ledger). k.config) same;
+pub look_waits : (v next : View) (caller : CallerId) (l : Line) (c : Call) → answer (now_of v.ledger) v.moment (kept c) ≡ not_yet → next ≡ v → IsLook v caller l c NotYet next
+look_waits v next caller l c e same = record {
+  comes = (ap (λ (u : View). playing u) same, λ second. ap (λ a. after_answer (playing v) caller l c a second) e);
+  config = ap (λ (u : View). u.ledger.config) same;
+  noted = λ h. subst (λ (u : View). IsNoted u) (sym same) h;
 }
-
--- The attempts are those of the replies with the one of an entry.
-pub shows_after : (old new : List (ℕ × ℕ)) (ledger next : Ledger) (e : Entry) → Shows old (replies_of ledger.history) → Notes old e.reply new → next ≡ served ledger e → Shows new (replies_of next.history)
-shows_after old new ledger next e shows notes same =
-    let replies : replies_of next.history ≡ replies_of ledger.history ++ e.reply ∷ [] = ap (λ (k : Ledger). replies_of k.history) same ∙ map-append (λ (x : Entry). x.reply) ledger.history (e ∷ []) in
-    subst (Shows new) (sym replies) (shows_more old new (replies_of ledger.history) e.reply shows notes)
 
 -- an error, by what it is
 pub as_err : {A E : Type 0} (x y : E) → x ≡ y → ◌≡◌ {A = Result A E} (Err x) (Err y)

@@ -2,12 +2,14 @@
 use Rattle.std.specs.Prelude.{◌≡◌, ℕ, Option}
 use Rattle.drmaa_types.specs.declared.identifiers.CallerId.{CallerId}
 use Rattle.drmaa_model.specs.declared.calls.Call.{Call}
+use Rattle.drmaa_model.specs.declared.replies.Reply.{Reply}
 use Rattle.script_lines.specs.declared.lines.Line.{Line}
 use Rattle.script_text.specs.declared.scripts.Script.{Script}
 use Rattle.script_asks.specs.Asks.{asks}
+use Rattle.script_asks.specs.Attempts.{Notes}
 use Rattle.script_asks.specs.Plays.{Playing, after_look}
-use Rattle.script_asks.specs.Replies.{last_attempt}
-use Rattle.script_play.specs.View.{View, playing, replies_of}
+use Rattle.script_asks.specs.Replies.{last_attempt, names_after}
+use Rattle.script_play.specs.View.{View, IsNoted, playing, replies_of}
 use Rattle.script_play.specs.declared.players.Looked.{Looked}
 use Rattle.script_play.specs.declared.players.Looked.TheVariants.{Done, NotYet}
 
@@ -15,16 +17,25 @@ use Rattle.script_play.specs.declared.players.Looked.TheVariants.{Done, NotYet}
 abbrev pub asks_from : Script → View → ℕ → Line → Option Call
 asks_from s v begun l = asks s v.names (λ job. last_attempt job (replies_of v.ledger.history)) begun l
 
-abbrev pub view_after : Looked → View
-view_after (Done v) = v
-view_after (NotYet v) = v
-
 -- The look was the last one, whatever a second one were; or it changed nothing, and a second one decides.
-abbrev pub ComesTo : Playing → CallerId → Line → Call → Looked → Type 0
-ComesTo p caller l c (Done v) = (second : Playing) → after_look p caller l c second ≡ playing v
-ComesTo p caller l c (NotYet v) = (playing v ≡ p) × ((second : Playing) → after_look p caller l c second ≡ second)
+abbrev pub ComesTo : Playing → CallerId → Line → Call → Looked → Playing → Type 0
+ComesTo p caller l c Done q = (second : Playing) → after_look p caller l c second ≡ q
+ComesTo p caller l c NotYet q = (q ≡ p) × ((second : Playing) → after_look p caller l c second ≡ second)
 
 -- by this look, at a machine that was made with the same
-pub record IsLook (before : View) (caller : CallerId) (l : Line) (c : Call) (after : Looked) : Type 0 where
-  pub comes : ComesTo (playing before) caller l c after
-  pub config : (view_after after).ledger.config ≡ before.ledger.config
+pub record IsLook (before : View) (caller : CallerId) (l : Line) (c : Call) (looked : Looked) (after : View) : Type 0 where
+  pub comes : ComesTo (playing before) caller l c looked (playing after)
+  pub config : after.ledger.config ≡ before.ledger.config
+  pub noted : IsNoted before → IsNoted after
+
+-- what the reply to a line gives its name, and the attempt of a launch, and nothing else
+pub record Learns (before : View) (l : Line) (r : Reply) (after : View) : Type 0 where
+  pub same : after ≡ record before { names = after.names; attempts = after.attempts }
+  pub names : after.names ≡ names_after l r before.names
+  pub attempts : Notes before.attempts r after.attempts
+
+-- The play came to this, at a machine that was made with the same.
+pub record GoesTo (before : View) (p : Playing) (after : View) : Type 0 where
+  pub played : playing after ≡ p
+  pub config : after.ledger.config ≡ before.ledger.config
+  pub noted : IsNoted after

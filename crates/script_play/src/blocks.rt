@@ -1,89 +1,142 @@
 //! The play of blocks.
 ghost use Rattle.std.specs.Prelude.{◌≡◌, ◌≤◌, length, IfOk};
+ghost use Rattle.notify_hub.specs.Ears.{HaveHeard};
 ghost use Rattle.script_text.specs.Follows.{lines_of};
 ghost use Rattle.script_asks.specs.Plays as plays;
+ghost use Rattle.script_play.specs.Callbacks.{AreCurrent};
 ghost use Rattle.script_play.specs.Crews.{crew_meant};
-ghost use Rattle.script_play.specs.View.{playing};
+ghost use Rattle.script_play.specs.Looks.{GoesTo};
+ghost use Rattle.script_play.specs.View.{IsNoted, playing};
 
 use crate::crews::{Crew, crew_of};
+use crate::hearing::hear;
 use crate::lines::play_line;
 use crate::names::Names;
 use crate::players::Player;
+use notify_hub::{Callback, Ears};
 use script_lines::Line;
 use script_text::{Block, Script};
 use std::alloc::{AllocError, Global};
 
-/// Plays the lines of a block, in order.
-fn play_lines(
+/// Plays the lines of a block, in order. After each line the callbacks hear what it changed.
+fn play_lines<B: Callback>(
     script: &Script,
     crew: Crew,
-    player: Player,
+    player: &mut Player,
     lines: &[Line],
-) -> Result<Player, AllocError>
-    ensures played { IfOk result (λ next. playing next ≡ plays.play_lines script.now (crew_meant crew) (playing player) lines.now) }
-    ensures config { IfOk result (λ next. next.ledger.config ≡ player.ledger.config) }
+    ears: &mut Ears<B>,
+) -> Result<(), AllocError>
+    requires noted { IsNoted player.old }
+    requires current { AreCurrent B.counted B.told player.old.ledger ears.old }
+    ensures played { IfOk result (λ _. GoesTo player.old (plays.play_lines script.now (crew_meant crew) (playing player.old) lines.now) player.new) }
+    ensures current { IfOk result (λ _. AreCurrent B.counted B.told player.new.ledger ears.new) }
+    ensures begun { ears.new.begun ≡ ears.old.begun }
+    ensures heard { HaveHeard B.counted B.told ears.new }
 {
-    let mut player = player;
     for line in lines {
-        player = play_line(script, crew, player, line)?;
+        let before = player.counts();
+        play_line(script, crew, player, line)?;
+        hear(player, before, ears);
     }
-    Ok(player)
+    Ok(())
 }
 
 /// Plays the setup block, if there is one, in the name of caller 0.
-pub fn play_setup(script: &Script, player: Player) -> Result<Player, AllocError>
-    requires { length script.now.clients ≤ 32 }
-    ensures played { IfOk result (λ next. playing next ≡ plays.play_lines script.now (plays.crew_of (length script.now.clients) 0) (playing player) (lines_of script.now.setup)) }
-    ensures config { IfOk result (λ next. next.ledger.config ≡ player.ledger.config) }
+fn play_setup<B: Callback>(
+    script: &Script,
+    player: &mut Player,
+    ears: &mut Ears<B>,
+) -> Result<(), AllocError>
+    requires few { length script.now.clients ≤ 32 }
+    requires noted { IsNoted player.old }
+    requires current { AreCurrent B.counted B.told player.old.ledger ears.old }
+    ensures played { IfOk result (λ _. GoesTo player.old
+        (plays.play_lines script.now (plays.crew_of (length script.now.clients) 0) (playing player.old) (lines_of script.now.setup)) player.new) }
+    ensures current { IfOk result (λ _. AreCurrent B.counted B.told player.new.ledger ears.new) }
+    ensures begun { ears.new.begun ≡ ears.old.begun }
+    ensures heard { HaveHeard B.counted B.told ears.new }
 {
     let clients = script.clients.as_slice().len() as u32;
     match &script.setup {
-        Some(block) => play_lines(script, crew_of(clients, 0), player, block.lines()),
-        None => Ok(player),
+        Some(block) => play_lines(script, crew_of(clients, 0), player, block.lines(), ears),
+        None => Ok(()),
     }
 }
 
 /// Plays a client's block, which begins with the names of the setup block.
-fn play_client(
+fn play_client<B: Callback>(
     alloc: Global,
     script: &Script,
     crew: Crew,
     names: &Names,
-    player: Player,
+    player: &mut Player,
     block: &Block,
-) -> Result<Player, AllocError>
-    ensures played { IfOk result (λ next. playing next ≡ plays.play_lines script.now (crew_meant crew) (record (playing player) { names = names.now }) block.now) }
-    ensures config { IfOk result (λ next. next.ledger.config ≡ player.ledger.config) }
+    ears: &mut Ears<B>,
+) -> Result<(), AllocError>
+    requires noted { IsNoted player.old }
+    requires current { AreCurrent B.counted B.told player.old.ledger ears.old }
+    ensures played { IfOk result (λ _. GoesTo player.old
+        (plays.play_lines script.now (crew_meant crew) (record (playing player.old) { names = names.now }) block.now) player.new) }
+    ensures current { IfOk result (λ _. AreCurrent B.counted B.told player.new.ledger ears.new) }
+    ensures begun { ears.new.begun ≡ ears.old.begun }
+    ensures heard { HaveHeard B.counted B.told ears.new }
 {
-    let player = player.with_names(names.copied(alloc)?);
-    play_lines(script, crew, player, block.lines())
+    player.begin_block(names.copied(alloc)?);
+    play_lines(script, crew, player, block.lines(), ears)
 }
 
 /// Plays the clients' blocks, in order, each with the names of the setup block.
-pub fn play_clients(
+fn play_clients<B: Callback>(
     alloc: Global,
     script: &Script,
     names: &Names,
-    player: Player,
-) -> Result<Player, AllocError>
-    requires { length script.now.clients ≤ 32 }
-    ensures played { IfOk result (λ next. playing next ≡ plays.play_clients script.now names.now 1 (playing player) script.now.clients) }
-    ensures config { IfOk result (λ next. next.ledger.config ≡ player.ledger.config) }
+    player: &mut Player,
+    ears: &mut Ears<B>,
+) -> Result<(), AllocError>
+    requires few { length script.now.clients ≤ 32 }
+    requires noted { IsNoted player.old }
+    requires current { AreCurrent B.counted B.told player.old.ledger ears.old }
+    ensures played { IfOk result (λ _. GoesTo player.old (plays.play_clients script.now names.now 1 (playing player.old) script.now.clients) player.new) }
+    ensures current { IfOk result (λ _. AreCurrent B.counted B.told player.new.ledger ears.new) }
+    ensures begun { ears.new.begun ≡ ears.old.begun }
+    ensures heard { HaveHeard B.counted B.told ears.new }
 {
     let blocks = script.clients.as_slice();
     let clients = blocks.len() as u32;
-    let mut player = player;
     let mut number = 1;
     for block in blocks {
-        player = play_client(
+        play_client(
             alloc,
             script,
             crew_of(clients, number),
             names,
             player,
             block,
+            ears,
         )?;
         number += 1;
     }
-    Ok(player)
+    Ok(())
+}
+
+/// Plays the setup block, and then the clients' blocks.
+pub fn play_blocks<B: Callback>(
+    alloc: Global,
+    script: &Script,
+    player: &mut Player,
+    ears: &mut Ears<B>,
+) -> Result<(), AllocError>
+    requires few { length script.now.clients ≤ 32 }
+    requires noted { IsNoted player.old }
+    requires current { AreCurrent B.counted B.told player.old.ledger ears.old }
+    ensures played { IfOk result (λ _. GoesTo player.old
+        (let first = plays.play_lines script.now (plays.crew_of (length script.now.clients) 0) (playing player.old) (lines_of script.now.setup) in
+        plays.play_clients script.now first.names 1 first script.now.clients) player.new) }
+    ensures current { IfOk result (λ _. AreCurrent B.counted B.told player.new.ledger ears.new) }
+    ensures begun { ears.new.begun ≡ ears.old.begun }
+    ensures heard { HaveHeard B.counted B.told ears.new }
+{
+    play_setup(script, player, ears)?;
+    let names = player.names().copied(alloc)?;
+    play_clients(alloc, script, &names, player, ears)
 }

@@ -3,6 +3,7 @@
 
 mod blocks;
 mod crews;
+mod hearing;
 mod laws;
 mod lines;
 mod names;

@@ -3,7 +3,8 @@ ghost use Rattle.std.specs.Prelude.{◌≡◌, IfOk};
 ghost use Rattle.text_codec.specs.Formats.{choose};
 ghost use Rattle.script_asks.specs.Plays as plays;
 ghost use Rattle.script_play.specs.Crews.{crew_meant};
-ghost use Rattle.script_play.specs.View.{playing};
+ghost use Rattle.script_play.specs.Looks.{GoesTo};
+ghost use Rattle.script_play.specs.View.{IsNoted, playing};
 
 use crate::crews::{Crew, Turn, turn_of};
 use crate::players::{Looked, Player, later};
@@ -16,21 +17,20 @@ use std::alloc::AllocError;
 fn play_call(
     script: &Script,
     caller: CallerId,
-    player: Player,
+    player: &mut Player,
     line: &Line,
-) -> Result<Player, AllocError>
-    ensures played { IfOk result (λ next. playing next ≡ choose (plays.asks_now script.now (playing player) line.now)
-        (λ c. plays.after_look (playing player) caller line.now c (playing player)) (playing player)) }
-    ensures config { IfOk result (λ next. next.ledger.config ≡ player.ledger.config) }
+) -> Result<(), AllocError>
+    requires { IsNoted player.old }
+    ensures { IfOk result (λ _. GoesTo player.old (choose (plays.asks_now script.now (playing player.old) line.now)
+        (λ c. plays.after_look (playing player.old) caller line.now c (playing player.old)) (playing player.old)) player.new) }
 {
     let begun = player.moment();
-    let asked = player.ask(script, begun, line)?;
-    match asked {
+    match player.ask(script, begun, line)? {
         Some(call) => {
-            let looked = player.look(caller, line, call)?;
-            Ok(looked.into_player())
+            player.look(caller, line, call)?;
+            Ok(())
         }
-        None => Ok(player),
+        None => Ok(()),
     }
 }
 
@@ -38,23 +38,22 @@ fn play_call(
 fn look_later(
     script: &Script,
     caller: CallerId,
-    player: Player,
+    player: &mut Player,
     line: &Line,
     timeout: u64,
-) -> Result<Player, AllocError>
-    ensures played { IfOk result (λ next. playing next ≡ choose (plays.asks_now script.now (playing player) line.now)
-        (λ c. plays.second_look (plays.come_later (playing player) timeout) caller line.now c) (plays.come_later (playing player) timeout)) }
-    ensures config { IfOk result (λ next. next.ledger.config ≡ player.ledger.config) }
+) -> Result<(), AllocError>
+    requires { IsNoted player.old }
+    ensures { IfOk result (λ _. GoesTo player.old (choose (plays.asks_now script.now (playing player.old) line.now)
+        (λ c. plays.second_look (plays.come_later (playing player.old) timeout) caller line.now c) (plays.come_later (playing player.old) timeout)) player.new) }
 {
     let begun = player.moment();
-    let waiting = player.at(later(begun, timeout));
-    let asked = waiting.ask(script, begun, line)?;
-    match asked {
+    player.come_to(later(begun, timeout));
+    match player.ask(script, begun, line)? {
         Some(call) => {
-            let looked = waiting.look(caller, line, call)?;
-            Ok(looked.into_player())
+            player.look(caller, line, call)?;
+            Ok(())
         }
-        None => Ok(waiting),
+        None => Ok(()),
     }
 }
 
@@ -62,26 +61,22 @@ fn look_later(
 fn play_wait(
     script: &Script,
     caller: CallerId,
-    player: Player,
+    player: &mut Player,
     line: &Line,
     timeout: u64,
-) -> Result<Player, AllocError>
-    ensures played { IfOk result (λ next. playing next ≡ choose (plays.asks_now script.now (playing player) line.now)
-        (λ c. plays.after_look (playing player) caller line.now c (plays.second_look (plays.come_later (playing player) timeout) caller line.now c))
-        (playing player)) }
-    ensures config { IfOk result (λ next. next.ledger.config ≡ player.ledger.config) }
+) -> Result<(), AllocError>
+    requires { IsNoted player.old }
+    ensures { IfOk result (λ _. GoesTo player.old (choose (plays.asks_now script.now (playing player.old) line.now)
+        (λ c. plays.after_look (playing player.old) caller line.now c (plays.second_look (plays.come_later (playing player.old) timeout) caller line.now c))
+        (playing player.old)) player.new) }
 {
     let begun = player.moment();
-    let asked = player.ask(script, begun, line)?;
-    match asked {
-        Some(call) => {
-            let looked = player.look(caller, line, call)?;
-            match looked {
-                Looked::Done(player) => Ok(player),
-                Looked::NotYet(waiting) => look_later(script, caller, waiting, line, timeout),
-            }
-        }
-        None => Ok(player),
+    match player.ask(script, begun, line)? {
+        Some(call) => match player.look(caller, line, call)? {
+            Looked::Done => Ok(()),
+            Looked::NotYet => look_later(script, caller, player, line, timeout),
+        },
+        None => Ok(()),
     }
 }
 
@@ -89,17 +84,20 @@ fn play_wait(
 pub fn play_line(
     script: &Script,
     crew: Crew,
-    player: Player,
+    player: &mut Player,
     line: &Line,
-) -> Result<Player, AllocError>
-    ensures played { IfOk result (λ next. playing next ≡ plays.play_line script.now (crew_meant crew) (playing player) line.now) }
-    ensures config { IfOk result (λ next. next.ledger.config ≡ player.ledger.config) }
+) -> Result<(), AllocError>
+    requires { IsNoted player.old }
+    ensures { IfOk result (λ _. GoesTo player.old (plays.play_line script.now (crew_meant crew) (playing player.old) line.now) player.new) }
 {
     if player.is_full() {
-        return Ok(player);
+        return Ok(());
     }
     match turn_of(line) {
-        Turn::Sets(moment) => Ok(player.at(moment)),
+        Turn::Sets(moment) => {
+            player.come_to(moment);
+            Ok(())
+        }
         Turn::Waits(timeout) => play_wait(script, crew.client, player, line, timeout),
         Turn::Client => play_call(script, crew.client, player, line),
         Turn::Launcher => play_call(script, crew.launcher, player, line),

@@ -4,16 +4,17 @@ ghost use Rattle.drmaa_types.specs.Moments.{greatest};
 
 use crate::names::Names;
 use drmaa_machine::Machine;
-use drmaa_model::{Call, Config, NoEntry};
-use drmaa_types::{CallerId, Moment};
+use drmaa_model::{Answer, Call, Config, Entry, NoEntry, Question, Reply};
+use drmaa_types::{CallerId, ChangeBatch, Moment};
 use script_asks::{Attempts, ask};
 use script_lines::Line;
 use script_text::Script;
 use std::alloc::{AllocError, Global};
 use std::marker::Model;
+use std::mem;
 
 /// A play that is under way. Contracts see what its machine was made with and has served, the moment that it has come to,
-/// the names of the block that is played, and the size that stopped it.
+/// the names of the block that is played, the attempts that reports name, and the size that stopped it.
 #[derive(Drop)]
 pub struct Player {
     alloc: Global,
@@ -25,39 +26,33 @@ pub struct Player {
 }
 
 impl Model for Player {
-    ghost use Rattle.script_play.specs.View.{View, replies_of};
-    ghost use Rattle.script_asks.specs.Attempts.{Shows};
+    ghost use Rattle.script_play.specs.View.{View};
 
     ghost Value = { View };
 
-    ghost view = { λ p. record { ledger = p.machine.ledger; moment = p.moment; names = p.names; full = p.full } };
+    ghost view = { λ p. record {
+      ledger = p.machine.ledger;
+      moment = p.moment;
+      names = p.names;
+      attempts = p.attempts;
+      full = p.full;
+    } };
+}
 
-    // the attempts are those of the machine's replies
-    ghost invariant = { λ p. Shows p.attempts (replies_of p.machine.ledger.history) };
+/// How many entries a machine has made, and how many changes there were.
+#[derive(Clone, Copy, Debug, PartialEq, Eq)]
+pub struct Counts {
+    pub entries: usize,
+    pub changes: usize,
 }
 
 /// What a look at the machine came to.
-#[derive(Drop)]
+#[derive(Clone, Copy, Debug, PartialEq, Eq)]
 pub enum Looked {
     /// It was the last one.
-    Done(Player),
+    Done,
     /// What is waited for has not come, and nothing has changed.
-    NotYet(Player),
-}
-
-impl Looked {
-    ghost use Rattle.std.specs.Prelude.{◌≡◌};
-    ghost use Rattle.script_play.specs.Looks.{view_after};
-
-    /// The play after the look.
-    pub fn into_player(self) -> Player
-        ensures { result ≡ view_after self }
-    {
-        match self {
-            Looked::Done(player) => player,
-            Looked::NotYet(player) => player,
-        }
-    }
+    NotYet,
 }
 
 /// The least moment.
@@ -82,8 +77,11 @@ pub fn later(moment: Moment, seconds: u64) -> Moment
 }
 
 impl Player {
-    ghost use Rattle.std.specs.Prelude.{◌≡◌, ◌≤◌, [], None, is_some, IfOk};
-    ghost use Rattle.script_play.specs.Looks.{asks_from, IsLook};
+    ghost use Rattle.std.specs.Prelude.{◌≡◌, ◌≤◌, [], None, is_some, length, take, drop, slice_get, IfOk};
+    ghost use Rattle.drmaa_model.specs.History.{IsLegal, now_of};
+    ghost use Rattle.script_play.specs.Callbacks.{number_of};
+    ghost use Rattle.script_play.specs.Looks.{asks_from, IsLook, Learns};
+    ghost use Rattle.script_play.specs.View.{IsNoted};
 
     /// A play that has not begun, with a machine of from 1 to 65,535 slots and a journal size from 1 to 4,000,000.
     pub fn new(alloc: Global, config: Config) -> Result<Player, AllocError>
@@ -95,6 +93,7 @@ impl Player {
           ledger = record { config = config; history = [] };
           moment = 0;
           names = [];
+          attempts = [];
           full = None;
         }) }
     {
@@ -132,22 +131,58 @@ impl Player {
         &self.names
     }
 
-    /// The play at another moment.
-    pub fn at(self, moment: Moment) -> Player
-        ensures { result ≡ record self { moment = moment } }
+    /// How many entries and changes there are.
+    pub fn counts(&self) -> Counts
+        ensures entries { result.entries ≡ length self.now.ledger.history }
+        ensures changes { result.changes ≡ length (now_of self.now.ledger).plan.changes }
     {
-        let mut player = self;
-        player.moment = moment;
-        player
+        Counts {
+            entries: self.machine.entries().len(),
+            changes: self.machine.changes().len(),
+        }
     }
 
-    /// The play of a further block, which begins with these names.
-    pub fn with_names(self, names: Names) -> Player
-        ensures { result ≡ record self { names = names } }
+    /// The number of the callback that the entry at this place registered, if there is one and it did.
+    pub fn registered(&self, place: usize) -> Option<u32>
+        ensures number { result ≡ number_of (slice_get self.now.ledger.history place) }
+        ensures legal { IsLegal self.now.ledger.config self.now.ledger.history }
     {
-        let mut player = self;
-        player.names = names;
-        player
+        match self.machine.entries().get(place) {
+            Some(
+                Entry {
+                    reply: Reply::Callback(number),
+                    ..
+                },
+            ) => Some(*number),
+            _ => None,
+        }
+    }
+
+    /// The first 64 changes from this place on, as many as there are.
+    pub fn changes_from(&self, place: u64) -> ChangeBatch
+        ensures { result ≡ take 64 (drop place (now_of self.now.ledger).plan.changes) }
+    {
+        match self
+            .machine
+            .look(self.moment, Question::Changes { from: place })
+        {
+            Answer::Changes(batch) => batch,
+            _ => unreachable!(),
+        }
+    }
+
+    /// Comes to another moment.
+    pub fn come_to(&mut self, moment: Moment)
+        ensures { self.new ≡ record self.old { moment = moment } }
+    {
+        self.moment = moment;
+    }
+
+    /// Begins a further block, with these names.
+    pub fn begin_block(&mut self, names: Names)
+        ensures { self.new ≡ record self.old { names = names } }
+    {
+        self.names = names;
     }
 
     /// What a line asks, where a wait began at this moment.
@@ -157,6 +192,7 @@ impl Player {
         begun: Moment,
         line: &Line,
     ) -> Result<Option<Call>, AllocError>
+        requires { IsNoted self.now }
         ensures { IfOk result (λ call. call ≡ asks_from script.now self.now begun line.now) }
     {
         ask(
@@ -170,56 +206,33 @@ impl Player {
     }
 
     /// Makes the call of a line. After an `Err` memory ran out, and the play is lost.
-    pub fn look(self, caller: CallerId, line: &Line, call: Call) -> Result<Looked, AllocError>
-        ensures { IfOk result (λ after. IsLook self caller line.now call after) }
+    pub fn look(&mut self, caller: CallerId, line: &Line, call: Call) -> Result<Looked, AllocError>
+        ensures { IfOk result (λ looked. IsLook self.old caller line.now call looked self.new) }
     {
-        let Player {
-            alloc,
-            mut machine,
-            moment,
-            names,
-            attempts,
-            full,
-        } = self;
-        match machine.apply(caller, moment, call) {
+        match self.machine.apply(caller, self.moment, call) {
             Ok(reply) => {
-                let names = names.with(line, &reply)?;
-                let attempts = attempts.with(&reply)?;
-                Ok(Looked::Done(Player {
-                    alloc,
-                    machine,
-                    moment,
-                    names,
-                    attempts,
-                    full,
-                }))
+                self.learn(line, &reply)?;
+                Ok(Looked::Done)
             }
-            Err(NoEntry::Nothing) => Ok(Looked::Done(Player {
-                alloc,
-                machine,
-                moment,
-                names,
-                attempts,
-                full,
-            })),
-            Err(NoEntry::NotYet) => Ok(Looked::NotYet(Player {
-                alloc,
-                machine,
-                moment,
-                names,
-                attempts,
-                full,
-            })),
-            Err(NoEntry::Journal { size }) => Ok(Looked::Done(Player {
-                alloc,
-                machine,
-                moment,
-                names,
-                attempts,
-                full: Some(size),
-            })),
+            Err(NoEntry::Nothing) => Ok(Looked::Done),
+            Err(NoEntry::NotYet) => Ok(Looked::NotYet),
+            Err(NoEntry::Journal { size }) => {
+                self.full = Some(size);
+                Ok(Looked::Done)
+            }
             Err(NoEntry::OutOfMemory) => Err(AllocError),
         }
+    }
+
+    /// Notes what the reply to a line gives its name, and the attempt of a launch. After an `Err` memory ran out, and both are lost.
+    fn learn(&mut self, line: &Line, reply: &Reply) -> Result<(), AllocError>
+        ensures { IfOk result (λ _. Learns self.old line.now reply.now self.new) }
+    {
+        let names = mem::replace(&mut self.names, Names::new(self.alloc));
+        self.names = names.with(line, reply)?;
+        let attempts = mem::replace(&mut self.attempts, Attempts::new(self.alloc));
+        self.attempts = attempts.with(reply)?;
+        Ok(())
     }
 
     /// The machine, and the size that stopped the play.

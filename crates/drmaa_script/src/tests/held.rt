@@ -13,6 +13,7 @@ use child_spawner::{Child, Spawner};
 use drmaa_types::{
     CallerId, Clock, Clocks, Exit, Failed, JobId, Moment, SignalKind, StepClock, TextList,
 };
+use notify_hub::{Callbacks, MemoryCallback};
 use std::alloc::Global;
 use std::sync::Wait;
 use std::test::Fail;
@@ -141,7 +142,8 @@ fn counted<E: Threads + Wait + Pause + Sync>(
 ) -> Result<(u8, usize), Fail> {
     let words = words(alloc, "threads")?;
     let clocks = FreeingClocks { flags };
-    let Outcome { status, clocks } = run(
+    let nobody: Callbacks<MemoryCallback> = Callbacks::new(alloc);
+    let Outcome { status, clocks, .. } = run(
         rt,
         alloc,
         &words,
@@ -150,6 +152,7 @@ fn counted<E: Threads + Wait + Pause + Sync>(
         &clocks,
         spawner,
         &Bell::silent(),
+        nobody,
     );
     Ok((status.number(), clocks.as_slice().len()))
 }

@@ -1,17 +1,13 @@
-use Rattle.std.proofs.Common.{◌≡◌, ℕ, List, Option, Result, Ok, Err, ◌⊎◌, inl, inr, refl, sym, ap, subst, ◌∙◌}
+use Rattle.std.proofs.Common.{◌≡◌, Result, Err, sym, ap, subst}
 use Rattle.std.proofs.lemmas.Option.{IfSome_then}
 use Rattle.drmaa_model.specs.History.{IsLegal}
-use Rattle.drmaa_model.specs.declared.replies.Reply.{Reply}
 use Rattle.journal_check.specs.Faults.{FirstFault}
 use Rattle.journal_text.specs.Journals as journals
 use Rattle.journal_text.specs.declared.journals.Journal.{Journal}
-use Rattle.script_asks.specs.Plays.{serial_play}
-use Rattle.script_text.specs.declared.scripts.Script.{Script}
 use Rattle.text_lines.specs.Lines.{IsFirstBad}
 use Rattle.drmaa_script.specs.declared.status.Status.{Status}
-use Rattle.drmaa_script.specs.declared.status.Status.TheVariants.{Text, ReadFault, Memory}
-use Rattle.drmaa_script.specs.Outcomes.{SpellsScript, IsScriptText, IsJournalText, IsReadAs, IsWritten, PlayIsWhole, CheckIsWhole, own_of}
-use Rattle.drmaa_script.specs.Statuses.{ended_as}
+use Rattle.drmaa_script.specs.declared.status.Status.TheVariants.{Text}
+use Rattle.drmaa_script.specs.Outcomes.{IsJournalText, CheckIsWhole}
 use Rattle.drmaa_script.proofs.Played.{unread_check}
 use Rattle.drmaa_script.proofs.Somes.{some_both, some_all}
 use Rattle.drmaa_script.proofs.checks.run_check.Goals as goal

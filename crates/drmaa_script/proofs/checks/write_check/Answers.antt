@@ -1,11 +1,9 @@
-use Rattle.std.proofs.Common.{◌≡◌, ℕ, ◌≤◌, ◌&&◌, nat_le, List, length, Option, ◌⊎◌, inl, inr, true, arith}
+use Rattle.std.proofs.Common.{◌≡◌, ℕ, ◌≤◌, ◌&&◌, nat_le, length, ◌⊎◌, inl, inr, true, arith}
 use Rattle.std.proofs.lemmas.Bool.{and_parts}
 use Rattle.std.proofs.lemmas.Bool.Decides.{nat_tests}
 use Rattle.drmaa_model.specs.declared.configs.Config.{Config}
-use Rattle.drmaa_model.specs.declared.replies.Reply.{Reply}
 use Rattle.text_codec.specs.Formats.{checked}
-use Rattle.journal_text.specs.Journals.{header, title, is_machine, machine_of, journal_size}
-use Rattle.drmaa_script.specs.declared.status.Status.{Status}
+use Rattle.journal_text.specs.Journals.{header, title}
 use Rattle.drmaa_script.specs.declared.status.Status.TheVariants.{Done, WriteFault, Memory, NotLegal}
 use Rattle.drmaa_script.proofs.checks.write_check.Goals as goal
 

@@ -1,7 +1,7 @@
 use Rattle.std.proofs.Common.{◌≡◌, List, ℕ, Bool, ◌≤◌, length, sym, subst, arith}
 use Rattle.std.proofs.lemmas.Option.{IfSome_then}
 use Rattle.byte_streams.specs.Streams.{ReadsUpTo}
-use Rattle.text_lines.specs.Lines.{IsFront, whole_lines, kept}
+use Rattle.text_lines.specs.Lines.{IsFront}
 use Rattle.drmaa_script.proofs.Fronts.{front_of, own_front, read_as, short_as, refused_at, read_out}
 use Rattle.drmaa_script.proofs.inputs.read_journal.Goals as goal
 

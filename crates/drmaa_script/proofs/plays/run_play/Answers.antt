@@ -1,19 +1,16 @@
-use Rattle.std.proofs.Common.{◌≡◌, ℕ, List, Option, Result, Ok, Err, ◌⊎◌, inl, inr, refl, sym, ap, subst, ◌∙◌}
+use Rattle.std.proofs.Common.{◌≡◌, length, Result, Err, ◌⊎◌, inl, inr, ap, subst}
 use Rattle.std.proofs.lemmas.Option.{IfSome_then}
-use Rattle.drmaa_model.specs.History.{IsLegal}
-use Rattle.drmaa_model.specs.declared.replies.Reply.{Reply}
-use Rattle.journal_check.specs.Faults.{FirstFault}
-use Rattle.journal_text.specs.Journals as journals
-use Rattle.journal_text.specs.declared.journals.Journal.{Journal}
 use Rattle.script_asks.specs.Plays.{serial_play}
+use Rattle.script_play.specs.Callbacks.{HearHistory}
 use Rattle.script_text.specs.declared.scripts.Mode.TheVariants as mode
 use Rattle.script_text.specs.declared.scripts.Script.{Script}
 use Rattle.text_lines.specs.Lines.{IsFirstBad}
 use Rattle.drmaa_script.specs.declared.status.Status.{Status}
 use Rattle.drmaa_script.specs.declared.status.Status.TheVariants.{Text, ReadFault, Memory}
-use Rattle.drmaa_script.specs.Outcomes.{SpellsScript, IsScriptText, IsJournalText, IsReadAs, IsWritten, PlayIsWhole, CheckIsWhole, own_of}
-use Rattle.drmaa_script.specs.Statuses.{ended_as}
-use Rattle.drmaa_script.proofs.Played.{unread_ends, unread_refused}
+use Rattle.drmaa_script.specs.Outcomes.{SpellsScript, IsScriptText, IsWritten, PlayIsWhole, own_of}
+use Rattle.drmaa_script.specs.Registers.{end_of}
+use Rattle.drmaa_script.proofs.Kept.{kept_same}
+use Rattle.drmaa_script.proofs.Played.{unread_ends, unread_refused, unread_played}
 use Rattle.drmaa_script.proofs.Somes.{some_both, some_all}
 use Rattle.drmaa_script.proofs.plays.run_play.Goals as goal
 
@@ -22,27 +19,38 @@ err_is a b e = ap (λ (x : Status). let r : Result Script Status = Err x in r) e
 
 pub returns-in-Ok-clause-whole : goal.returns-in-Ok-clause-whole
 returns-in-Ok-clause-whole g c = λ calm quiet.
-    some_both (g.R.Source.left c.args.source.now) (λ bytes. IsScriptText mode.Serial bytes c.in-Ok.script) (λ bytes. (s : Script) → IsScriptText mode.Serial bytes s → c.in-Ok.script ≡ s) (λ bytes. PlayIsWhole bytes c.write_play.result) (λ bytes spelled only. record {
-      script = λ s t. subst (λ (x : Script). (c.write_play.result ≡ ended_as (serial_play x).full) ⊎ (c.write_play.result ≡ Memory)) (only s t) (c.write_play.ensures.whole quiet);
+    some_both (g.R.Source.left c.args.source.now) (λ bytes. IsScriptText mode.Serial bytes c.in-Ok.script) (λ bytes. (s : Script) → IsScriptText mode.Serial bytes s → c.in-Ok.script ≡ s) (λ bytes. PlayIsWhole (length c.args.callbacks) bytes c.play_to.result.status) (λ bytes spelled only. record {
+      script = λ s t. subst (λ (x : Script). (c.play_to.result.status ≡ end_of (length c.args.callbacks) x) ⊎ (c.play_to.result.status ≡ Memory)) (only s t) (c.play_to.ensures.whole quiet);
       other = λ none. absurd (none c.in-Ok.script spelled);
     }) c.in-Ok.ensures.found c.in-Ok.ensures.only
 
 pub returns-in-Ok-clause-writable : goal.returns-in-Ok-clause-writable
 returns-in-Ok-clause-writable g c = λ w.
-    IfSome_then (g.R.Source.left c.args.source.now) c.in-Ok.ensures.only (λ bytes only s t. subst IsWritten (only s t) (c.write_play.ensures.writable w))
+    IfSome_then (g.R.Source.left c.args.source.now) c.in-Ok.ensures.only (λ bytes only s t. subst IsWritten (only s t) (c.play_to.ensures.writable w))
 
 pub returns-in-Err-clause-ends : goal.returns-in-Err-clause-ends
 returns-in-Err-clause-ends g c =
     let left = g.R.Source.left c.args.source.now in
     IfSome_then left (some_all left (λ n. ◌≡◌ {A = Result Script Status} (Err c.in-Err.status) (Err (Text n))) (λ n bytes. IsFirstBad (SpellsScript mode.Serial) 16_777_216 bytes n) c.in-Err.ensures.line) (λ bytes line.
-    unread_ends (own_of c.args.output) bytes c.in-Err.status _ _ c.in-Err.ensures.causes (λ n e. line n (err_is c.in-Err.status (Text n) e)))
+    unread_ends (own_of c.args.output) (length c.args.callbacks) bytes c.in-Err.status _ _ c.in-Err.ensures.causes (λ n e. line n (err_is c.in-Err.status (Text n) e)))
 
 pub returns-in-Err-clause-whole : goal.returns-in-Err-clause-whole
 returns-in-Err-clause-whole g c = λ calm quiet.
     IfSome_then (g.R.Source.left c.args.source.now) c.in-Err.ensures.only (λ bytes only. record {
-      script = λ s t. (elim (only s t) as (λ _. (c.in-Err.status ≡ ended_as (serial_play s).full) ⊎ (c.in-Err.status ≡ Memory)) [
+      script = λ s t. (elim (only s t) as (λ _. (c.in-Err.status ≡ end_of (length c.args.callbacks) s) ⊎ (c.in-Err.status ≡ Memory)) [
         | inl e ↦ absurd (calm (c.in-Err.ensures.fault (err_is c.in-Err.status ReadFault e)))
         | inr e ↦ inr e
       ]);
       other = λ none. unread_refused c.in-Err.status c.in-Err.ensures.causes (λ e. calm (c.in-Err.ensures.fault (err_is c.in-Err.status ReadFault e)));
     })
+
+pub returns-in-Ok-clause-heard : goal.returns-in-Ok-clause-heard
+returns-in-Ok-clause-heard g c = λ played.
+    IfSome_then (g.R.Source.left c.args.source.now) c.in-Ok.ensures.only (λ bytes only s t.
+    subst (λ (x : Script). HearHistory g.B.Callback.counted g.B.Callback.told x.config (serial_play x).entries c.args.callbacks c.play_to.result.callbacks) (only s t) (c.play_to.ensures.heard played))
+
+pub returns-in-Err-clause-heard : goal.returns-in-Err-clause-heard
+returns-in-Err-clause-heard g c = λ played. absurd (unread_played c.in-Err.status c.in-Err.ensures.causes played)
+
+pub returns-in-Err-clause-kept : goal.returns-in-Err-clause-kept
+returns-in-Err-clause-kept g c = kept_same g.B.Callback.counted g.B.Callback.told c.args.callbacks

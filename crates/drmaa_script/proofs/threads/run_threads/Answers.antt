@@ -1,11 +1,10 @@
-use Rattle.std.proofs.Common.{◌≡◌, ℕ, List, Option, Result, Ok, Err, ◌⊎◌, inl, inr, refl, sym, ap, subst, ◌∙◌}
-use Rattle.std.specs.Prelude.{IfSome}
+use Rattle.std.proofs.Common.{◌≡◌, Result, Err, inl, inr, sym, ap, subst}
 use Rattle.std.proofs.lemmas.Option.{IfSome_then}
 use Rattle.script_text.specs.declared.scripts.Mode.TheVariants as mode
 use Rattle.script_text.specs.declared.scripts.Script.{Script}
 use Rattle.text_lines.specs.Lines.{IsFirstBad}
 use Rattle.drmaa_script.specs.declared.status.Status.{Status}
-use Rattle.drmaa_script.specs.declared.status.Status.TheVariants.{Text, ReadFault, Memory}
+use Rattle.drmaa_script.specs.declared.status.Status.TheVariants.{Text, ReadFault}
 use Rattle.drmaa_script.specs.Outcomes.{SpellsScript, IsScriptText}
 use Rattle.drmaa_script.specs.Runs.{RunEnds, RunIsWhole, IsRunEnd}
 use Rattle.drmaa_script.proofs.Played.{unread_refused}

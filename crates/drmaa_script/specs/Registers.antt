@@ -1,0 +1,54 @@
+-- How many callbacks a script asks for, and what callbacks hear of a run: GFD.231, notifications; the lines are our profile.
+use Rattle.std.specs.Prelude.{◌≡◌, ℕ, ◌+◌, ◌<◌, nat_lt, filter, List, length, sum_by, slice_index_or, Option, if◌then◌else◌}
+use Rattle.drmaa_types.specs.declared.changes.Notification.{Notification}
+use Rattle.notify_hub.specs.Hearing.{HasHeard}
+use Rattle.script_asks.specs.Plays.{serial_play}
+use Rattle.script_lines.specs.declared.lines.Line.{Line}
+use Rattle.script_text.specs.Follows.{lines_of, is_register}
+use Rattle.script_text.specs.declared.scripts.Script.{Script}
+use Rattle.drmaa_script.specs.declared.commands.Command.{Command}
+use Rattle.drmaa_script.specs.declared.commands.Command.TheVariants.{Serial, Threads, Table, Check}
+use Rattle.drmaa_script.specs.declared.status.Status.{Status}
+use Rattle.drmaa_script.specs.declared.status.Status.TheVariants.{Done, Text, Words, ReadFault, WriteFault, Memory, JournalFull, NotLegal}
+use Rattle.drmaa_script.specs.Statuses.{ended_as}
+
+-- how many of these lines register a callback
+abbrev pub registers_in : List Line → ℕ
+registers_in ls = length (filter is_register ls)
+
+-- how many lines of a script register a callback
+abbrev pub registers_of : Script → ℕ
+registers_of s = registers_in (lines_of s.setup) + sum_by registers_in s.clients
+
+-- how the play of a script ends where so many callbacks are there, unless memory runs out or writing fails: a script with more
+-- register lines is not played
+abbrev pub end_of : ℕ → Script → Status
+end_of callbacks s = if nat_lt callbacks (registers_of s) then Words else ended_as (serial_play s).full
+
+-- the command plays its script on one thread, where callbacks hear it
+abbrev pub PlaysAlone : Command → Type 0
+PlaysAlone Serial = Unit {0}
+PlaysAlone Threads = ⊥
+PlaysAlone Table = Unit {0}
+PlaysAlone Check = ⊥
+
+-- a script was played to its end, or to where its journal's size stopped it
+abbrev pub HasPlayed : Status → Type 0
+HasPlayed Done = Unit {0}
+HasPlayed (Text n) = ⊥
+HasPlayed Words = ⊥
+HasPlayed ReadFault = ⊥
+HasPlayed WriteFault = Unit {0}
+HasPlayed Memory = ⊥
+HasPlayed (JournalFull size) = Unit {0}
+HasPlayed (NotLegal entry given machine) = ⊥
+
+-- a callback heard these notifications, or none, and is the same one otherwise
+pub record HeardSome {B : Type 0} (counted : B → ℕ) (told : B → Option (List Notification)) (before after : B) : Type 0 where
+  pub notifications : List Notification
+  pub heard : HasHeard counted told before after notifications
+
+-- The callbacks are as many as before, in their order.
+pub record AreKept {B : Type 0} (counted : B → ℕ) (told : B → Option (List Notification)) (before after : List B) : Type 0 where
+  pub as_many : length after ≡ length before
+  pub each : (i : ℕ) (d : B) → i < length before → HeardSome counted told (slice_index_or before i d) (slice_index_or after i d)

@@ -1,0 +1,62 @@
+//! Callbacks that print what they hear.
+ghost use Rattle.std.specs.Prelude.{◌≡◌, ◌∷◌, [], None};
+ghost use Rattle.drmaa_types.specs.Readings.{counted_on};
+ghost use Rattle.notify_hub.specs.Hearing.{Hears};
+
+use drmaa_types::Notification;
+use notify_hub::{Callback, Callbacks};
+use std::alloc::AllocError;
+use text_words::spell_state;
+
+/// How many callbacks hear a run of the program.
+const COUNT: u32 = 64;
+
+/// A callback that prints each notification to standard error, as `callback K job N STATE`. It tells the number of calls alone.
+#[derive(Drop)]
+pub struct PrintedCallback {
+    rt: HostRuntime,
+    number: u32,
+    calls: u64,
+}
+
+impl Callback for PrintedCallback {
+    ghost counted = { λ c. c.calls };
+
+    ghost told = { λ _. None };
+
+    fn notify(&mut self, n: &Notification)
+        ensures counted { self.new.calls ≡ counted_on self.old.calls }
+        ensures told { Hears None (n.now ∷ []) None }
+    {
+        // Where standard error takes nothing, there is nobody to tell.
+        let _ = eprintln!(self.rt;
+            "callback {} job {} {}",
+            self.number,
+            n.job.0,
+            spell_state(n.state)
+        );
+        self.calls = self.calls.saturating_add(1);
+    }
+
+    fn calls(&self) -> u64 {
+        self.calls
+    }
+
+    fn heard(&self, n: u64) -> Option<Notification> {
+        let _ = n;
+        None
+    }
+}
+
+/// A callback for each number from 1 to 64.
+pub fn printed_callbacks(rt: HostRuntime) -> Result<Callbacks<PrintedCallback>, AllocError> {
+    let mut callbacks = Vec::new(rt.alloc());
+    for number in 1..=COUNT {
+        callbacks.push(PrintedCallback {
+            rt,
+            number,
+            calls: 0,
+        })?;
+    }
+    Ok(Callbacks::from_vec(callbacks))
+}

@@ -1,0 +1,29 @@
+use Rattle.std.proofs.Common.{◌≡◌, ◌+◌, List, ◌++◌, length, take, drop, sym, ap, ◌∙◌, arith, length-take, length-drop}
+use Rattle.drmaa_types.specs.declared.changes.Change.{Change}
+use Rattle.drmaa_model.specs.History.{now_of}
+use Rattle.notify_hub.specs.Ears.{Listening}
+use Rattle.script_play.proofs.Handing.{take-both}
+use Rattle.script_play.proofs.hearing.hand_over.Goals as goal
+
+pub overflow_add-next : goal.overflow_add-next
+overflow_add-next g c =
+    let all = (now_of c.args.player.now.ledger).plan.changes in
+    let size = ap length (c.as_slice.ensures.value ∙ c.changes_from-batch.ensures) in
+    omega (arith, size, length-take 64 (drop c.loop-next.next all), length-drop c.loop-next.next all, c.loop-next.invariant.within, c.counts-count.ensures.changes)
+
+pub loop-next-preserved : goal.loop-next-preserved
+loop-next-preserved g c =
+    let all = (now_of c.args.player.now.ledger).plan.changes in
+    let batch : c.as_slice.result.now ≡ take 64 (drop c.loop-next.next all) = c.as_slice.ensures.value ∙ c.changes_from-batch.ensures in
+    let size = ap length batch in
+    let old = c.loop-next.invariant in
+    record {
+      within = omega (arith, size, length-take 64 (drop c.loop-next.next all), length-drop c.loop-next.next all, old.within);
+      handed = ap (λ (x : Listening g.row.B.Denot). x.handed) c.hand-next.ensures.handed
+          ∙ (ap (λ (xs : List Change). xs ++ c.changes_from-batch.result) old.handed
+          ∙ (ap (λ (xs : List Change). take c.loop-next.next all ++ xs) c.changes_from-batch.ensures
+          ∙ (take-both c.loop-next.next 64 all old.within ∙ ap (λ (xs : List Change). take (c.loop-next.next + length xs) all) (sym batch))));
+      begun = ap (λ (x : Listening g.row.B.Denot). x.begun) c.hand-next.ensures.handed ∙ old.begun;
+      places = ap (λ (x : Listening g.row.B.Denot). x.places) c.hand-next.ensures.handed ∙ old.places;
+      heard = λ h. c.hand-next.ensures.heard (old.heard h);
+    }

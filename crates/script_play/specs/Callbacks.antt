@@ -1,0 +1,66 @@
+-- Callbacks that hear a play: GFD.231, notifications; from where on, and when, is our profile.
+use Rattle.std.specs.Prelude.{◌≡◌, ◌⊎◌, ℕ, ◌+◌, ◌<◌, List, [], ◌∷◌, ◌++◌, length, slice_index_or, Option, Some, None}
+use Rattle.drmaa_types.specs.declared.changes.Notification.{Notification}
+use Rattle.drmaa_model.specs.declared.configs.Config.{Config}
+use Rattle.drmaa_model.specs.declared.entries.Entry.{Entry}
+use Rattle.drmaa_model.specs.declared.replies.Reply.{Reply}
+use Rattle.drmaa_model.specs.declared.replies.Reply.TheVariants as reply
+use Rattle.drmaa_model.specs.Heard.{heard}
+use Rattle.drmaa_model.specs.History.{Ledger, now_of}
+use Rattle.notify_hub.specs.Ears.{Listening, HaveHeard}
+use Rattle.notify_hub.specs.Hearing.{HasHeard}
+use Rattle.notify_hub.specs.Places.{ArePlaced}
+
+-- the number that a reply registers
+abbrev pub number_in : Reply → Option ℕ
+number_in (reply.Callback number) = Some number
+number_in reply.Unit = None
+number_in (reply.Session session) = None
+number_in (reply.Names names) = None
+number_in (reply.Job job) = None
+number_in (reply.Array array first count) = None
+number_in (reply.Jobs jobs) = None
+number_in (reply.State state) = None
+number_in (reply.Info info) = None
+number_in (reply.Reached job) = None
+number_in (reply.Reserved reserved) = None
+number_in (reply.Reservation info) = None
+number_in (reply.Reservations numbers) = None
+number_in (reply.Infos infos) = None
+number_in (reply.ReservationInfos infos) = None
+number_in (reply.Machine info) = None
+number_in (reply.Launch launch) = None
+number_in (reply.Signal signal) = None
+number_in (reply.Refused why) = None
+
+abbrev pub number_of : Option Entry → Option ℕ
+number_of None = None
+number_of (Some e) = number_in e.reply
+
+-- The ears have all that a machine's history has for them: each number has the place of its Register entry, all changes were handed
+-- over, and each callback heard those from its place on.
+pub record AreCurrent {B : Type 0} (counted : B → ℕ) (told : B → Option (List Notification)) (ledger : Ledger) (ears : Listening B) : Type 0 where
+  pub places : ArePlaced ledger.config ledger.history ears.places
+  pub handed : ears.handed ≡ (now_of ledger).plan.changes
+  pub heard : HaveHeard counted told ears
+
+-- Between the two lists each callback heard exactly what the history has for its number, which is counted from 1.
+pub record HearHistory {B : Type 0} (counted : B → ℕ) (told : B → Option (List Notification)) (config : Config) (history : List Entry) (before after : List B) : Type 0 where
+  pub as_many : length after ≡ length before
+  pub each : (i : ℕ) (d : B) → i < length before
+      → HasHeard counted told (slice_index_or before i d) (slice_index_or after i d) (heard config history (i + 1))
+
+-- ---- one line
+
+-- at most one entry was made
+pub record GoesOn (before after : Ledger) : Type 0 where
+  pub config : after.config ≡ before.config
+  pub more : (after.history ≡ before.history) ⊎ ((e : Entry) × (after.history ≡ before.history ++ e ∷ []))
+
+-- The ears have all of a history with so many entries and changes, which then went on by at most one entry.
+pub record AreBehind {B : Type 0} (counted : B → ℕ) (told : B → Option (List Notification)) (entries changes : ℕ) (now : Ledger) (ears : Listening B) : Type 0 where
+  pub before : Ledger
+  pub current : AreCurrent counted told before ears
+  pub goes : GoesOn before now
+  pub entries_are : entries ≡ length before.history
+  pub changes_are : changes ≡ length (now_of before).plan.changes

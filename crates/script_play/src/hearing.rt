@@ -1,0 +1,38 @@
+//! Callbacks that hear a play, line by line.
+ghost use Rattle.std.specs.Prelude.{◌≡◌, take, length};
+ghost use Rattle.drmaa_model.specs.History.{now_of};
+ghost use Rattle.notify_hub.specs.Ears.{HaveHeard};
+ghost use Rattle.script_play.specs.Callbacks.{AreCurrent, AreBehind};
+
+use crate::players::{Counts, Player};
+use notify_hub::{Callback, Ears};
+
+/// Hands over the changes from this place on, where those before it were handed over.
+fn hand_over<B: Callback>(player: &Player, from: usize, ears: &mut Ears<B>)
+    requires front { ears.old.handed ≡ take from (now_of player.now.ledger).plan.changes }
+    requires count { length ears.old.handed ≡ from }
+    ensures handed { ears.new ≡ record ears.old { callbacks = ears.new.callbacks; handed = (now_of player.now.ledger).plan.changes } }
+    ensures heard { HaveHeard B.counted B.told ears.old → HaveHeard B.counted B.told ears.new }
+{
+    let count = player.counts().changes as u64;
+    let mut next = from as u64;
+    while next < count {
+        let batch = player.changes_from(next);
+        ears.hand(next, &batch);
+        next += batch.as_slice().len() as u64;
+    }
+}
+
+/// Gives the callback that the play's last line registered, if it did, its place behind the changes that there are then, and hands
+/// over what has changed since there were so many entries and changes. It takes no memory.
+pub fn hear<B: Callback>(player: &Player, before: Counts, ears: &mut Ears<B>)
+    requires { AreBehind B.counted B.told before.entries before.changes player.now.ledger ears.old }
+    ensures current { AreCurrent B.counted B.told player.now.ledger ears.new }
+    ensures begun { ears.new.begun ≡ ears.old.begun }
+{
+    let Counts { entries, changes } = before;
+    if let Some(number) = player.registered(entries) {
+        ears.place(number, player.counts().changes as u64);
+    }
+    hand_over(player, changes, ears);
+}
