@@ -1,10 +1,9 @@
 -- What a wait says of the play of its line.
-use Rattle.std.proofs.Common.{◌≡◌, ◌⊎◌, inl, inr, ℕ, ◌≤◌, Bool, true, false, List, [], ◌∷◌, ◌++◌, Option, Some, None, refl, sym, ap, ◌∙◌, subst, arith}
+use Rattle.std.proofs.Common.{◌≡◌, ◌⊎◌, inl, inr, ℕ, ◌≤◌, Bool, true, false, List, [], ◌∷◌, Option, Some, None, refl, sym, ap, ◌∙◌, subst, arith}
 use Rattle.std.specs.Prelude.{length, nat_lt, ◌==◌}
 use Rattle.drmaa_types.specs.declared.identifiers.JobId.{JobId}
 use Rattle.drmaa_types.specs.declared.identifiers.SessionId.{SessionId}
 use Rattle.drmaa_types.specs.declared.moments.Timeout.{Timeout}
-use Rattle.drmaa_types.specs.declared.refusals.Limit.{Limit}
 use Rattle.drmaa_types.specs.declared.refusals.Limit.TheVariants as limit
 use Rattle.drmaa_types.specs.declared.refusals.Refusal.{Refusal}
 use Rattle.drmaa_types.specs.declared.refusals.Refusal.TheVariants as why
@@ -16,10 +15,8 @@ use Rattle.drmaa_model.specs.Waiting.{most_waited}
 use Rattle.drmaa_types.specs.Refusals.{first_refusal}
 use Rattle.drmaa_types.specs.declared.states.WaitKind.{WaitKind}
 use Rattle.drmaa_types.specs.declared.states.WaitKind.TheVariants as reached
-use Rattle.drmaa_model.specs.declared.calls.Call.{Call}
 use Rattle.drmaa_model.specs.declared.calls.Call.TheVariants as call
 use Rattle.drmaa_model.specs.declared.configs.Config.{Config}
-use Rattle.drmaa_model.specs.declared.entries.Entry.{Entry}
 use Rattle.drmaa_model.specs.declared.faults.NoEntry.{NoEntry}
 use Rattle.drmaa_model.specs.declared.faults.NoEntry.TheVariants as fault
 use Rattle.drmaa_model.specs.declared.replies.Reply.{Reply}
@@ -32,23 +29,22 @@ use Rattle.text_codec.specs.Formats.{◌>>=◌}
 use Rattle.script_lines.specs.declared.lines.Line.{Line}
 use Rattle.script_lines.specs.declared.refs.Ref.{Ref}
 use Rattle.script_text.specs.declared.scripts.Script.{Script}
-use Rattle.script_text.specs.Follows.{is_wait}
 use Rattle.script_asks.specs.declared.given.Given.{Given}
 use Rattle.script_asks.specs.Asks.{asks, ask_wait, number_of, numbers_of}
-use Rattle.script_asks.specs.Plays.{no_attempt, IsAsked}
+use Rattle.script_asks.specs.Plays.{no_attempt}
 use Rattle.script_asks.specs.Replies.{names_after}
 use Rattle.call_history.specs.Calls.{entry_by}
-use Rattle.call_history.specs.Clients.{Seat, seen_of, mine_of, number_of as number_of_client, Makes}
+use Rattle.call_history.specs.Clients.{Seat, mine_of, number_of as number_of_client, Makes}
 use Rattle.call_history.specs.Clocks.{Dial}
 use Rattle.call_history.specs.Refused.{refusal_of}
 use Rattle.wait_calls.specs.Waited.{Climb, IsWaited, Reaches, Refuses, readings_of}
 use Rattle.wait_calls.specs.Waited.Refuses.{by_entry, by_fault}
 use Rattle.block_play.specs.declared.stops.Stopped.{Stopped}
 use Rattle.block_play.specs.declared.stops.Stopped.TheVariants as stopped
-use Rattle.block_play.specs.Played.{PlaysLine, PlayedLine, StopsLine, IsFullFor}
+use Rattle.block_play.specs.Played.{PlayedLine, StopsLine}
 use Rattle.block_play.specs.Played.PlaysLine.{asks_once}
 use Rattle.block_play.specs.Played.StopsLine.{unmade, unkept}
-use Rattle.block_play.specs.Waits.{wait_line, limit_stop, stop_of}
+use Rattle.block_play.specs.Waits.{wait_line, stop_of}
 
 -- a line that waits asks a wait
 line-asks : (s : Script) (names : List (List ℕ × Given)) (begun : ℕ) (kind : WaitKind) (session : Ref) (timeout : Timeout) (jobs : List Ref)

@@ -1,4 +1,5 @@
 mod Untimed
 mod Made
+mod Registered
 mod Awaited
 mod Stretches

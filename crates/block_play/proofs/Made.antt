@@ -1,6 +1,5 @@
 -- What one call says of the play of a line.
-use Rattle.std.proofs.Common.{◌≡◌, ℕ, ◌≤◌, List, [], ◌∷◌, ◌++◌, Option, Some, None, true, false, refl, sym, ap, ◌∙◌, subst, append-nil, arith}
-use Rattle.std.specs.Prelude.{Result, Ok, Err, IfOk, IfErr}
+use Rattle.std.proofs.Common.{◌≡◌, ℕ, ◌≤◌, List, [], ◌∷◌, Option, Some, None, false, refl, sym, ap, ◌∙◌, subst, append-nil, arith}
 use Rattle.drmaa_model.specs.declared.calls.Call.{Call}
 use Rattle.drmaa_model.specs.declared.configs.Config.{Config}
 use Rattle.drmaa_model.specs.declared.entries.Entry.{Entry}
@@ -24,7 +23,7 @@ use Rattle.call_history.specs.Clients.{Seat, seen_of, mine_of, number_of, KnowsI
 use Rattle.call_history.specs.Clocks.{Dial}
 use Rattle.block_play.specs.declared.stops.Stopped.TheVariants as stopped
 use Rattle.script_text.specs.Follows.{lines_of}
-use Rattle.block_play.specs.Played.{PlaysLine, PlayedLine, PlayedLines, StopsLine, IsFullFor}
+use Rattle.block_play.specs.Played.{PlayedLine, PlayedLines, StopsLine}
 use Rattle.block_play.specs.Played.PlaysLine.{asks_nothing, asks_once}
 use Rattle.block_play.specs.Played.StopsLine.{unmade, unkept}
 

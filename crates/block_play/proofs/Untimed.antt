@@ -2,34 +2,24 @@
 use Rattle.std.proofs.Common.{◌≡◌, ℕ, List, [], Option, Some, None, false, refl, ap, ◌∙◌}
 use Rattle.std.specs.Map.{lookup}
 use Rattle.std.specs.Str.{bytes_eq}
-use Rattle.drmaa_types.specs.declared.identifiers.JobId.{JobId}
-use Rattle.drmaa_types.specs.declared.identifiers.ReservationId.{ReservationId}
-use Rattle.drmaa_types.specs.declared.filters.JobFilter.{JobFilter}
 use Rattle.drmaa_types.specs.declared.states.Control.{Control}
 use Rattle.drmaa_types.specs.declared.states.Control.TheVariants as control
 use Rattle.drmaa_types.specs.declared.states.Exit.{Exit}
 use Rattle.drmaa_types.specs.declared.states.Exit.TheVariants as exit
 use Rattle.drmaa_types.specs.declared.states.SignalKind.{SignalKind}
-use Rattle.drmaa_types.specs.declared.states.WaitKind.{WaitKind}
-use Rattle.drmaa_types.specs.declared.states.WaitKind.TheVariants as reached
-use Rattle.drmaa_types.specs.declared.moments.Timeout.TheVariants.{Seconds}
-use Rattle.job_template.specs.declared.templates.JobTemplate.{JobTemplate}
 use Rattle.drmaa_model.specs.declared.calls.Call.{Call}
 use Rattle.drmaa_model.specs.declared.calls.Call.TheVariants as call
 use Rattle.drmaa_model.specs.declared.calls.Target.TheVariants as target
 use Rattle.drmaa_model.specs.declared.calls.Indices.{Indices}
 use Rattle.text_codec.specs.Formats.{◌>>=◌}
-use Rattle.text_dates.specs.declared.said.Said.{Said}
 use Rattle.script_lines.specs.declared.refs.Ref.{Ref}
-use Rattle.script_lines.specs.declared.refs.Ref.TheVariants.{Bound, Member, Number}
 use Rattle.script_lines.specs.declared.lines.Filter.{Filter}
 use Rattle.script_lines.specs.declared.lines.Line.{Line}
 use Rattle.script_lines.specs.declared.lines.Line.TheVariants as line
 use Rattle.script_text.specs.declared.scripts.Script.{Script}
 use Rattle.script_asks.specs.declared.given.Given.{Given}
-use Rattle.script_asks.specs.declared.given.Given.TheVariants.{One, Many}
 use Rattle.script_text.specs.Follows.{is_wait}
-use Rattle.script_asks.specs.Asks.{number_of, numbers_of, number_if, filter_of, template_of, asks, ask_close, ask_reservations, ask_all_reservations, ask_queues, ask_machines, ask_run, ask_bulk, ask_jobs, ask_all_jobs, ask_array, ask_control, ask_control_array, ask_reap, ask_reap_array, ask_state, ask_info, ask_reserve, ask_reservation, ask_cancel, ask_started, ask_start_failed, ask_exited, ask_exit_unknown, ask_signal_done, ask_signal_failed}
+use Rattle.script_asks.specs.Asks.{number_of, filter_of, template_of, asks, ask_close, ask_reservations, ask_all_reservations, ask_queues, ask_machines, ask_run, ask_bulk, ask_jobs, ask_all_jobs, ask_array, ask_control, ask_control_array, ask_reap, ask_reap_array, ask_state, ask_info, ask_reserve, ask_reservation, ask_cancel, ask_started, ask_start_failed, ask_exited, ask_exit_unknown, ask_signal_done, ask_signal_failed}
 use Rattle.call_history.specs.Timed.{begun_in}
 
 unfoldable Untimed : Option Call → Type 0

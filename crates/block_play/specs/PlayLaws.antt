@@ -1,15 +1,13 @@
 -- What lines that were played say of a block.
-use Rattle.std.specs.Prelude.{◌≡◌, ℕ, List, [], ◌∷◌, ◌++◌, take, length, Option, Some, None}
+use Rattle.std.specs.Prelude.{◌≡◌, ℕ, List, [], ◌∷◌, ◌++◌, take, length, Option}
 use Rattle.std.proofs.Common.{refl, sym, ap, subst, ◌∙◌, append_assoc, append-nil, inl, inr}
 use Rattle.drmaa_model.specs.declared.calls.Call.{Call}
 use Rattle.drmaa_model.specs.declared.entries.Entry.{Entry}
 use Rattle.text_codec.specs.Formats.{choose}
 use Rattle.script_lines.specs.declared.lines.Line.{Line}
 use Rattle.script_text.specs.declared.scripts.Script.{Script}
-use Rattle.script_text.specs.Follows.{lines_of}
 use Rattle.script_asks.specs.declared.given.Given.{Given}
-use Rattle.script_asks.specs.Asks.{asks}
-use Rattle.script_asks.specs.Plays.{no_attempt, IsAsked, Plays, PlaysPart, names_told, behind_first, names_by, setup_names}
+use Rattle.script_asks.specs.Plays.{Plays, PlaysPart, names_told, behind_first, names_by}
 use Rattle.script_asks.specs.Replies.{names_after}
 use Rattle.block_play.specs.Played.{PlaysLine, PlaysLines}
 use Rattle.block_play.specs.Played.PlaysLine.{asks_nothing, asks_once}

@@ -4,6 +4,7 @@
 mod blocks;
 mod calls;
 mod lines;
+mod registering;
 mod stops;
 mod waits;
 

@@ -1,7 +1,8 @@
 -- What each command comes to: our profile.
-use Rattle.std.specs.Prelude.{ℕ, List, Option}
+use Rattle.std.specs.Prelude.{ℕ, List, length, Option}
 use Rattle.child_spawner.specs.declared.fates.Asked.{Asked}
 use Rattle.child_spawner.specs.declared.fates.Fate.{Fate}
+use Rattle.drmaa_types.specs.declared.changes.Notification.{Notification}
 use Rattle.drmaa_script.specs.declared.commands.Command.{Command}
 use Rattle.drmaa_script.specs.declared.commands.Command.TheVariants.{Serial, Threads, Table, Check}
 use Rattle.drmaa_script.specs.declared.plays.Output.TheVariants.{Journal as JournalOutput, Listing}
@@ -9,15 +10,16 @@ use Rattle.drmaa_script.specs.declared.status.Status.{Status}
 use Rattle.drmaa_script.specs.Outcomes.{PlayEnds, CheckEnds, PlayIsWhole, CheckIsWhole, WritesPlay, journal_of, listing_of}
 use Rattle.drmaa_script.specs.Runs.{RunEnds, RunIsWhole, LeavesClocks}
 
-abbrev pub Ends : {C : Type 0} → (C → Option (List ℕ)) → Command → ℕ → List ℕ → Option (List ℕ) → Option (List ℕ) → Option (List Asked) → Option (List Asked) → (ℕ → Fate) → List C → Status → Type 0
-Ends given Serial callbacks bytes old new asked asked_after fate clocks status = PlayEnds journal_of callbacks bytes status old new
-Ends given Threads callbacks bytes old new asked asked_after fate clocks status = RunEnds given bytes old new asked asked_after fate clocks status
-Ends given Table callbacks bytes old new asked asked_after fate clocks status = PlayEnds listing_of callbacks bytes status old new
-Ends given Check callbacks bytes old new asked asked_after fate clocks status = CheckEnds bytes status old new
+-- what each command comes to, by its bytes, the sink, the spawner, the clocks, and the callbacks before and then
+abbrev pub Ends : {B C : Type 0} → (B → ℕ) → (B → Option (List Notification)) → (C → Option (List ℕ)) → Command → List ℕ → Option (List ℕ) → Option (List ℕ) → Option (List Asked) → Option (List Asked) → (ℕ → Fate) → List C → List B → List B → Status → Type 0
+Ends counted told given Serial bytes old new asked asked_after fate clocks callbacks callbacks_after status = PlayEnds journal_of (length callbacks) bytes status old new
+Ends counted told given Threads bytes old new asked asked_after fate clocks callbacks callbacks_after status = RunEnds counted told given bytes old new asked asked_after fate clocks callbacks callbacks_after status
+Ends counted told given Table bytes old new asked asked_after fate clocks callbacks callbacks_after status = PlayEnds listing_of (length callbacks) bytes status old new
+Ends counted told given Check bytes old new asked asked_after fate clocks callbacks callbacks_after status = CheckEnds bytes status old new
 
 abbrev pub IsWhole : Command → ℕ → List ℕ → Status → Type 0
 IsWhole Serial callbacks = PlayIsWhole callbacks
-IsWhole Threads callbacks = RunIsWhole
+IsWhole Threads callbacks = RunIsWhole callbacks
 IsWhole Table callbacks = PlayIsWhole callbacks
 IsWhole Check callbacks = CheckIsWhole
 

@@ -12,11 +12,11 @@ use Rattle.drmaa_script.specs.declared.status.Status.{Status}
 use Rattle.drmaa_script.specs.declared.status.Status.TheVariants.{Done, Text, Words, ReadFault, WriteFault, Memory, JournalFull, NotLegal}
 use Rattle.drmaa_script.specs.Statuses.{ended_as}
 
--- how many of these lines register a callback
+-- How many of these lines are `register` lines. Of those that a play serves, the first 64 alone give a number.
 abbrev pub registers_in : List Line → ℕ
 registers_in ls = length (filter is_register ls)
 
--- how many lines of a script register a callback
+-- how many `register` lines a script has
 abbrev pub registers_of : Script → ℕ
 registers_of s = registers_in (lines_of s.setup) + sum_by registers_in s.clients
 
@@ -43,12 +43,13 @@ HasPlayed Memory = ⊥
 HasPlayed (JournalFull size) = Unit {0}
 HasPlayed (NotLegal entry given machine) = ⊥
 
--- a callback heard these notifications, or none, and is the same one otherwise
+-- By what `counted` and `told` say of a callback before and after, and by nothing else, it heard these notifications, or none.
 pub record HeardSome {B : Type 0} (counted : B → ℕ) (told : B → Option (List Notification)) (before after : B) : Type 0 where
   pub notifications : List Notification
   pub heard : HasHeard counted told before after notifications
 
--- The callbacks are as many as before, in their order.
+-- There are as many callbacks as before. What `counted` and `told` say of the one at each place is as where the one that was
+-- there before heard some notifications, or none: that it is the same one is not said.
 pub record AreKept {B : Type 0} (counted : B → ℕ) (told : B → Option (List Notification)) (before after : List B) : Type 0 where
   pub as_many : length after ≡ length before
   pub each : (i : ℕ) (d : B) → i < length before → HeardSome counted told (slice_index_or before i d) (slice_index_or after i d)

@@ -3,7 +3,7 @@ ghost use Rattle.std.specs.Prelude.{◌≡◌, ◌≢◌, ◌⊎◌, ℕ, [], le
 ghost use Rattle.std.specs.Io.KnownBytes.{IsAtEnd};
 ghost use Rattle.drmaa_types.specs.Counts.{Rose};
 ghost use Rattle.script_asks.specs.Plays.{serial_play};
-ghost use Rattle.script_play.specs.Callbacks.{HearHistory};
+ghost use Rattle.script_play.specs.Callbacks.{HearHistory, HearFront};
 ghost use Rattle.script_text.specs.declared.scripts.Mode.TheVariants as mode;
 ghost use Rattle.script_text.specs.declared.scripts.Script.{Script};
 ghost use Rattle.drmaa_script.specs.Commands.{words_of, word_of, NamesNone};
@@ -70,7 +70,7 @@ fn run_command<
     W: Sink,
     K: Clocks,
     S: Spawner + Send,
-    B: Callback,
+    B: Callback + Send,
 >(
     rt: &E,
     alloc: Global,
@@ -82,8 +82,8 @@ fn run_command<
     bell: &Bell,
     callbacks: Callbacks<B>,
 ) -> Outcome<K::One, B>
-    ensures ends { IfSome (R.left source.old) (λ bytes. Ends K.One.given command (length callbacks) bytes (W.written sink.old) (W.written sink.new)
-        (S.asked spawner.old) (S.asked spawner.new) (S.fate spawner.new) result.clocks result.status) }
+    ensures ends { IfSome (R.left source.old) (λ bytes. Ends B.counted B.told K.One.given command bytes (W.written sink.old) (W.written sink.new)
+        (S.asked spawner.old) (S.asked spawner.new) (S.fate spawner.new) result.clocks callbacks result.callbacks result.status) }
     ensures words { result.status ≡ Status.Words → IsAtEnd (R.left source.new) }
     ensures read_whole { HasRead result.status → IsAtEnd (R.left source.new) }
     ensures read_out { (line : ℕ) → result.status ≡ Status.Text line → IsReadOut (limit_of command) (R.left source.old) (R.left source.new) }
@@ -100,9 +100,11 @@ fn run_command<
     ensures fates { S.fate spawner.new ≡ S.fate spawner.old }
     ensures heard { PlaysAlone command → HasPlayed result.status → IfSome (R.left source.old) (λ bytes. (script : Script) → IsScriptText mode.Serial bytes script
         → HearHistory B.counted B.told script.config (serial_play script).entries callbacks result.callbacks) }
+    ensures heard_front { PlaysAlone command → result.status ≡ Status.Memory → IfSome (R.left source.old) (λ bytes. (script : Script) → IsScriptText mode.Serial bytes script
+        → HearFront B.counted B.told script.config (serial_play script).entries callbacks result.callbacks) }
     ensures kept { AreKept B.counted B.told callbacks result.callbacks }
     ensures unheard { IsUnstarted result.status → result.callbacks ≡ callbacks }
-    ensures deaf { (PlaysAlone command → ⊥) → result.callbacks ≡ callbacks }
+    ensures deaf { command ≡ Command.Check → result.callbacks ≡ callbacks }
 {
     match command {
         Command::Serial => without_clocks(
@@ -130,8 +132,8 @@ fn run_command<
 /// journal. Where the play stops for the journal's size, all three write the journal of the entries made. `check` reads a journal and
 /// writes how many entries it has, where it is legal. With `threads` it may wait for good.
 ///
-/// In a play on one thread, the nth callback hears what follows the nth `register` line. A script with more such lines than there are
-/// callbacks is not played: the status is Words.
+/// A callback hears each change of a job's state behind the `register` line that is answered its number: the nth callback behind the
+/// nth such line, for the first 64. A script with more such lines than there are callbacks is not played: the status is Words.
 ///
 /// The clauses speak of the bytes that the source had left and that the sink was given, of the readings that the clocks gave, of
 /// what was asked of the spawner, and of what the callbacks heard, where these are told.
@@ -141,7 +143,7 @@ pub fn run<
     W: Sink,
     K: Clocks,
     S: Spawner + Send,
-    B: Callback,
+    B: Callback + Send,
 >(
     rt: &E,
     alloc: Global,
@@ -155,8 +157,8 @@ pub fn run<
 ) -> Outcome<K::One, B>
     // What each status says of the bytes that were read, and what was written then.
     ensures ends { (command : Command) → words.now ≡ words_of command
-        → IfSome (R.left source.old) (λ bytes. Ends K.One.given command (length callbacks) bytes (W.written sink.old) (W.written sink.new)
-        (S.asked spawner.old) (S.asked spawner.new) (S.fate spawner.new) result.clocks result.status) }
+        → IfSome (R.left source.old) (λ bytes. Ends B.counted B.told K.One.given command bytes (W.written sink.old) (W.written sink.new)
+        (S.asked spawner.old) (S.asked spawner.new) (S.fate spawner.new) result.clocks callbacks result.callbacks result.status) }
     ensures read_whole { HasRead result.status → IsAtEnd (R.left source.new) }
     ensures read_out { (command : Command) (line : ℕ) → words.now ≡ words_of command → result.status ≡ Status.Text line
         → IsReadOut (limit_of command) (R.left source.old) (R.left source.new) }
@@ -188,14 +190,18 @@ pub fn run<
     ensures unstarted { IsUnstarted result.status → spawner.new ≡ spawner.old }
     ensures fates { S.fate spawner.new ≡ S.fate spawner.old }
 
-    // Each callback heard, of a play on one thread, what its history has for its number, and nothing else. At each status they come
-    // back in their order. They heard nothing where no script was played, and nothing of a run that is not on one thread.
+    // Each callback heard, of a play on one thread, what its history has for its number, and nothing else; where memory ran out, what a
+    // beginning of that history has, the same one for all. Of a run in threads `ends` says what was heard. At each status as
+    // many come back, each with more heard or not, and as they were where words, reading or text stopped it.
     ensures heard { (command : Command) → words.now ≡ words_of command → PlaysAlone command → HasPlayed result.status
         → IfSome (R.left source.old) (λ bytes. (script : Script) → IsScriptText mode.Serial bytes script
         → HearHistory B.counted B.told script.config (serial_play script).entries callbacks result.callbacks) }
+    ensures heard_front { (command : Command) → words.now ≡ words_of command → PlaysAlone command → result.status ≡ Status.Memory
+        → IfSome (R.left source.old) (λ bytes. (script : Script) → IsScriptText mode.Serial bytes script
+        → HearFront B.counted B.told script.config (serial_play script).entries callbacks result.callbacks) }
     ensures kept { AreKept B.counted B.told callbacks result.callbacks }
     ensures unheard { IsUnstarted result.status → result.callbacks ≡ callbacks }
-    ensures deaf { ((command : Command) → words.now ≡ words_of command → PlaysAlone command → ⊥) → result.callbacks ≡ callbacks }
+    ensures deaf { words.now ≡ words_of Command.Check → result.callbacks ≡ callbacks }
 {
     match command_of(words) {
         Some(command) => run_command(

@@ -7,7 +7,8 @@ use std::alloc::Global;
 use thread_play::ClockList;
 
 /// What a run leaves: how it ended, the callbacks that were handed in, in their order, and the clocks of the callers of a script that
-/// was played in threads, in the order of their numbers: of the setup block, of the clients' blocks, of the launcher and of the reaper.
+/// was played in threads, in the order of their numbers: of the setup block, of the clients' blocks, of the launcher, of the
+/// reaper and of the hub.
 #[derive(Drop)]
 pub struct Outcome<C, B> {
     pub status: Status,

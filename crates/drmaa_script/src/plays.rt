@@ -1,5 +1,5 @@
 //! The commands that play a script.
-ghost use Rattle.std.specs.Prelude.{◌≡◌, ◌≤◌, ◌⊎◌, ℕ, length, IfSome, IfOk, OnOk};
+ghost use Rattle.std.specs.Prelude.{◌≡◌, ◌≤◌, ◌⊎◌, ℕ, length, IfSome, IfOk, OnOk, OnErr};
 ghost use Rattle.std.specs.Io.KnownBytes.{IsAtEnd};
 ghost use Rattle.drmaa_types.specs.Counts.{Rose};
 ghost use Rattle.drmaa_model.specs.History.{now_of};
@@ -7,7 +7,7 @@ ghost use Rattle.drmaa_model.specs.Infos.{infos};
 ghost use Rattle.monitor_session.specs.Listings.{listing_text};
 ghost use Rattle.notify_hub.specs.Ears.{HaveHeard, silent};
 ghost use Rattle.script_asks.specs.Plays.{serial_play};
-ghost use Rattle.script_play.specs.Callbacks.{AreCurrent, HearHistory};
+ghost use Rattle.script_play.specs.Callbacks.{AreCurrent, HearHistory, HaveFront, HearFront};
 ghost use Rattle.script_text.specs.declared.scripts.Mode.TheVariants as mode;
 ghost use Rattle.script_text.specs.declared.scripts.Script.{Script};
 ghost use Rattle.drmaa_script.specs.Outcomes.{IsSpelled, IsScriptText, IsReadOut, IsWritten, HasJournal, WritesPlay, PlayEnds, PlayIsWhole, PlayedEnds, own_of, journal_of, play_text};
@@ -122,6 +122,7 @@ fn played_text<B: Callback>(
     ensures full { IfOk result (λ text. text.full ≡ (serial_play script.now).full) }
     ensures writable { HasJournal output (serial_play script.now).full → OnOk result (IsWritten script.now) }
     ensures current { OnOk result (AreCurrent B.counted B.told (record { config = script.now.config; history = (serial_play script.now).entries }) ears.new) }
+    ensures front { OnErr result (HaveFront B.counted B.told script.now.config (serial_play script.now).entries ears.new) }
     ensures begun { ears.new.begun ≡ ears.old.begun }
     ensures heard { HaveHeard B.counted B.told ears.new }
 {
@@ -162,6 +163,7 @@ fn write_play<B: Callback, W: Sink>(
     ensures begins { IsUnstarted result → ⊥ }
     ensures writable { WritesPlay output result → IsWritten script.now }
     ensures current { HasPlayed result → AreCurrent B.counted B.told (record { config = script.now.config; history = (serial_play script.now).entries }) ears.new }
+    ensures front { result ≡ Status.Memory → HaveFront B.counted B.told script.now.config (serial_play script.now).entries ears.new }
     ensures begun { ears.new.begun ≡ ears.old.begun }
     ensures heard { HaveHeard B.counted B.told ears.new }
 {
@@ -191,6 +193,7 @@ fn play_to<B: Callback, W: Sink>(
         → (result.status ≡ end_of (length callbacks) script.now) ⊎ (result.status ≡ Status.Memory) }
     ensures writable { WritesPlay output result.status → IsWritten script.now }
     ensures heard { HasPlayed result.status → HearHistory B.counted B.told script.now.config (serial_play script.now).entries callbacks result.callbacks }
+    ensures heard_front { result.status ≡ Status.Memory → HearFront B.counted B.told script.now.config (serial_play script.now).entries callbacks result.callbacks }
     ensures kept { AreKept B.counted B.told callbacks result.callbacks }
     ensures unheard { IsUnstarted result.status → result.callbacks ≡ callbacks }
 {
@@ -237,6 +240,8 @@ pub(crate) fn run_play<B: Callback, R: Source, W: Sink>(
     ensures writable { WritesPlay output result.status → IfSome (R.left source.old) (λ bytes. (script : Script) → IsScriptText mode.Serial bytes script → IsWritten script) }
     ensures heard { HasPlayed result.status → IfSome (R.left source.old) (λ bytes. (script : Script) → IsScriptText mode.Serial bytes script
         → HearHistory B.counted B.told script.config (serial_play script).entries callbacks result.callbacks) }
+    ensures heard_front { result.status ≡ Status.Memory → IfSome (R.left source.old) (λ bytes. (script : Script) → IsScriptText mode.Serial bytes script
+        → HearFront B.counted B.told script.config (serial_play script).entries callbacks result.callbacks) }
     ensures kept { AreKept B.counted B.told callbacks result.callbacks }
     ensures unheard { IsUnstarted result.status → result.callbacks ≡ callbacks }
 {

@@ -1,5 +1,5 @@
 //! Callbacks that print what they hear.
-ghost use Rattle.std.specs.Prelude.{◌≡◌, ◌∷◌, [], None};
+ghost use Rattle.std.specs.Prelude.{◌≡◌, ℕ, ◌+◌, ◌∷◌, [], All, IfOk, IfSome, None, length, slice_get};
 ghost use Rattle.drmaa_types.specs.Readings.{counted_on};
 ghost use Rattle.notify_hub.specs.Hearing.{Hears};
 
@@ -48,8 +48,12 @@ impl Callback for PrintedCallback {
     }
 }
 
-/// A callback for each number from 1 to 64.
-pub fn printed_callbacks(rt: HostRuntime) -> Result<Callbacks<PrintedCallback>, AllocError> {
+/// The callbacks of the numbers from 1 to 64, in this order, none of which was called yet.
+pub fn printed_callbacks(rt: HostRuntime) -> Result<Callbacks<PrintedCallback>, AllocError>
+    ensures count { IfOk result (λ callbacks. length callbacks ≡ 64) }
+    ensures numbers { IfOk result (λ callbacks. (k : ℕ) → IfSome (slice_get callbacks k) (λ callback. callback.number ≡ k + 1)) }
+    ensures calls { IfOk result (λ callbacks. All (λ callback. callback.calls ≡ 0) callbacks) }
+{
     let mut callbacks = Vec::new(rt.alloc());
     for number in 1..=COUNT {
         callbacks.push(PrintedCallback {

@@ -4,13 +4,7 @@ ghost use Rattle.script_text.specs.Follows as follows;
 ghost use Rattle.drmaa_script.specs.Registers.{registers_in, registers_of};
 
 use script_lines::Line;
-use script_text::Script;
-
-fn is_register(line: &Line) -> bool
-    ensures { result ≡ follows.is_register line.now }
-{
-    matches!(line, Line::Register)
-}
+use script_text::{Script, is_register};
 
 /// How many of so many callbacks are left behind these lines, each of which may register one; None where they are too few.
 fn left_behind(callbacks: usize, lines: &[Line]) -> Option<usize>

@@ -15,7 +15,7 @@ pub enum Status {
     Text {
         line: u64,
     },
-    /// The words are no command.
+    /// The words are no command, or a script has more `register` lines than there are callbacks.
     Words,
     /// A read of the source failed.
     ReadFault,

@@ -16,6 +16,7 @@ use std::test::Fail;
 use std::thread::Threads;
 use std::time::Clock as Pause;
 
+mod beside;
 mod flags;
 mod heard;
 mod held;
@@ -455,7 +456,7 @@ fn clients_in_threads_leave_a_legal_journal(rt: HostRuntime) -> Result<(), Fail>
         starts,
         journal,
     } = night(&rt, rt.alloc())?;
-    assert_eq!(rt; (status, clocks, starts), (0, 5, 2));
+    assert_eq!(rt; (status, clocks, starts), (0, 6, 2));
     assert_eq!(rt; times(journal.as_slice(), "= info {"), 2);
     assert_eq!(rt; times(journal.as_slice(), " state DONE "), 1);
     assert_eq!(rt; times(journal.as_slice(), "note startFailed"), 1);

@@ -1,9 +1,13 @@
 //! The command that plays a script in threads.
-ghost use Rattle.std.specs.Prelude.{◌≡◌, ◌≢◌, ◌⊎◌, ℕ, [], IfSome, IfOk};
+ghost use Rattle.std.specs.Prelude.{◌≡◌, ◌<◌, ◌≤◌, ℕ, [], length, None, IfSome, IfOk};
 ghost use Rattle.std.specs.Io.KnownBytes.{IsAtEnd};
 ghost use Rattle.drmaa_types.specs.Counts.{Rose};
+ghost use Rattle.notify_hub.specs.Ears.{HaveHeard};
+ghost use Rattle.script_play.specs.Callbacks.{HearHistory};
 ghost use Rattle.script_text.specs.declared.scripts.Mode.TheVariants as mode;
+ghost use Rattle.thread_play.specs.Hubs.{HearRun};
 ghost use Rattle.drmaa_script.specs.Outcomes.{IsSpelled, IsReadOut};
+ghost use Rattle.drmaa_script.specs.Registers.{registers_of, AreKept};
 ghost use Rattle.drmaa_script.specs.Runs.{RunEnds, RunIsWhole, LeavesClocks, IsRunEnd};
 ghost use Rattle.drmaa_script.specs.Running.{IsTextOfRun, RanEnds};
 ghost use Rattle.drmaa_script.specs.Statuses.{IsQuiet, HasRead, HasWritten, IsUnstarted};
@@ -11,13 +15,14 @@ ghost use Rattle.drmaa_script.specs.Statuses.{IsQuiet, HasRead, HasWritten, IsUn
 use crate::inputs::read_script;
 use crate::outcomes::{Ended, Outcome, without_clocks};
 use crate::plays::ended_as;
+use crate::registers::are_enough;
 use crate::status::Status;
 use byte_streams::{Sink, Source, write_all};
 use call_history::Bell;
 use child_spawner::Spawner;
 use drmaa_types::{Bytes, Clocks};
 use journal_text::journal_bytes;
-use notify_hub::{Callback, Callbacks};
+use notify_hub::{Callback, Callbacks, Hub};
 use script_text::{Mode, Script};
 use std::alloc::{AllocError, Global};
 use std::sync::Wait;
@@ -34,25 +39,30 @@ struct RunText<C> {
     clocks: ClockList<C>,
 }
 
-/// Plays a script in threads, and gives its journal.
-fn run_text<E: Threads + Wait + Pause + Sync, K: Clocks, S: Spawner + Send>(
+/// Plays a script in threads, which the hub's callbacks hear, and gives its journal.
+fn run_text<E: Threads + Wait + Pause + Sync, K: Clocks, S: Spawner + Send, B: Callback + Send>(
     rt: &E,
     alloc: Global,
     script: &Script,
     clocks: &K,
     spawner: &mut S,
     bell: &Bell,
+    hub: &mut Hub<B>,
 ) -> Result<RunText<K::One>, AllocError>
-    requires { IsSpelled mode.Threads script.now }
+    requires spelled { IsSpelled mode.Threads script.now }
+    requires new { hub.old.note ≡ None }
+    ensures text { IfOk result (λ text. IsTextOfRun K.One.given script.now text.bytes (S.asked spawner.old) (S.asked spawner.new) (S.fate spawner.new) text.clocks text.full
+        (λ history. HearRun script.now.config history hub.new)) }
     ensures fates { S.fate spawner.new ≡ S.fate spawner.old }
-    ensures text { IfOk result (λ text. IsTextOfRun K.One.given script.now text.bytes (S.asked spawner.old) (S.asked spawner.new) (S.fate spawner.new) text.clocks text.full) }
+    ensures begun { hub.new.ears.begun ≡ hub.old.ears.begun }
+    ensures heard { HaveHeard B.counted B.told hub.old.ears → HaveHeard B.counted B.told hub.new.ears }
 {
     a_run_is_printable::<K>();
     let Run {
         machine,
         full,
         clocks,
-    } = play_threads(rt, alloc, script, clocks, spawner, bell)?;
+    } = play_threads(rt, alloc, script, clocks, spawner, bell, hub)?;
     let bytes = journal_bytes(alloc, machine.config(), machine.entries())?;
     Ok(RunText {
         bytes,
@@ -61,8 +71,76 @@ fn run_text<E: Threads + Wait + Pause + Sync, K: Clocks, S: Spawner + Send>(
     })
 }
 
-/// Plays a script in threads, and writes its journal.
-fn write_run<E: Threads + Wait + Pause + Sync, W: Sink, K: Clocks, S: Spawner + Send, B: Callback>(
+/// How a run ended, and the clocks that it leaves.
+#[derive(Drop)]
+struct Ran<C> {
+    status: Status,
+    clocks: ClockList<C>,
+}
+
+/// Plays a script in threads, which the hub's callbacks hear, and writes its journal.
+fn write_run<
+    E: Threads + Wait + Pause + Sync,
+    W: Sink,
+    K: Clocks,
+    S: Spawner + Send,
+    B: Callback + Send,
+>(
+    rt: &E,
+    alloc: Global,
+    script: &Script,
+    sink: &mut W,
+    clocks: &K,
+    spawner: &mut S,
+    bell: &Bell,
+    hub: &mut Hub<B>,
+) -> Ran<K::One>
+    requires spelled { IsSpelled mode.Threads script.now }
+    requires new { hub.old.note ≡ None }
+    requires enough { registers_of script.now ≤ length hub.old.ears.begun }
+    ensures ends { RanEnds K.One.given script.now (length hub.old.ears.begun) (λ history. HearRun script.now.config history hub.new) (W.written sink.old) (W.written sink.new)
+        (S.asked spawner.old) (S.asked spawner.new) (S.fate spawner.new) result.clocks result.status }
+    ensures finished { HasWritten result.status → W.finished sink.new }
+    ensures fault { result.status ≡ Status.WriteFault → Rose (W.faults sink.old) (W.faults sink.new) }
+    ensures untouched { IsQuiet result.status → sink.new ≡ sink.old }
+    ensures whole { (Rose (W.faults sink.old) (W.faults sink.new) → ⊥) → IsRunEnd result.status }
+    ensures clocks { (LeavesClocks result.status → ⊥) → result.clocks ≡ [] }
+    ensures begins { IsUnstarted result.status → ⊥ }
+    ensures fates { S.fate spawner.new ≡ S.fate spawner.old }
+    ensures begun { hub.new.ears.begun ≡ hub.old.ears.begun }
+    ensures heard { HaveHeard B.counted B.told hub.old.ears → HaveHeard B.counted B.told hub.new.ears }
+{
+    let Ok(text) = run_text(rt, alloc, script, clocks, spawner, bell, hub) else {
+        return Ran {
+            status: Status::Memory,
+            clocks: ClockList::new(alloc),
+        };
+    };
+    let RunText {
+        bytes,
+        full,
+        clocks,
+    } = text;
+    match write_all(sink, bytes.as_slice()) {
+        Ok(()) => Ran {
+            status: ended_as(full),
+            clocks,
+        },
+        Err(_) => Ran {
+            status: Status::WriteFault,
+            clocks: ClockList::new(alloc),
+        },
+    }
+}
+
+/// Plays a script in threads to these callbacks, if there are enough, and writes its journal.
+fn run_to<
+    E: Threads + Wait + Pause + Sync,
+    W: Sink,
+    K: Clocks,
+    S: Spawner + Send,
+    B: Callback + Send,
+>(
     rt: &E,
     alloc: Global,
     script: &Script,
@@ -73,55 +151,58 @@ fn write_run<E: Threads + Wait + Pause + Sync, W: Sink, K: Clocks, S: Spawner + 
     callbacks: Callbacks<B>,
 ) -> Outcome<K::One, B>
     requires { IsSpelled mode.Threads script.now }
-    ensures ends { RanEnds K.One.given script.now (W.written sink.old) (W.written sink.new)
-        (S.asked spawner.old) (S.asked spawner.new) (S.fate spawner.new) result.clocks result.status }
+    ensures ends { RanEnds K.One.given script.now (length callbacks) (λ history. HearHistory B.counted B.told script.now.config history callbacks result.callbacks)
+        (W.written sink.old) (W.written sink.new) (S.asked spawner.old) (S.asked spawner.new) (S.fate spawner.new) result.clocks result.status }
     ensures finished { HasWritten result.status → W.finished sink.new }
     ensures fault { result.status ≡ Status.WriteFault → Rose (W.faults sink.old) (W.faults sink.new) }
     ensures untouched { IsQuiet result.status → sink.new ≡ sink.old }
-    ensures whole { (Rose (W.faults sink.old) (W.faults sink.new) → ⊥) → IsRunEnd result.status }
+    ensures enough { registers_of script.now ≤ length callbacks → (Rose (W.faults sink.old) (W.faults sink.new) → ⊥) → IsRunEnd result.status }
+    ensures few { length callbacks < registers_of script.now → result.status ≡ Status.Words }
     ensures clocks { (LeavesClocks result.status → ⊥) → result.clocks ≡ [] }
     ensures unstarted { IsUnstarted result.status → spawner.new ≡ spawner.old }
     ensures fates { S.fate spawner.new ≡ S.fate spawner.old }
-    ensures callbacks { result.callbacks ≡ callbacks }
+    ensures kept { AreKept B.counted B.told callbacks result.callbacks }
+    ensures unheard { IsUnstarted result.status → result.callbacks ≡ callbacks }
 {
-    let Ok(text) = run_text(rt, alloc, script, clocks, spawner, bell) else {
+    if !are_enough(script, callbacks.as_slice().len()) {
         return without_clocks(
             alloc,
             Ended {
-                status: Status::Memory,
+                status: Status::Words,
                 callbacks,
             },
         );
+    }
+    let mut hub = match Hub::new(alloc, callbacks) {
+        Ok(hub) => hub,
+        Err(callbacks) => {
+            return without_clocks(
+                alloc,
+                Ended {
+                    status: Status::Memory,
+                    callbacks,
+                },
+            );
+        }
     };
-    let RunText {
-        bytes,
-        full,
+    let Ran { status, clocks } = write_run(
+        rt, alloc, script, sink, clocks, spawner, bell, &mut hub,
+    );
+    Outcome {
+        status,
+        callbacks: hub.take_back(),
         clocks,
-    } = text;
-    match write_all(sink, bytes.as_slice()) {
-        Ok(()) => Outcome {
-            status: ended_as(full),
-            callbacks,
-            clocks,
-        },
-        Err(_) => without_clocks(
-            alloc,
-            Ended {
-                status: Status::WriteFault,
-                callbacks,
-            },
-        ),
     }
 }
 
-/// Reads a script, plays it in threads, and writes its journal.
+/// Reads a script, plays it in threads, which the callbacks hear, and writes its journal.
 pub fn run_threads<
     E: Threads + Wait + Pause + Sync,
     R: Source,
     W: Sink,
     K: Clocks,
     S: Spawner + Send,
-    B: Callback,
+    B: Callback + Send,
 >(
     rt: &E,
     alloc: Global,
@@ -132,9 +213,9 @@ pub fn run_threads<
     bell: &Bell,
     callbacks: Callbacks<B>,
 ) -> Outcome<K::One, B>
-    ensures ends { IfSome (R.left source.old) (λ bytes. RunEnds K.One.given bytes (W.written sink.old) (W.written sink.new)
-        (S.asked spawner.old) (S.asked spawner.new) (S.fate spawner.new) result.clocks result.status) }
-    ensures words { result.status ≢ Status.Words }
+    ensures ends { IfSome (R.left source.old) (λ bytes. RunEnds B.counted B.told K.One.given bytes (W.written sink.old) (W.written sink.new)
+        (S.asked spawner.old) (S.asked spawner.new) (S.fate spawner.new) result.clocks callbacks result.callbacks result.status) }
+    ensures words { result.status ≡ Status.Words → IsAtEnd (R.left source.new) }
     ensures read_whole { HasRead result.status → IsAtEnd (R.left source.new) }
     ensures read_out { (line : ℕ) → result.status ≡ Status.Text line → IsReadOut 16_777_216 (R.left source.old) (R.left source.new) }
     ensures finished { HasWritten result.status → W.finished sink.new }
@@ -142,14 +223,15 @@ pub fn run_threads<
     ensures write_fault { result.status ≡ Status.WriteFault → Rose (W.faults sink.old) (W.faults sink.new) }
     ensures untouched { IsQuiet result.status → sink.new ≡ sink.old }
     ensures whole { (Rose (R.faults source.old) (R.faults source.new) → ⊥) → (Rose (W.faults sink.old) (W.faults sink.new) → ⊥)
-        → IfSome (R.left source.old) (λ bytes. RunIsWhole bytes result.status) }
+        → IfSome (R.left source.old) (λ bytes. RunIsWhole (length callbacks) bytes result.status) }
     ensures clocks { (LeavesClocks result.status → ⊥) → result.clocks ≡ [] }
     ensures unstarted { IsUnstarted result.status → spawner.new ≡ spawner.old }
     ensures fates { S.fate spawner.new ≡ S.fate spawner.old }
-    ensures callbacks { result.callbacks ≡ callbacks }
+    ensures kept { AreKept B.counted B.told callbacks result.callbacks }
+    ensures unheard { IsUnstarted result.status → result.callbacks ≡ callbacks }
 {
     match read_script(alloc, Mode::Threads, source) {
-        Ok(script) => write_run(rt, alloc, &script, sink, clocks, spawner, bell, callbacks),
+        Ok(script) => run_to(rt, alloc, &script, sink, clocks, spawner, bell, callbacks),
         Err(status) => without_clocks(alloc, Ended { status, callbacks }),
     }
 }

@@ -9,8 +9,8 @@ use Rattle.drmaa_model.specs.declared.configs.Config.{Config}
 use Rattle.drmaa_model.specs.declared.entries.Entry.{Entry}
 use Rattle.drmaa_model.specs.Consistent.{IsConsistent, IsEdge}
 use Rattle.drmaa_model.specs.History.{after_entry, replay_from, replay, IsLegalFrom, IsLegal}
-use Rattle.drmaa_model.specs.HistoryLaws.{replay_from-append, legal_from-front, legal_from-back, legal-keeps}
-use Rattle.drmaa_model.specs.StepLaws.{step-consistent, step-edges, step-entries, step-config, opening-consistent, legal-consistent, legal-entries}
+use Rattle.drmaa_model.specs.HistoryLaws.{replay_from-append, legal_from-front, legal_from-back}
+use Rattle.drmaa_model.specs.StepLaws.{step-consistent, step-edges, step-entries, opening-consistent, legal-consistent, legal-entries}
 use Rattle.drmaa_model.specs.Steps.{IsStep}
 use Rattle.drmaa_model.specs.World.{World, opening_world}
 use Rattle.turn_lock.specs.Histories.{BeginsWith}
@@ -154,14 +154,3 @@ place-count config old new entry place legal b is inside =
     subst (λ (n : ℕ). prefix_len (is_up_to n) (take 64 (drop place (changes_of config new))) ≡ min 64 (length (changes_of config old) - place)) (sym is)
     (count-batch (length old) place (changes_of config old) (changes_of config new) (changes-within config old front)
     (record { added = more.added; gained = ap (changes_of config) b.whole ∙ more.gained; later = more.later }) inside)
-
--- ---- a journal size bounds them
-
--- a history of a machine whose journal size is a number of 64 bits has no more changes than such a number tells
-pub changes-few : (config : Config) (history : List Entry) → IsLegal config history → length (changes_of config history) ≤ config.journal
-changes-few config history legal =
-    (legal-keeps config (λ (w : World). IsConsistent w × (w.config ≡ config) × (length w.plan.changes ≤ config.journal)) (opening-consistent config, refl, omega arith)
-    (λ w entry next both step.
-    let within = step.within in
-    let same = ap (λ (c : Config). c.journal) both.1 in
-    (step-consistent w entry next both.0 step, step-config w entry next both.0 step ∙ both.1, omega (arith, within, same))) history legal).2

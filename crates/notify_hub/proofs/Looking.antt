@@ -30,6 +30,7 @@ pub record SoFar (shared : Named Config) (before : Dial) (old : Seat) (now : Dia
   pub client : IsFree shared new
   pub number : number_of new ≡ number_of old
   pub more : SeesMore old new
+  pub rises : before.least ≤ now.least
   pub timed : IsTimed (mine_of old) before.given → IsTimed (mine_of new) now.given
 
 pub so-far-first : (shared : Named Config) (now : Dial) (seat : Seat) → IsFree shared seat → SoFar shared now seat now seat
@@ -37,11 +38,12 @@ so-far-first shared now seat free = record {
   client = free;
   number = refl;
   more = record { between = []; seen = sym (append-nil (seen_of seat)); others = refl; mine = refl };
+  rises = omega arith;
   timed = λ t. t;
 }
 
 pub so-far-of : (shared : Named Config) (before now : Dial) (old new : Seat) → LooksOn shared before old now new → SoFar shared before old now new
-so-far-of shared before now old new l = record { client = l.client; number = l.number; more = l.more; timed = l.timed }
+so-far-of shared before now old new l = record { client = l.client; number = l.number; more = l.more; rises = l.rises; timed = l.timed }
 
 pub looks-then : (shared : Named Config) (before now after : Dial) (old mid new : Seat) → SoFar shared before old now mid → LooksOn shared now mid after new → LooksOn shared before old after new
 looks-then shared before now after old mid new s l = record {
@@ -50,6 +52,7 @@ looks-then shared before now after old mid new s l = record {
   more = more-both old mid new s.more s.number l.more;
   own = l.own;
   legal = l.legal;
+  rises = (let first = s.rises in let then = l.rises in omega (arith, first, then));
   timed = λ t. l.timed (s.timed t);
 }
 
@@ -62,6 +65,7 @@ looks-once shared before after old new asked answer free number own legal is = r
   more = is.more;
   own = own;
   legal = legal;
+  rises = (let least = is.read.least in let rising = is.read.rising in omega (arith, least, rising));
   timed = timed-look shared.fixed before after old new asked answer is;
 }
 

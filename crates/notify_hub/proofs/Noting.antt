@@ -1,6 +1,7 @@
 -- How a hub keeps its places where what was seen goes on, and how a new number gets its place.
 use Rattle.std.proofs.Common.{◌≡◌, ℕ, ◌+◌, ◌-◌, ◌<◌, ◌≤◌, zero, suc, ◌⊎◌, inl, inr, List, [], ◌∷◌, ◌++◌, length, refl, sym, ap, ◌∙◌, subst, arith, Option, Some, None, slice_set, IfSome, append_assoc}
 use Rattle.std.specs.Prelude.{IfNone, replicate}
+use Rattle.std.proofs.lemmas.List.{length-set, length-replicate}
 use Rattle.drmaa_types.specs.declared.refusals.Refusal.{Refusal}
 use Rattle.drmaa_model.specs.declared.calls.Call.{Call}
 use Rattle.drmaa_model.specs.declared.calls.Call.TheVariants as call
@@ -59,6 +60,7 @@ module _ {B : Type 0} where
   pub follows-on : (config : Config) (old new : List Entry) (ears : Listening B) → Follows config old ears → IsLegal config new → BeginsWith new old → Follows config new ears
   follows-on config old new ears f legal b = record {
     legal = legal;
+    as_many = f.as_many;
     places = λ i place is. place-on config old new (i + 1) place b (f.places i place is);
     handed = begins-changes ears.handed (changes_of config old) (changes_of config new) f.handed (changes-begin config old new legal b);
   }
@@ -89,6 +91,7 @@ module _ {B : Type 0} where
       → Follows config seen (with_place ears n (Some place))
   follows-placed config seen ears n place low is f = record {
     legal = f.legal;
+    as_many = length-set ears.places (n - 1) (Some place) ∙ f.as_many;
     places = λ i q at. elim (set-or ears.places (n - 1) i (Some place) q at) [
       | inl e ↦
           (let same : i + 1 ≡ n = (let k = e.0 in omega (arith, k, low)) in
@@ -128,15 +131,16 @@ module _ (old mid new : Seat) (more : SeesMore old mid) (same : number_of mid �
   unregistered-both config before after why (by_entry full s most) = by_entry full (served-both before after call.Register (reply.Refused why) s) most
   unregistered-both config before after why (by_fault f is u) = by_fault f is (unserved-both config before after call.Register f u)
 
-  pub registered-both : (config : Config) (before read : Dial) (n : ℕ) (last : Seat) → IsServed before mid call.Register (reply.Callback n) read new → IsNew config (seen_of mid) n (seen_of new) → SeesMore new last
-      → IsRegistered config before old n last
-  registered-both config before read n last s new_is looked = record {
+  pub registered-both : (config : Config) (before read after : Dial) (n : ℕ) (last : Seat) → IsServed before mid call.Register (reply.Callback n) read new → IsNew config (seen_of mid) n (seen_of new) → SeesMore new last
+      → read.least ≤ after.least → IsRegistered config before old n after last
+  registered-both config before read after n last s new_is looked rises = record {
     read = read;
     seat = new;
     entry = served-both before read call.Register (reply.Callback n) s;
     number = new_is.number;
     most = new_is.most;
     looked = looked;
+    rises = rises;
   }
 
 -- a note of the client changes nothing of it
@@ -196,6 +200,7 @@ kept-silent {B} callbacks ears is = subst (λ (e : Listening B). IsKept e None 0
   counted = refl;
   follows = λ config may. record {
     legal = tt;
+    as_many = length-replicate {A = Option ℕ} 64 None;
     places = λ i place at. absurd (lacks (place_at (replicate 64 None) i) place (none-at 64 i) at);
     handed = record { rest = []; whole = refl };
   };

@@ -1,6 +1,7 @@
 -- A hub as contracts see it, and what its calls do: our profile.
 use Rattle.std.specs.Prelude.{◌≡◌, ℕ, ◌≤◌, ◌-◌, List, [], length, take, sum_by, slice_set, Option, Some, None}
 use Rattle.std.specs.Option.{option_map_or}
+use Rattle.drmaa_types.specs.declared.changes.Notification.{Notification}
 use Rattle.drmaa_types.specs.declared.refusals.Limit.TheVariants as resource
 use Rattle.drmaa_types.specs.declared.refusals.Refusal.{Refusal}
 use Rattle.drmaa_types.specs.declared.refusals.Refusal.TheVariants.{OutOfResource}
@@ -10,14 +11,15 @@ use Rattle.drmaa_model.specs.declared.entries.Entry.{Entry}
 use Rattle.drmaa_model.specs.declared.faults.NoEntry.{NoEntry}
 use Rattle.drmaa_model.specs.declared.replies.Reply.TheVariants.{Callback, Refused}
 use Rattle.drmaa_model.specs.History.{IsLegal}
+use Rattle.turn_lock.specs.Histories.{BeginsWith}
 use Rattle.turn_lock.specs.Tokens.{Named, BelongsTo, IsFree}
 use Rattle.call_history.specs.Calls.{IsServed, IsUnserved}
 use Rattle.call_history.specs.Clients.{Seat, seen_of, mine_of, number_of, KnowsItsOwn, SeesMore}
 use Rattle.call_history.specs.Clocks.{Dial}
 use Rattle.call_history.specs.Refused.{refusal_of}
 use Rattle.call_history.specs.Timed.{IsTimed}
-use Rattle.notify_hub.specs.Ears.{Listening, from_place}
-use Rattle.notify_hub.specs.Places.{registrations_of, Follows}
+use Rattle.notify_hub.specs.Ears.{Listening, HaveHeard, from_place}
+use Rattle.notify_hub.specs.Places.{registrations_of, Follows, HavePlaces}
 
 -- a hub: its ears, and the note of what its calls have seen; none before the first one
 pub record Following (B : Type 0) : Type 0 where
@@ -61,24 +63,36 @@ with_place ears n place = record ears { places = slice_set ears.places (n - 1) p
 abbrev pub calls_made : {B : Type 0} → Listening B → ℕ
 calls_made ears = sum_by (λ place. length (from_place ears.handed place)) (take (length ears.callbacks) ears.places)
 
--- The client looked, and made no entry: it has seen more, and read its clock.
+-- A stretch of calls of a hub's client, of which each Register went by the hub: the note is of what the client has seen, or of less,
+-- no callback is lost, each heard what was handed over, and the numbers that the client's entries registered have their places.
+pub record RegistersOn {B : Type 0} (counted : B → ℕ) (told : B → Option (List Notification)) (shared : Named Config) (old : Following B) (client : Seat) (new : Following B) (after : Seat) : Type 0 where
+  pub note : IsNoteOf shared new.note
+  pub known : BeginsWith (seen_of client) (noted old.note) → BeginsWith (seen_of after) (noted new.note)
+  pub begun : new.ears.begun ≡ old.ears.begun
+  pub kept : FollowsNote old.ears old.note → FollowsNote new.ears new.note
+  pub heard : HaveHeard counted told old.ears → HaveHeard counted told new.ears
+  pub placed : HavePlaces (mine_of client) old.ears.places → HavePlaces (mine_of after) new.ears.places
+
+-- The client looked, and made no entry: it has seen more, and read its clock, which does not fall.
 pub record LooksOn (shared : Named Config) (before : Dial) (old : Seat) (after : Dial) (new : Seat) : Type 0 where
   pub client : IsFree shared new
   pub number : number_of new ≡ number_of old
   pub more : SeesMore old new
   pub own : KnowsItsOwn new
   pub legal : IsLegal shared.fixed (seen_of new)
+  pub rises : before.least ≤ after.least
   pub timed : IsTimed (mine_of old) before.given → IsTimed (mine_of new) after.given
 
 -- The client made one Register entry, whose reply is this number: the number of callbacks then registered, at most 64. After
 -- that it looked, and made no entry.
-pub record IsRegistered (config : Config) (before : Dial) (old : Seat) (n : ℕ) (new : Seat) : Type 0 where
+pub record IsRegistered (config : Config) (before : Dial) (old : Seat) (n : ℕ) (after : Dial) (new : Seat) : Type 0 where
   pub read : Dial
   pub seat : Seat
   pub entry : IsServed before old Register (Callback n) read seat
   pub number : n ≡ registrations_of config (seen_of seat)
   pub most : n ≤ 64
   pub looked : SeesMore seat new
+  pub rises : read.least ≤ after.least
 
 -- Why a Register registers nothing: its one entry is refused, since 64 callbacks are registered; or there is no entry, where
 -- memory ran out or the journal would be too large.

@@ -2,6 +2,7 @@ pub mod Ears
 pub mod Handed
 pub mod Hearing
 pub mod HearingLaws
+pub mod HubLaws
 pub mod Hubs
 pub mod Kept
 pub mod PlaceLaws

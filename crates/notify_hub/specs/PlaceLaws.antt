@@ -1,18 +1,23 @@
 -- Laws of places: what stands from a place on is what a history has for its callback, and how many calls a batch makes.
-use Rattle.std.specs.Prelude.{◌≡◌, ℕ, ◌+◌, List, [], length, map, drop, take, slice_index_or, Option, Some, None, refl}
+use Rattle.std.specs.Prelude.{◌≡◌, ℕ, ◌+◌, ◌<◌, ◌≤◌, ◌^◌, List, [], length, map, drop, take, slice_index_or, Option, Some, None, refl}
 use Rattle.std.specs.Option.{option_map_or}
-use Rattle.std.proofs.Common.{sym, ap, ◌∙◌, subst}
+use Rattle.std.proofs.Common.{sym, ap, ◌∙◌, subst, arith}
 use Rattle.std.proofs.Math.Seq.{take-append_seam}
 use Rattle.drmaa_types.specs.Notifications.{notification_of}
 use Rattle.drmaa_types.specs.declared.changes.Change.{Change}
 use Rattle.drmaa_types.specs.declared.changes.Notification.{Notification}
 use Rattle.drmaa_model.specs.declared.configs.Config.{Config}
 use Rattle.drmaa_model.specs.declared.entries.Entry.{Entry}
+use Rattle.drmaa_model.specs.Consistent.{IsConsistent}
 use Rattle.drmaa_model.specs.Heard.{heard}
+use Rattle.drmaa_model.specs.History.{IsLegal}
+use Rattle.drmaa_model.specs.HistoryLaws.{legal-keeps}
+use Rattle.drmaa_model.specs.StepLaws.{step-consistent, step-config, opening-consistent}
+use Rattle.drmaa_model.specs.World.{World}
 use Rattle.turn_lock.specs.Histories.{BeginsWith}
 use Rattle.notify_hub.specs.Ears.{Listening, place_at, from_place, notifications, EachHeard, HaveHeard}
 use Rattle.notify_hub.specs.Hearing.{HasHeard}
-use Rattle.notify_hub.specs.Places.{changes_of, place_of, HaveHeardAll}
+use Rattle.notify_hub.specs.Places.{changes_of, place_of, AreCountable, HaveHeardAll}
 
 -- the changes from its place on are what a history has for a callback
 pub heard-is : (config : Config) (history : List Entry) (n : ℕ) → notifications (from_place (changes_of config history) (place_of config history n)) ≡ heard config history n
@@ -45,3 +50,18 @@ module _ {B : Type 0} {counted : B → ℕ} {told : B → Option (List Notificat
         ∙ heard-is config history (i + 1))
         (h.each i d inside);
   }
+
+-- ---- a journal size bounds them
+
+-- a history of a machine whose journal size is a number of 64 bits has no more changes than such a number tells
+changes-few : (config : Config) (history : List Entry) → IsLegal config history → length (changes_of config history) ≤ config.journal
+changes-few config history legal =
+    (legal-keeps config (λ (w : World). IsConsistent w × (w.config ≡ config) × (length w.plan.changes ≤ config.journal)) (opening-consistent config, refl, omega arith)
+    (λ w entry next both step.
+    let within = step.within in
+    let same = ap (λ (c : Config). c.journal) both.1 in
+    (step-consistent w entry next both.0 step, step-config w entry next both.0 step ∙ both.1, omega (arith, within, same))) history legal).2
+
+-- so a number of 64 bits tells how many changes there are
+pub countable : (config : Config) (history : List Entry) → IsLegal config history → config.journal < 2 ^ 64 → AreCountable config history
+countable config history legal small = (let few = changes-few config history legal in omega (arith, few, small))

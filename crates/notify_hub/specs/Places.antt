@@ -1,9 +1,12 @@
 -- Where callbacks stand in a machine's history, and which of its changes were handed over: our profile.
-use Rattle.std.specs.Prelude.{◌≡◌, ℕ, ◌+◌, ◌<◌, ◌^◌, Bool, nat_le, List, length, slice_index_or, Option, Some}
+use Rattle.std.specs.Prelude.{◌≡◌, ℕ, ◌+◌, ◌-◌, ◌<◌, ◌^◌, Bool, nat_le, List, length, slice_index_or, Option, Some, IsSome}
+use Rattle.std.specs.List.{AllByRecursion}
 use Rattle.drmaa_types.specs.declared.changes.Change.{Change}
 use Rattle.drmaa_types.specs.declared.changes.Notification.{Notification}
+use Rattle.drmaa_model.specs.declared.calls.Call.TheVariants.{Register}
 use Rattle.drmaa_model.specs.declared.configs.Config.{Config}
 use Rattle.drmaa_model.specs.declared.entries.Entry.{Entry}
+use Rattle.drmaa_model.specs.declared.replies.Reply.TheVariants.{Callback}
 use Rattle.drmaa_model.specs.Heard.{place_from, heard}
 use Rattle.drmaa_model.specs.History.{IsLegal, replay}
 use Rattle.drmaa_model.specs.World.{opening_world}
@@ -34,6 +37,7 @@ AreCountable config history = length (changes_of config history) < 2 ^ 64
 -- Each place given is that of its Register entry in this history, and the changes handed over are its first ones.
 pub record Follows {B : Type 0} (config : Config) (history : List Entry) (ears : Listening B) : Type 0 where
   pub legal : IsLegal config history
+  pub as_many : length ears.places ≡ 64
   pub places : (i place : ℕ) → place_at ears.places i ≡ Some place → place_of config history (i + 1) ≡ Some place
   pub handed : BeginsWith (changes_of config history) ears.handed
 
@@ -41,6 +45,13 @@ pub record Follows {B : Type 0} (config : Config) (history : List Entry) (ears :
 pub record ArePlaced (config : Config) (history : List Entry) (places : List (Option ℕ)) : Type 0 where
   pub as_many : length places ≡ 64
   pub each : (i : ℕ) → place_at places i ≡ place_of config history (i + 1)
+
+-- The number that an entry registers has a place, and so have those of all these entries.
+abbrev pub HasPlace : List (Option ℕ) → Entry → Type 0
+HasPlace places e = e.call ≡ Register → (n : ℕ) → e.reply ≡ Callback n → IsSome (place_at places (n - 1))
+
+abbrev pub HavePlaces : List Entry → List (Option ℕ) → Type 0
+HavePlaces entries places = AllByRecursion (HasPlace places) entries
 
 -- Between the two lists each callback, if its place is that of its Register entry or there is neither, heard exactly what
 -- this history has for it.

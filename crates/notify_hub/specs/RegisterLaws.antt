@@ -211,7 +211,12 @@ register-said w at = answer-cases at (advance w at) call.Register (Said w)
       (λ told next e. absurd (no-refusal told (w.registrations + 1) (gives-reply (reply.Callback (w.registrations + 1)) (reply.Refused told) v next e))),
     ))
 
--- an entry whose reply is a callback's number is a Register, and this is its next number
+-- an entry whose reply is a callback's number is a Register
+pub step-register-call : (w : World) (entry : Entry) (next : World) (n : ℕ) → IsStep w entry next → entry.reply ≡ reply.Callback n → entry.call ≡ call.Register
+step-register-call w entry next n step is =
+    register-of entry.call n (reply-kind w entry.at entry.call (reply.Callback n) next (step.answered ∙ ap (λ (r : Reply). gives r next) is))
+
+-- this is its next number
 pub step-registers : (w : World) (entry : Entry) (next : World) (n : ℕ) → IsStep w entry next → entry.reply ≡ reply.Callback n → Registers w n next
 step-registers w entry next n step is =
     let told : answer w entry.at entry.call ≡ gives (reply.Callback n) next = step.answered ∙ ap (λ (r : Reply). gives r next) is in

@@ -83,7 +83,8 @@ impl<B: Callback> Hub<B> {
         ensures begins { BeginsWith (seen_of client.new) (seen_of client.old) }
         ensures recalls { BeginsWith (seen_of client.new) (noted self.old.note) }
         ensures note { IsNoteAt shared.now (seen_of client.new) self.new.note }
-        ensures ok { KnowsItsOwn client.old → IfOk result (λ n. IsRegistered shared.now.fixed (dial (C.given clock.old) (C.least clock.old)) client.old n client.new) }
+        ensures ok { KnowsItsOwn client.old → IfOk result (λ n. IsRegistered shared.now.fixed (dial (C.given clock.old) (C.least clock.old)) client.old n
+            (dial (C.given clock.new) (C.least clock.new)) client.new) }
         ensures err { KnowsItsOwn client.old → IfErr result (λ why. IsUnregistered shared.now.fixed (dial (C.given clock.old) (C.least clock.old)) client.old why
             (dial (C.given clock.new) (C.least clock.new)) client.new) }
         ensures place { IfOk result (λ n. AreCountable shared.now.fixed (seen_of client.new) → self.new.ears ≡ with_place self.old.ears n (place_of shared.now.fixed (seen_of client.new) n)) }

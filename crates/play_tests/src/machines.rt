@@ -1,10 +1,11 @@
 //! A machine for tests, and the desks of its clients.
-ghost use Rattle.std.specs.Prelude.{◌≡◌, ◌≤◌, []};
+ghost use Rattle.std.specs.Prelude.{◌≡◌, ◌≤◌, [], None};
 ghost use Rattle.turn_lock.specs.Tokens.{BelongsTo, IsFree};
 ghost use Rattle.call_history.specs.Clients.{retired_of};
 
 use call_history::{Bell, Client, Config, Desk, Machine, MachineOpener, SharedMachine};
 use drmaa_types::{Moment, StepClock, Text};
+use notify_hub::{Callbacks, Hub, MemoryCallback};
 use std::alloc::Global;
 use std::process::Abort;
 
@@ -13,6 +14,7 @@ pub fn machine(rt: &impl Abort, alloc: Global, journal: u64) -> (SharedMachine, 
     requires { 1 ≤ journal × journal ≤ 4000000 }
     ensures opener { BelongsTo result.0 result.1 }
     ensures retired { retired_of result.1 ≡ [] }
+    ensures size { result.0.fixed.journal ≤ 4000000 }
 {
     let Ok(name) = String::from_str(alloc, "node1") else {
         panic!(rt; "there is memory")
@@ -40,12 +42,23 @@ pub fn desk<'a>(
     requires { IsFree shared.now client }
     ensures shared { result.shared.now ≡ shared.now }
     ensures client { IsFree shared.now result.client }
+    ensures same { result.client ≡ client }
 {
     Desk {
         shared,
         client,
         clock: StepClock::new(Moment::new(first).unwrap_or(Moment::greatest()), step),
         bell,
+    }
+}
+
+/// A hub without callbacks, which has made no call.
+pub fn hub(rt: &impl Abort, alloc: Global) -> Hub<MemoryCallback>
+    ensures { result.note ≡ None }
+{
+    match Hub::new(alloc, Callbacks::new(alloc)) {
+        Ok(hub) => hub,
+        Err(_) => panic!(rt; "there is memory"),
     }
 }
 

@@ -1,5 +1,5 @@
 -- No line of a script for threads asks what the launcher or the reaper asks.
-use Rattle.std.proofs.Common.{◌≡◌, ℕ, zero, suc, ◌&&◌, not, Bool, true, false, inl, inr, List, [], ◌∷◌, ◌++◌, take, Option, Some, None, refl, sym, ap, subst, ◌∙◌}
+use Rattle.std.proofs.Common.{◌≡◌, ℕ, zero, suc, ◌&&◌, ◌||◌, not, Bool, true, false, inl, inr, List, [], ◌∷◌, ◌++◌, take, Option, Some, None, refl, sym, ap, subst, ◌∙◌}
 use Rattle.std.specs.List.{AllByRecursion, slice_get}
 use Rattle.std.specs.Map.{lookup}
 use Rattle.std.specs.Option.{option_map_or}
@@ -32,12 +32,12 @@ use Rattle.script_journals.specs.Calls.{is_attendants, IsClientsEntry, IsBlockOf
 -- ---- the lines of blocks
 
 -- each line belongs to such a block
-AllBelong : Mode → Bool → List Line → Type 0
+unfoldable pub AllBelong : Mode → Bool → List Line → Type 0
 AllBelong m in_setup ls = AllByRecursion (λ l. belongs m in_setup l ≡ true) ls
 
-record BlocksBelong (m : Mode) (s : Script) : Type 0 where
-  setup : AllBelong m true (lines_of s.setup)
-  clients : AllByRecursion (AllBelong m false) s.clients
+pub record BlocksBelong (m : Mode) (s : Script) : Type 0 where
+  pub setup : AllBelong m true (lines_of s.setup)
+  pub clients : AllByRecursion (AllBelong m false) s.clients
 
 follow-belongs : (m : Mode) (in_setup : Bool) (s : Script) (earlier ls : List Line) → Follow m in_setup s earlier ls → AllBelong m in_setup ls
 unfolding AllBelong
@@ -63,14 +63,14 @@ no-blocks : (m : Mode) (machine : ℕ × (List ℕ × Bool)) → BlocksBelong m 
 unfolding AllBelong
 no-blocks m machine = record { setup = tt; clients = tt }
 
-spelled-belongs : (m : Mode) (lines : List (List ℕ)) (s : Script) → Spells m lines s → BlocksBelong m s
+pub spelled-belongs : (m : Mode) (lines : List (List ℕ)) (s : Script) → Spells m lines s → BlocksBelong m s
 spelled-belongs m lines s is = makes-belongs m (begun is.machine) is.parts s is.makes (no-blocks m is.machine)
 
 -- no line is one that a serial script has alone
 NoneSerial : List Line → Type 0
 NoneSerial ls = AllByRecursion (λ l. is_serial_line l ≡ false) ls
 
-is_not : (b : Bool) → not b ≡ true → b ≡ false
+pub is_not : (b : Bool) → not b ≡ true → b ≡ false
 is_not false h = refl
 is_not true h = absurd (cc)
 
@@ -78,7 +78,7 @@ none-serial : (in_setup : Bool) (ls : List Line) → AllBelong mode.Threads in_s
 unfolding AllBelong NoneSerial
 none-serial in_setup [] all = tt
 none-serial in_setup (l ∷ ls) all =
-    let plain = both (not (in_setup && is_wait l) && not (is_serial_line l)) (not (is_register l)) all.0 in
+    let plain = both (not (in_setup && is_wait l) && not (is_serial_line l)) (in_setup || not (is_register l)) all.0 in
     (is_not (is_serial_line l) (both (not (in_setup && is_wait l)) (not (is_serial_line l)) plain.0).1, none-serial in_setup ls all.1)
 
 item-belongs : (blocks : List (List Line)) (n : ℕ) (block : List Line) → AllByRecursion (AllBelong mode.Threads false) blocks → slice_get blocks n ≡ Some block → NoneSerial block

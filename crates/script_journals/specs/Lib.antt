@@ -5,3 +5,4 @@ pub mod KeptLaws
 pub mod PlayedLaws
 pub mod HistoryLaws
 pub mod ClientLaws
+pub mod RegisterLaws

@@ -1,6 +1,6 @@
 //! Each law is the contract of a function that does nothing.
-ghost use Rattle.std.specs.Prelude.{◌≡◌, ℕ, List, true};
-ghost use Rattle.std.specs.List.{AllByRecursion};
+ghost use Rattle.std.specs.Prelude.{◌≡◌, ℕ, List, Some, true};
+ghost use Rattle.std.specs.List.{AllByRecursion, slice_get};
 ghost use Rattle.drmaa_model.specs.declared.calls.Call.{Call};
 ghost use Rattle.drmaa_model.specs.declared.entries.Entry.{Entry};
 ghost use Rattle.drmaa_model.specs.declared.replies.Reply.{Reply};
@@ -17,7 +17,7 @@ ghost use Rattle.script_text.specs.declared.scripts.Script.{Script};
 ghost use Rattle.script_text.specs.Scripts.{Spells};
 ghost use Rattle.script_asks.specs.declared.given.Given.{Given};
 ghost use Rattle.script_asks.specs.Plays.{calls_of, Plays, PlaysPart, serial_play};
-ghost use Rattle.script_journals.specs.Calls.{CallMayStand, IsBlockOf, IsClientsEntry, is_attendants};
+ghost use Rattle.script_journals.specs.Calls.{CallMayStand, IsBlockOf, IsClientsEntry, IsNoRegister, is_attendants};
 
 /// What the machine answers is a reply that a journal may have.
 pub fn a_reply_may_stand()
@@ -48,6 +48,14 @@ pub fn no_client_asks_what_the_attendant_asks()
         → Spells mode.Threads lines script → IsBlockOf script block → Plays script names before block entries → AllByRecursion IsClientsEntry entries }
     ensures part { (lines : List (List ℕ)) (script : Script) (names : List (List ℕ × Given)) (before : ℕ) (block : List Line) (entries : List Entry)
         → Spells mode.Threads lines script → IsBlockOf script block → PlaysPart script names before block entries → AllByRecursion IsClientsEntry entries }
+{}
+
+/// What a client's block of a script for threads asks registers no callback.
+pub fn no_client_registers()
+    ensures whole { (lines : List (List ℕ)) (script : Script) (names : List (List ℕ × Given)) (before place : ℕ) (block : List Line) (entries : List Entry)
+        → Spells mode.Threads lines script → slice_get script.clients place ≡ Some block → Plays script names before block entries → AllByRecursion IsNoRegister entries }
+    ensures part { (lines : List (List ℕ)) (script : Script) (names : List (List ℕ × Given)) (before place : ℕ) (block : List Line) (entries : List Entry)
+        → Spells mode.Threads lines script → slice_get script.clients place ≡ Some block → PlaysPart script names before block entries → AllByRecursion IsNoRegister entries }
 {}
 
 /// Where the calls of each caller may stand in a journal, so may all calls of a history.

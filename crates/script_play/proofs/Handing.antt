@@ -36,7 +36,7 @@ use Rattle.script_play.specs.View.{View, IsNoted, playing}
 -- ---- one line makes at most one entry
 
 -- the list went on by at most one entry
-Grows : List Entry → List Entry → Type 0
+unfoldable pub Grows : List Entry → List Entry → Type 0
 Grows before after = (after ≡ before) ⊎ ((e : Entry) × (after ≡ before ++ e ∷ []))
 
 entered-grows : (p : Playing) (caller : CallerId) (l : Line) (c : Call) (r : Reply) (next : World) → Grows p.entries (entered p caller l c r next).entries
@@ -72,7 +72,7 @@ turn-grows s crew p l a_client = chosen-grows p (asks_now s p l) (λ c. after_lo
 turn-grows s crew p l the_launcher = chosen-grows p (asks_now s p l) (λ c. after_look p crew.launcher l c p) (λ c. looked-grows p crew.launcher l c p (inl refl))
 turn-grows s crew p l the_reaper = chosen-grows p (asks_now s p l) (λ c. after_look p crew.reaper l c p) (λ c. looked-grows p crew.reaper l c p (inl refl))
 
-line-grows : (s : Script) (crew : plays.Crew) (p : Playing) (l : Line) → Grows p.entries (play_line s crew p l).entries
+pub line-grows : (s : Script) (crew : plays.Crew) (p : Playing) (l : Line) → Grows p.entries (play_line s crew p l).entries
 unfolding Grows
 line-grows s crew p l =
     elim p.full as (λ o. Grows p.entries (choose o (λ size. p) (play_turn s crew p l (turn_of l))).entries) [

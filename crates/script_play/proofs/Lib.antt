@@ -1,4 +1,5 @@
 pub mod Copies
+pub mod Fronts
 pub mod Handing
 pub mod Looking
 pub mod Turns

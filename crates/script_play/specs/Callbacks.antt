@@ -50,6 +50,20 @@ pub record HearHistory {B : Type 0} (counted : B → ℕ) (told : B → Option (
   pub each : (i : ℕ) (d : B) → i < length before
       → HasHeard counted told (slice_index_or before i d) (slice_index_or after i d) (heard config history (i + 1))
 
+-- The ears have all that a beginning of this history has for them.
+pub record HaveFront {B : Type 0} (counted : B → ℕ) (told : B → Option (List Notification)) (config : Config) (history : List Entry) (ears : Listening B) : Type 0 where
+  pub front : List Entry
+  pub rest : List Entry
+  pub whole : history ≡ front ++ rest
+  pub current : AreCurrent counted told (record { config = config; history = front }) ears
+
+-- Between the two lists each callback heard exactly what a beginning of this history, the same one for all, has for its number.
+pub record HearFront {B : Type 0} (counted : B → ℕ) (told : B → Option (List Notification)) (config : Config) (history : List Entry) (before after : List B) : Type 0 where
+  pub front : List Entry
+  pub rest : List Entry
+  pub whole : history ≡ front ++ rest
+  pub heard : HearHistory counted told config front before after
+
 -- ---- one line
 
 -- at most one entry was made

@@ -1,9 +1,9 @@
 //! The play of blocks.
-ghost use Rattle.std.specs.Prelude.{◌≡◌, ◌≤◌, length, IfOk};
+ghost use Rattle.std.specs.Prelude.{◌≡◌, ◌≤◌, length, IfOk, OnErr};
 ghost use Rattle.notify_hub.specs.Ears.{HaveHeard};
 ghost use Rattle.script_text.specs.Follows.{lines_of};
 ghost use Rattle.script_asks.specs.Plays as plays;
-ghost use Rattle.script_play.specs.Callbacks.{AreCurrent};
+ghost use Rattle.script_play.specs.Callbacks.{AreCurrent, HaveFront};
 ghost use Rattle.script_play.specs.Crews.{crew_meant};
 ghost use Rattle.script_play.specs.Looks.{GoesTo};
 ghost use Rattle.script_play.specs.View.{IsNoted, playing};
@@ -30,6 +30,7 @@ fn play_lines<B: Callback>(
     requires current { AreCurrent B.counted B.told player.old.ledger ears.old }
     ensures played { IfOk result (λ _. GoesTo player.old (plays.play_lines script.now (crew_meant crew) (playing player.old) lines.now) player.new) }
     ensures current { IfOk result (λ _. AreCurrent B.counted B.told player.new.ledger ears.new) }
+    ensures front { OnErr result (HaveFront B.counted B.told player.old.ledger.config (plays.play_lines script.now (crew_meant crew) (playing player.old) lines.now).entries ears.new) }
     ensures begun { ears.new.begun ≡ ears.old.begun }
     ensures heard { HaveHeard B.counted B.told ears.new }
 {
@@ -53,6 +54,8 @@ fn play_setup<B: Callback>(
     ensures played { IfOk result (λ _. GoesTo player.old
         (plays.play_lines script.now (plays.crew_of (length script.now.clients) 0) (playing player.old) (lines_of script.now.setup)) player.new) }
     ensures current { IfOk result (λ _. AreCurrent B.counted B.told player.new.ledger ears.new) }
+    ensures front { OnErr result (HaveFront B.counted B.told player.old.ledger.config
+        (plays.play_lines script.now (plays.crew_of (length script.now.clients) 0) (playing player.old) (lines_of script.now.setup)).entries ears.new) }
     ensures begun { ears.new.begun ≡ ears.old.begun }
     ensures heard { HaveHeard B.counted B.told ears.new }
 {
@@ -78,6 +81,8 @@ fn play_client<B: Callback>(
     ensures played { IfOk result (λ _. GoesTo player.old
         (plays.play_lines script.now (crew_meant crew) (record (playing player.old) { names = names.now }) block.now) player.new) }
     ensures current { IfOk result (λ _. AreCurrent B.counted B.told player.new.ledger ears.new) }
+    ensures front { OnErr result (HaveFront B.counted B.told player.old.ledger.config
+        (plays.play_lines script.now (crew_meant crew) (record (playing player.old) { names = names.now }) block.now).entries ears.new) }
     ensures begun { ears.new.begun ≡ ears.old.begun }
     ensures heard { HaveHeard B.counted B.told ears.new }
 {
@@ -98,6 +103,7 @@ fn play_clients<B: Callback>(
     requires current { AreCurrent B.counted B.told player.old.ledger ears.old }
     ensures played { IfOk result (λ _. GoesTo player.old (plays.play_clients script.now names.now 1 (playing player.old) script.now.clients) player.new) }
     ensures current { IfOk result (λ _. AreCurrent B.counted B.told player.new.ledger ears.new) }
+    ensures front { OnErr result (HaveFront B.counted B.told player.old.ledger.config (plays.play_clients script.now names.now 1 (playing player.old) script.now.clients).entries ears.new) }
     ensures begun { ears.new.begun ≡ ears.old.begun }
     ensures heard { HaveHeard B.counted B.told ears.new }
 {
@@ -133,6 +139,9 @@ pub fn play_blocks<B: Callback>(
         (let first = plays.play_lines script.now (plays.crew_of (length script.now.clients) 0) (playing player.old) (lines_of script.now.setup) in
         plays.play_clients script.now first.names 1 first script.now.clients) player.new) }
     ensures current { IfOk result (λ _. AreCurrent B.counted B.told player.new.ledger ears.new) }
+    ensures front { OnErr result (HaveFront B.counted B.told player.old.ledger.config
+        (let first = plays.play_lines script.now (plays.crew_of (length script.now.clients) 0) (playing player.old) (lines_of script.now.setup) in
+        plays.play_clients script.now first.names 1 first script.now.clients).entries ears.new) }
     ensures begun { ears.new.begun ≡ ears.old.begun }
     ensures heard { HaveHeard B.counted B.told ears.new }
 {

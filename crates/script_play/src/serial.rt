@@ -1,9 +1,9 @@
 //! The play of a script on one thread.
-ghost use Rattle.std.specs.Prelude.{◌≡◌, IfOk};
+ghost use Rattle.std.specs.Prelude.{◌≡◌, IfOk, OnErr};
 ghost use Rattle.drmaa_model.specs.History.{now_of};
 ghost use Rattle.notify_hub.specs.Ears.{HaveHeard, silent};
 ghost use Rattle.script_asks.specs.Plays.{serial_play};
-ghost use Rattle.script_play.specs.Callbacks.{AreCurrent};
+ghost use Rattle.script_play.specs.Callbacks.{AreCurrent, HaveFront};
 ghost use Rattle.script_play.specs.Playable.{IsPlayable};
 
 use crate::blocks::play_blocks;
@@ -41,7 +41,7 @@ pub fn copy_of(config: &Config) -> Result<Config, AllocError>
 ///
 /// # Errors
 ///
-/// Want of memory; what was heard until then stays.
+/// Want of memory. What was heard until then stays: each callback heard what a beginning of the play has for it.
 pub fn play<B: Callback>(
     alloc: Global,
     script: &Script,
@@ -54,6 +54,7 @@ pub fn play<B: Callback>(
     ensures world { IfOk result (λ played. now_of played.machine.ledger ≡ (serial_play script.now).world) }
     ensures full { IfOk result (λ played. played.full ≡ (serial_play script.now).full) }
     ensures current { IfOk result (λ played. AreCurrent B.counted B.told played.machine.ledger ears.new) }
+    ensures front { OnErr result (HaveFront B.counted B.told script.now.config (serial_play script.now).entries ears.new) }
     ensures begun { ears.new.begun ≡ ears.old.begun }
     ensures heard { HaveHeard B.counted B.told ears.new }
 {

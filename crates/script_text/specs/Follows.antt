@@ -1,5 +1,5 @@
 -- Which line may stand behind earlier ones: our profile.
-use Rattle.std.specs.Prelude.{◌&&◌, not, Bool, true, false, List, [], Option, Some, None}
+use Rattle.std.specs.Prelude.{◌&&◌, ◌||◌, not, Bool, true, false, List, [], Option, Some, None}
 use Rattle.std.specs.List.{list_all}
 use Rattle.drmaa_types.specs.declared.moments.Timeout.{Timeout}
 use Rattle.drmaa_types.specs.declared.moments.Timeout.TheVariants.{Seconds, Infinite}
@@ -282,10 +282,10 @@ is_register (line.SignalDone job kind) = false
 is_register (line.SignalFailed job kind) = false
 
 -- The lines of each kind of script, in the setup block or a client's. No wait stands in the setup block. A serial script has
--- no wait without end, and a script for threads no line of a serial script alone and no `register`.
+-- no wait without end. A script for threads has no line of a serial script alone, and `register` in its setup block alone.
 abbrev pub belongs : Mode → Bool → Line → Bool
 belongs mode.Serial in_setup l = not (in_setup && is_wait l) && not (is_endless_wait l)
-belongs mode.Threads in_setup l = not (in_setup && is_wait l) && not (is_serial_line l) && not (is_register l)
+belongs mode.Threads in_setup l = not (in_setup && is_wait l) && not (is_serial_line l) && (in_setup || not (is_register l))
 
 abbrev pub may_stand : Mode → Bool → Script → List Line → Line → Bool
 may_stand m in_setup s earlier l = belongs m in_setup l && may_follow s earlier l

@@ -208,7 +208,8 @@ fn is_serial_line(line: &Line) -> bool
     )
 }
 
-fn is_register(line: &Line) -> bool
+/// Whether a line registers a callback.
+pub fn is_register(line: &Line) -> bool
     ensures { result ≡ follows.is_register line.now }
 {
     matches!(line, Line::Register)
@@ -221,7 +222,9 @@ fn belongs(mode: Mode, in_setup: bool, line: &Line) -> bool
     let waits_in_setup = in_setup && is_wait(line);
     match mode {
         Mode::Serial => !waits_in_setup && !is_endless_wait(line),
-        Mode::Threads => !waits_in_setup && !is_serial_line(line) && !is_register(line),
+        Mode::Threads => {
+            !waits_in_setup && !is_serial_line(line) && (in_setup || !is_register(line))
+        }
     }
 }
 

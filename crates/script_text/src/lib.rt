@@ -11,6 +11,7 @@ mod scripts;
 mod states;
 
 pub use blocks::{Block, Kind, binding};
+pub use follow::is_register;
 pub use keyed::Keyed;
 pub use reading::{one_script, read_first, read_script};
 pub use scripts::{BlockList, Mode, NamedReservationTemplates, NamedTemplates, Script};

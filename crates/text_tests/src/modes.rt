@@ -64,8 +64,8 @@ fn a_wait_without_end_is_no_line_of_a_serial_script(rt: HostRuntime) -> Result<(
     assert_both(&rt, TIMEOUTS.as_slice())
 }
 
-/// Lines that a serial script has alone, in place of a client's line. A script for threads has no `register` either.
-const IN_CLIENT: [Change; 15] = [
+/// Lines that a serial script has alone, in place of a client's line.
+const IN_CLIENT: [Change; 14] = [
     ("state s #1", "at @5", 0, 14),
     ("state s #1", "at 2000-02-29T12:00:00Z", 0, 14),
     ("state s #1", "launch", 0, 14),
@@ -77,7 +77,6 @@ const IN_CLIENT: [Change; 15] = [
     ("state s #1", "signal", 0, 14),
     ("state s #1", "signal-done #1 stop", 0, 14),
     ("state s #1", "signal-failed #1 kill", 0, 14),
-    ("state s #1", "register", 0, 14),
     ("state s #1", "state s #1\nlaunch\nregister", 0, 15),
     ("run j s t", "launch\nrun j s t", 0, 9),
     ("run j s t", "run k s t\nstarted k\nrun j s t", 0, 10),
@@ -91,7 +90,7 @@ fn a_line_of_a_serial_script_alone_is_refused_in_a_client_block(
 }
 
 /// The same lines in the setup block, and waits there, which neither kind of script has.
-const IN_SETUP: [Change; 17] = [
+const IN_SETUP: [Change; 16] = [
     ("\"s\"\n", "\"s\"\nat @5\n", 0, 7),
     ("\"s\"\n", "\"s\"\nat 2000-02-29T12:00:00Z\n", 0, 7),
     ("\"s\"\n", "\"s\"\nlaunch\n", 0, 7),
@@ -103,7 +102,6 @@ const IN_SETUP: [Change; 17] = [
     ("\"s\"\n", "\"s\"\nsignal\n", 0, 7),
     ("\"s\"\n", "\"s\"\nsignal-done #1 stop\n", 0, 7),
     ("\"s\"\n", "\"s\"\nsignal-failed #1 kill\n", 0, 7),
-    ("\"s\"\n", "\"s\"\nregister\n", 0, 7),
     ("\"s\"\n", "\"s\"\nrun k s t\nstate s k\n", 0, 0),
     ("\"s\"\n", "\"s\"\nwait-started s 5\n", 7, 7),
     ("\"s\"\n", "\"s\"\nwait-terminated s 5 #1\n", 7, 7),
@@ -116,6 +114,31 @@ fn a_line_of_a_serial_script_alone_is_refused_in_the_setup_block(
     rt: HostRuntime,
 ) -> Result<(), Fail> {
     assert_both(&rt, IN_SETUP.as_slice())
+}
+
+/// Lines that register a callback: a script for threads has them in its setup block alone.
+const REGISTERS: [Change; 9] = [
+    ("\"s\"\n", "\"s\"\nregister\n", 0, 0),
+    ("create-jobs s", "register\ncreate-jobs s", 0, 0),
+    ("\"s\"\n", "\"s\"\nregister\nregister\n", 0, 0),
+    ("\"s\"\n", "\"s\"\nregister\nlaunch\n", 0, 8),
+    ("\"s\"\n", "\"s\"\nregister s\n", 7, 7),
+    ("state s #1", "register", 0, 14),
+    ("run j s t", "register\nrun j s t", 0, 9),
+    ("state s #1", "state s #1\nregister", 0, 15),
+    (
+        "\"s\"\nend\nclient\n",
+        "\"s\"\nregister\nend\nclient\nregister\n",
+        0,
+        10,
+    ),
+];
+
+#[test]
+fn a_script_for_threads_registers_callbacks_in_its_setup_block_alone(
+    rt: HostRuntime,
+) -> Result<(), Fail> {
+    assert_both(&rt, REGISTERS.as_slice())
 }
 
 /// What is bad in a script of either kind.
@@ -232,4 +255,29 @@ fn assert_held_start(rt: &(impl Abort + AllocGlobal), script: &Script) -> Result
 fn one_client_waits_for_a_number_of_seconds(rt: HostRuntime) -> Result<(), Fail> {
     let script = read_for_threads(rt.alloc(), HELD_START)?;
     assert_held_start(&rt, &script)
+}
+
+/// A script for threads whose setup block registers a callback before the job that it runs, and one behind it.
+const REGISTERED: &str =
+    "machine 4 \"node1\" suspend\ntemplate t\ncommand \"true\"\nend\nsetup\nregister\ncreate-jobs s \"s\"\nrun j s t\nregister\nend\nclient\nwait-terminated s infinite j\nend\n";
+
+/// Asserts that the script is the one above.
+fn assert_registered(rt: &(impl Abort + AllocGlobal), script: &Script) -> Result<(), Fail> {
+    assert_setup(
+        rt,
+        script,
+        &["register", "create-jobs s \"s\"", "run j s t", "register"],
+    )?;
+    match script.clients.as_slice() {
+        [block] => assert_block(rt, block, &["wait-terminated s infinite j"]),
+        _ => Err("not one client".into()),
+    }
+}
+
+#[test]
+fn the_setup_block_of_a_script_for_threads_registers_callbacks(
+    rt: HostRuntime,
+) -> Result<(), Fail> {
+    let script = read_for_threads(rt.alloc(), REGISTERED)?;
+    assert_registered(&rt, &script)
 }

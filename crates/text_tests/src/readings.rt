@@ -56,7 +56,7 @@ const LINES: [&str; 43] = [
     "machines #5",
 ];
 
-/// Lines that a serial script has alone, and `register`.
+/// Lines that a serial script has alone, and `register`, which no client's block of a script for threads has.
 const SERIAL_LINES: [&str; 12] = [
     "register",
     "at @100000000000",

@@ -1,5 +1,5 @@
 -- Clients that are hired, play their blocks, and come back.
-use Rattle.std.proofs.Common.{◌≡◌, ℕ, zero, suc, ◌+◌, ◌<◌, ◌≤◌, ◌⊎◌, inl, inr, ⊎_elim, List, [], ◌∷◌, ◌++◌, map, set, replicate, length, slice_index_or, refl, sym, ap, ◌∙◌, subst, append_assoc, append-nil, length-append, arith, Option, Some, None}
+use Rattle.std.proofs.Common.{◌≡◌, ℕ, zero, suc, ◌+◌, ◌<◌, ◌⊎◌, inl, inr, ⊎_elim, List, [], ◌∷◌, ◌++◌, map, set, replicate, length, slice_index_or, refl, sym, ap, ◌∙◌, subst, append_assoc, append-nil, length-append, arith, Option, Some, None}
 use Rattle.std.specs.Prelude.{All, Result, Ok, Err}
 use Rattle.std.proofs.lemmas.List.Elements.{All-nil}
 use Rattle.drmaa_model.specs.declared.configs.Config.{Config}
@@ -12,8 +12,8 @@ use Rattle.call_history.specs.ClientLaws.{begins-itself, begins-both}
 use Rattle.block_play.specs.declared.stops.Stopped.{Stopped}
 use Rattle.block_play.specs.declared.stops.Stopped.TheVariants as stopped
 use Rattle.thread_play.specs.declared.workers.Worker.{Worker}
-use Rattle.thread_play.specs.Stages.{IsNew, IsHired, Hired, Dismissed, worse, worst, with_back}
-use Rattle.thread_play.proofs.Lists.{at-more, replicate-more, length-replicated, all-head, all-tail, all-both, set-between, length-mapped}
+use Rattle.thread_play.specs.Stages.{IsHired, Hired, Dismissed, worse, worst, with_back}
+use Rattle.thread_play.proofs.Lists.{at-more, replicate-more, length-replicated, all-tail, set-between}
 
 abbrev pub Lists : Type 0
 Lists = List (Option (List Entry))

@@ -1,6 +1,6 @@
 -- How launcher and reaper end a run.
-use Rattle.std.proofs.Common.{◌≡◌, ◌⊎◌, inl, inr, ℕ, List, [], Option, Some, None, refl, sym, ap, subst, ◌∙◌, append-nil, arith}
-use Rattle.std.specs.Prelude.{Result, Ok, Err, IfErr, IsOk, IfOk, is_some, true, false}
+use Rattle.std.proofs.Common.{◌≡◌, inl, inr, ℕ, List, [], Option, Some, None, refl, sym, ap, subst, ◌∙◌, append-nil, arith}
+use Rattle.std.specs.Prelude.{Result, Ok, Err, IfErr, IsOk, is_some, true, false}
 use Rattle.child_spawner.specs.declared.fates.Asked.{Asked}
 use Rattle.child_spawner.specs.declared.fates.Fate.{Fate}
 use Rattle.child_spawner.specs.Children.{Told}
@@ -8,15 +8,13 @@ use Rattle.drmaa_types.specs.declared.refusals.Refusal.{Refusal}
 use Rattle.drmaa_types.specs.declared.refusals.Refusal.TheVariants.{OutOfResource}
 use Rattle.drmaa_types.specs.declared.refusals.Limit.TheVariants as limit
 use Rattle.drmaa_model.specs.declared.configs.Config.{Config}
-use Rattle.drmaa_model.specs.declared.entries.Entry.{Entry}
 use Rattle.turn_lock.specs.Tokens.{Named, IsFree}
 use Rattle.call_history.specs.Clients.{mine_of}
 use Rattle.call_history.specs.ClientLaws.{begins-itself}
 use Rattle.attendant.specs.declared.reaper.Held.{Held}
 use Rattle.attendant.specs.declared.reaper.Hand.{Hand}
-use Rattle.attendant.specs.Acts.{own_acts}
-use Rattle.attendant.specs.Posts.{Post, Gives, AreAmong, IsStillAt}
-use Rattle.attendant.specs.Outside.{Tends, Attending, IsHeldUp}
+use Rattle.attendant.specs.Posts.{Post, Gives, IsStillAt}
+use Rattle.attendant.specs.Outside.{IsHeldUp}
 use Rattle.block_play.specs.declared.stops.Stopped.{Stopped}
 use Rattle.block_play.specs.declared.stops.Stopped.TheVariants as stopped
 use Rattle.thread_play.specs.declared.pairs.Pair.{Pair}

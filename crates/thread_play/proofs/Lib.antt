@@ -8,3 +8,5 @@ pub mod Endings
 pub mod Making
 pub mod Whole
 pub mod Printable
+pub mod Keeping
+pub mod Hearing

@@ -1,5 +1,5 @@
 -- Lists, an item more at their end or another one in their middle.
-use Rattle.std.proofs.Common.{◌≡◌, ℕ, zero, suc, ◌+◌, ◌<◌, ◌≤◌, ◌⊎◌, inl, inr, ⊎_elim, List, [], ◌∷◌, ◌++◌, map, set, replicate, take, drop, length, slice_index_or, get_or, refl, sym, ap, ◌∙◌, subst, append_assoc, append-nil, length-append, arith}
+use Rattle.std.proofs.Common.{◌≡◌, ℕ, zero, suc, ◌<◌, ◌⊎◌, inl, inr, ⊎_elim, List, [], ◌∷◌, ◌++◌, map, set, replicate, length, slice_index_or, refl, ap, arith}
 use Rattle.std.specs.Prelude.{All}
 
 module _ {X : Type 0} where

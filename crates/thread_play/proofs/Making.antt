@@ -1,37 +1,35 @@
 -- From the parts of a run to what all leave.
-use Rattle.std.proofs.Common.{◌≡◌, ◌≢◌, ◌⊎◌, inl, inr, ℕ, suc, ◌+◌, ◌<◌, ◌≤◌, List, [], ◌∷◌, ◌++◌, map, set, replicate, length, slice_index_or, Option, Some, None, refl, sym, ap, ◌∙◌, subst, append_assoc, append-nil, length-append, arith}
-use Rattle.std.specs.Prelude.{IfSome, Result, Ok, Err, IsOk}
+use Rattle.std.proofs.Common.{◌≡◌, ◌≢◌, inl, inr, ℕ, ◌+◌, ◌<◌, List, [], ◌∷◌, ◌++◌, map, set, replicate, length, slice_index_or, Option, Some, None, refl, sym, ap, ◌∙◌, subst, append_assoc, length-append, arith}
+use Rattle.std.specs.Prelude.{Result, Ok, Err}
 use Rattle.std.specs.List.{slice_get}
 use Rattle.child_spawner.specs.declared.fates.Asked.{Asked}
 use Rattle.child_spawner.specs.declared.fates.Fate.{Fate}
 use Rattle.child_spawner.specs.Children.{Told}
 use Rattle.drmaa_types.specs.declared.refusals.Refusal.{Refusal}
-use Rattle.drmaa_types.specs.declared.refusals.Refusal.TheVariants.{OutOfResource}
-use Rattle.drmaa_types.specs.declared.refusals.Limit.TheVariants as limit
 use Rattle.drmaa_model.specs.declared.configs.Config.{Config}
 use Rattle.drmaa_model.specs.declared.entries.Entry.{Entry}
 use Rattle.turn_lock.specs.Histories.{BeginsWith}
-use Rattle.turn_lock.specs.Tokens.{Named, BelongsTo, IsFree}
+use Rattle.turn_lock.specs.Tokens.{Named, BelongsTo}
 use Rattle.call_history.specs.Clients.{Seat, seen_of, mine_of, number_of, retired_of, KnowsItsOwn}
-use Rattle.call_history.specs.ClientLaws.{begins-itself, begins-both}
+use Rattle.call_history.specs.ClientLaws.{begins-both}
 use Rattle.call_history.specs.Timed.{IsTimed}
-use Rattle.script_lines.specs.declared.lines.Line.{Line}
+use Rattle.notify_hub.specs.Hubs.{Following}
 use Rattle.script_text.specs.declared.scripts.Script.{Script}
 use Rattle.script_asks.specs.declared.given.Given.{Given}
 use Rattle.attendant.specs.declared.reaper.Held.{Held}
 use Rattle.attendant.specs.declared.reaper.Hand.{Hand}
 use Rattle.attendant.specs.Acts.{acts_of, own_acts, Act}
-use Rattle.attendant.specs.Posts.{Post}
-use Rattle.attendant.specs.Outside.{Tends, Keeps, AgreesOf, IsHeldUp}
+use Rattle.attendant.specs.Outside.{Tends, Keeps, AgreesOf}
 use Rattle.block_play.specs.declared.stops.Stopped.{Stopped}
 use Rattle.block_play.specs.declared.stops.Stopped.TheVariants as stopped
 use Rattle.thread_play.specs.declared.pairs.Pair.{Pair}
 use Rattle.thread_play.specs.declared.workers.Worker.{Worker}
-use Rattle.thread_play.specs.Stages.{PlaysOn, IsNew, IsHired, Hired, HasPlayed, HavePlayed, Dismissed, EndsAs, worse, worst, with_back}
-use Rattle.thread_play.specs.Pairs.{launcher_at, reaping_at, HasAttended, HasSettled, HasEnded, AreReleased}
-use Rattle.thread_play.specs.Others.{IsBack, IsEnded, IsFullAtEnd, by_attendant, by_client, EndsWhole, Ends, Others}
-use Rattle.thread_play.proofs.Lists.{replicate-more, length-replicated, set-between, length-mapped, some-item}
-use Rattle.thread_play.proofs.Clients.{Lists, own_lists, hired-count, with_back-all, worst-none, worst-full, MetBy, FullEnds}
+use Rattle.thread_play.specs.Stages.{Hired, HavePlayed, Dismissed, EndsAs, worse, worst, with_back}
+use Rattle.thread_play.specs.Hubs.{FollowsAll, IsReturned}
+use Rattle.thread_play.specs.Pairs.{launcher_at, reaping_at, HasAttended, HasEnded, AreReleased}
+use Rattle.thread_play.specs.Others.{IsEnded, by_attendant, by_client, Ends, Others, OthersHeard}
+use Rattle.thread_play.proofs.Lists.{set-between, length-mapped, some-item}
+use Rattle.thread_play.proofs.Clients.{Lists, own_lists, hired-count, with_back-all, worst-none, worst-full}
 use Rattle.thread_play.proofs.Callers.{launcher-at-once, reaper-at-once}
 use Rattle.thread_play.proofs.Posts.{still-timed, none-timed}
 use Rattle.thread_play.proofs.Endings.{full-held, whole-ok}
@@ -61,23 +59,28 @@ begins-same : (a b c : List Entry) → BeginsWith a b → b ≡ c → BeginsWith
 begins-same a b c h is = subst (BeginsWith a) is h
 
 module _ {C T : Type 0} (given : C → Option (List ℕ)) (least : C → ℕ) (told : T → Option Told) (s : Script) (names : List (List ℕ × Given)) (shared : Named Config)
-    (o p0 p1 p2 p3 p4 : Seat) (ws vs : List (Worker C)) (pa pb pc pd : Pair C)
+    (o p0 p1 p2 ph p3 p4 p5 pass0 pass : Seat) (ws vs : List (Worker C)) (pa pb pc pd : Pair C)
     (asked asked1 asked2 : Option (List Asked)) (fate fate1 fate2 : ℕ → Fate) (at0 at1 at2 : ℕ → Option (Held T)) (hand0 hand1 hand2 : Option Hand)
-    (r : Result (Unit {0}) Refusal) (end : Result (Unit {0}) Stopped) (ended after : Option Stopped) (clocks0 clocks1 clocks2 : List C)
+    (r : Result (Unit {0}) Refusal) (end : Result (Unit {0}) Stopped) (ended after : Option Stopped) (clocks0 clocks1 clocks2 clocks3 : List C) (clock_h : C)
     (first : length (retired_of o) ≡ 1) (hired : Hired given shared o p0 ws) (count : length ws ≡ length s.clients)
-    (ol : IsOpened shared p0 p1 pa.launcher) (or : IsOpened shared p1 p2 pa.reaping) (start : Nothing told at0) (no_hand : hand0 ≡ None)
+    (ol : IsOpened shared p0 p1 pa.launcher) (or : IsOpened shared p1 p2 pa.reaping) (oh : IsOpened shared p2 ph pass0) (start : Nothing told at0) (no_hand : hand0 ≡ None)
     (a : HasAttended given least told shared pa pb asked asked1 fate fate1 at0 at1 hand0 hand1 r) (played : HavePlayed given shared s names ws vs) (ends_so : EndsAs r end)
-    (d : Dismissed shared p2 p3 pb.launcher pc.launcher vs) (clock_l : pc.launcher_clock ≡ pb.launcher_clock) (same_r : pc.reaping ≡ pb.reaping) (clock_r : pc.reaping_clock ≡ pb.reaping_clock)
+    (d : Dismissed shared ph p3 pb.launcher pc.launcher vs) (clock_l : pc.launcher_clock ≡ pb.launcher_clock) (same_r : pc.reaping ≡ pb.reaping) (clock_r : pc.reaping_clock ≡ pb.reaping_clock)
     (worst_is : ended ≡ worst (worse None end) vs)
     (e : HasEnded given least told shared pc pd asked1 asked2 fate1 fate2 at1 at2 hand1 hand2 ended after) (rel : AreReleased shared p3 p4 pd)
-    (clocks_d : clocks1 ≡ clocks0 ++ map (λ (w : Worker C). w.clock) vs) (clocks_r : clocks2 ≡ (clocks1 ++ pd.launcher_clock ∷ []) ++ pd.reaping_clock ∷ []) where
+    (clocks_d : clocks1 ≡ clocks0 ++ map (λ (w : Worker C). w.clock) vs) (clocks_r : clocks2 ≡ (clocks1 ++ pd.launcher_clock ∷ []) ++ pd.reaping_clock ∷ [])
+    (back : IsReturned shared p4 p5 pass) (pass_number : number_of pass ≡ number_of pass0) (pass_mine : mine_of pass ≡ mine_of pass0) (clocks_h : clocks3 ≡ clocks2 ++ clock_h ∷ []) where
   -- ---- what was seen
 
-  seen-o : seen_of p2 ≡ seen_of o
-  seen-o = or.seen ∙ (ol.seen ∙ hired.seen)
+  seen-o : seen_of ph ≡ seen_of o
+  seen-o = oh.seen ∙ (or.seen ∙ (ol.seen ∙ hired.seen))
 
-  begins-o : BeginsWith (seen_of p4) (seen_of o)
-  begins-o = begins-same (seen_of p4) (seen_of p2) (seen_of o) (begins-both (seen_of p2) (seen_of p3) (seen_of p4) d.seen rel.begins) seen-o
+  -- what the opener had seen when launcher and reaper were back, it has seen at the end
+  at-last : (seen : List Entry) → BeginsWith (seen_of p4) seen → BeginsWith (seen_of p5) seen
+  at-last seen b = begins-both seen (seen_of p4) (seen_of p5) b back.begins
+
+  begins-o : BeginsWith (seen_of p5) (seen_of o)
+  begins-o = at-last (seen_of o) (begins-same (seen_of p4) (seen_of ph) (seen_of o) (begins-both (seen_of ph) (seen_of p3) (seen_of p4) d.seen rel.begins) seen-o)
 
   -- the launcher's client, from its opening to its return
   bc : BeginsWith (seen_of pc.launcher) (seen_of pb.launcher)
@@ -91,11 +94,11 @@ module _ {C T : Type 0} (given : C → Option (List ℕ)) (least : C → ℕ) (t
       (begins-both (seen_of pa.launcher) (seen_of pb.launcher) (seen_of pd.launcher) a.launcher.begins (begins-both (seen_of pb.launcher) (seen_of pc.launcher) (seen_of pd.launcher) bc cd))
       (ol.begins ∙ hired.seen)
 
-  launcher-b : BeginsWith (seen_of p4) (seen_of pb.launcher)
-  launcher-b = begins-both (seen_of pb.launcher) (seen_of pd.launcher) (seen_of p4) (begins-both (seen_of pb.launcher) (seen_of pc.launcher) (seen_of pd.launcher) bc cd) rel.launcher
+  launcher-b : BeginsWith (seen_of p5) (seen_of pb.launcher)
+  launcher-b = at-last (seen_of pb.launcher) (begins-both (seen_of pb.launcher) (seen_of pd.launcher) (seen_of p4) (begins-both (seen_of pb.launcher) (seen_of pc.launcher) (seen_of pd.launcher) bc cd) rel.launcher)
 
-  reaping-b : BeginsWith (seen_of p4) (seen_of pb.reaping)
-  reaping-b = begins-same (seen_of p4) (seen_of pc.reaping) (seen_of pb.reaping) (begins-both (seen_of pc.reaping) (seen_of pd.reaping) (seen_of p4) e.reaping.begins rel.reaping) (ap (λ (x : Seat). seen_of x) same_r)
+  reaping-b : BeginsWith (seen_of p5) (seen_of pb.reaping)
+  reaping-b = at-last (seen_of pb.reaping) (begins-same (seen_of p4) (seen_of pc.reaping) (seen_of pb.reaping) (begins-both (seen_of pc.reaping) (seen_of pd.reaping) (seen_of p4) e.reaping.begins rel.reaping) (ap (λ (x : Seat). seen_of x) same_r))
 
   -- ---- what launcher and reaper keep
 
@@ -220,36 +223,63 @@ module _ {C T : Type 0} (given : C → Option (List ℕ)) (least : C → ℕ) (t
   front-size : length (retired_of o ++ own_lists vs) ≡ length s.clients + 1
   front-size = let a = length-append (retired_of o) (own_lists vs) in let b = length-mapped (λ (w : Worker C). Some (mine_of w.client)) vs in let c = vs-count in let f = first in omega arith
 
-  lists : retired_of p4 ≡ retired_of o ++ (own_lists vs ++ Some (mine_of pd.launcher) ∷ Some (mine_of pd.reaping) ∷ [])
-  lists =
+  lists-both : retired_of p4 ≡ (retired_of o ++ own_lists vs) ++ Some (mine_of pd.launcher) ∷ Some (mine_of pd.reaping) ∷ None ∷ []
+  lists-both =
       let nones : Lists = replicate (length vs) None in
       let n : length ws ≡ length vs = sym played.count in
       let two : retired_of p2 ≡ retired_of o ++ (nones ++ None ∷ None ∷ []) =
       or.retired ∙ (ap (λ (l : Lists). l ++ None ∷ []) (ol.retired ∙ ap (λ (l : Lists). l ++ None ∷ []) (hired.retired ∙ ap (λ (k : ℕ). retired_of o ++ replicate k None) n))
       ∙ (append_assoc (retired_of o ++ nones) (None ∷ []) (None ∷ []) ∙ append_assoc (retired_of o) nones (None ∷ None ∷ []))) in
-      let three : retired_of p3 ≡ (retired_of o ++ own_lists vs) ++ None ∷ None ∷ [] =
-      d.retired ∙ (ap (λ (l : Lists). with_back l vs) two
-      ∙ (with_back-all (retired_of o) (None ∷ None ∷ []) vs (λ i v h. let k = client-number i v h in let f = first in omega arith) ∙ sym (append_assoc (retired_of o) (own_lists vs) (None ∷ None ∷ [])))) in
+      let all : retired_of ph ≡ retired_of o ++ (nones ++ None ∷ None ∷ None ∷ []) =
+      oh.retired ∙ (ap (λ (l : Lists). l ++ None ∷ []) two
+      ∙ (append_assoc (retired_of o) (nones ++ None ∷ None ∷ []) (None ∷ []) ∙ ap (λ (l : Lists). retired_of o ++ l) (append_assoc nones (None ∷ None ∷ []) (None ∷ [])))) in
+      let three : retired_of p3 ≡ (retired_of o ++ own_lists vs) ++ None ∷ None ∷ None ∷ [] =
+      d.retired ∙ (ap (λ (l : Lists). with_back l vs) all
+      ∙ (with_back-all (retired_of o) (None ∷ None ∷ None ∷ []) vs (λ i v h. let k = client-number i v h in let f = first in omega arith) ∙ sym (append_assoc (retired_of o) (own_lists vs) (None ∷ None ∷ None ∷ [])))) in
       let ml = Some (mine_of pd.launcher) in
       let mr = Some (mine_of pd.reaping) in
-      let four : set (retired_of p3) (number_of pd.launcher) ml ≡ (retired_of o ++ own_lists vs) ++ ml ∷ None ∷ [] =
-      ap (λ (l : Lists). set l (number_of pd.launcher) ml) three ∙ set-between (retired_of o ++ own_lists vs) None ml (None ∷ []) (number_of pd.launcher) (launcher-number ∙ sym front-size) in
+      let four : set (retired_of p3) (number_of pd.launcher) ml ≡ (retired_of o ++ own_lists vs) ++ ml ∷ None ∷ None ∷ [] =
+      ap (λ (l : Lists). set l (number_of pd.launcher) ml) three ∙ set-between (retired_of o ++ own_lists vs) None ml (None ∷ None ∷ []) (number_of pd.launcher) (launcher-number ∙ sym front-size) in
       let longer = length-append (retired_of o ++ own_lists vs) (ml ∷ []) in
       let size = front-size in
       let last : number_of pd.reaping ≡ length ((retired_of o ++ own_lists vs) ++ ml ∷ []) = (let k : number_of pd.reaping ≡ length s.clients + 2 = e.reaping.number ∙ reaping-middle in omega arith) in
-      rel.retired ∙ (ap (λ (l : Lists). set l (number_of pd.reaping) mr) (four ∙ sym (append_assoc (retired_of o ++ own_lists vs) (ml ∷ []) (None ∷ [])))
-      ∙ (set-between ((retired_of o ++ own_lists vs) ++ ml ∷ []) None mr [] (number_of pd.reaping) last
-      ∙ (append_assoc (retired_of o ++ own_lists vs) (ml ∷ []) (mr ∷ []) ∙ append_assoc (retired_of o) (own_lists vs) (ml ∷ mr ∷ []))))
+      rel.retired ∙ (ap (λ (l : Lists). set l (number_of pd.reaping) mr) (four ∙ sym (append_assoc (retired_of o ++ own_lists vs) (ml ∷ []) (None ∷ None ∷ [])))
+      ∙ (set-between ((retired_of o ++ own_lists vs) ++ ml ∷ []) None mr (None ∷ []) (number_of pd.reaping) last
+      ∙ append_assoc (retired_of o ++ own_lists vs) (ml ∷ []) (mr ∷ None ∷ [])))
 
-  all-clocks : clocks2 ≡ clocks0 ++ (map (λ (w : Worker C). w.clock) vs ++ pd.launcher_clock ∷ pd.reaping_clock ∷ [])
+  pass-last : number_of pass ≡ length s.clients + 3
+  pass-last =
+      let m = opened-count in
+      let k = ap length or.retired in
+      let l = length-append (retired_of p1) (None ∷ []) in
+      let n = hired-count given shared o p0 ws hired in
+      let c = count in
+      let f = first in
+      pass_number ∙ (oh.number ∙ omega arith)
+
+  lists : retired_of p5 ≡ retired_of o ++ (own_lists vs ++ Some (mine_of pd.launcher) ∷ Some (mine_of pd.reaping) ∷ Some (mine_of pass) ∷ [])
+  lists =
+      let ml = Some (mine_of pd.launcher) in
+      let mr = Some (mine_of pd.reaping) in
+      let mh = Some (mine_of pass) in
+      let both : Lists = (retired_of o ++ own_lists vs) ++ ml ∷ mr ∷ [] in
+      let longer : length both ≡ length (retired_of o ++ own_lists vs) + 2 = length-append (retired_of o ++ own_lists vs) (ml ∷ mr ∷ []) in
+      let size = front-size in
+      let number = pass-last in
+      back.retired ∙ (ap (λ (l : Lists). set l (number_of pass) mh) (lists-both ∙ sym (append_assoc (retired_of o ++ own_lists vs) (ml ∷ mr ∷ []) (None ∷ [])))
+      ∙ (set-between both None mh [] (number_of pass) (omega arith)
+      ∙ (append_assoc (retired_of o ++ own_lists vs) (ml ∷ mr ∷ []) (mh ∷ []) ∙ append_assoc (retired_of o) (own_lists vs) (ml ∷ mr ∷ mh ∷ []))))
+
+  all-clocks : clocks3 ≡ clocks0 ++ (map (λ (w : Worker C). w.clock) vs ++ pd.launcher_clock ∷ pd.reaping_clock ∷ clock_h ∷ [])
   all-clocks =
       let theirs = map (λ (w : Worker C). w.clock) vs in
-      clocks_r ∙ (append_assoc clocks1 (pd.launcher_clock ∷ []) (pd.reaping_clock ∷ [])
-      ∙ (ap (λ (l : List C). l ++ pd.launcher_clock ∷ pd.reaping_clock ∷ []) clocks_d ∙ append_assoc clocks0 theirs (pd.launcher_clock ∷ pd.reaping_clock ∷ [])))
+      let two = pd.launcher_clock ∷ pd.reaping_clock ∷ [] in
+      clocks_h ∙ (ap (λ (l : List C). l ++ clock_h ∷ []) (clocks_r ∙ (append_assoc clocks1 (pd.launcher_clock ∷ []) (pd.reaping_clock ∷ []) ∙ ap (λ (l : List C). l ++ two) clocks_d))
+      ∙ (append_assoc (clocks0 ++ theirs) two (clock_h ∷ []) ∙ append_assoc clocks0 theirs (pd.launcher_clock ∷ pd.reaping_clock ∷ clock_h ∷ [])))
 
   -- ---- how it ended
 
-  ends-by : (full : Option ℕ) → after ≡ stop_at full → Ends shared (length s.clients + 2) p4 vs (launcher_at given least shared pd) pd.reaping full
+  ends-by : (full : Option ℕ) → after ≡ stop_at full → Ends shared (length s.clients + 2) p5 vs (launcher_at given least shared pd) pd.reaping full
   ends-by None is = let so = (e.whole is).1 in record { ended = (well is).1; settled = so.settled; begins = so.begins }
   ends-by (Some size) is = elim (e.full size tends-c is) [
     | inl before ↦ elim ((worst-full (worse None end) vs size (sym worst_is ∙ before)).cause) [
@@ -257,12 +287,12 @@ module _ {C T : Type 0} (given : C → Option (List ℕ)) (least : C → ℕ) (t
           (full-held given least told shared pa pb r end size ends_so attendants (a.held_up tends-a)) launcher-b reaping-b
       | inr met ↦ by_client met.place met.item met.within met.met
     ]
-    | inr then ↦ by_attendant (launcher_at given least shared pc) (launcher_at given least shared pd) (reaping_at given least shared pc) (reaping_at given least shared pd) refl refl own-middle reaping-middle then.1 rel.launcher rel.reaping
+    | inr then ↦ by_attendant (launcher_at given least shared pc) (launcher_at given least shared pd) (reaping_at given least shared pc) (reaping_at given least shared pd) refl refl own-middle reaping-middle then.1 (at-last (seen_of pd.launcher) rel.launcher) (at-last (seen_of pd.reaping) rel.reaping)
   ]
 
-  pub others-made : (full : Option ℕ) → after ≡ stop_at full → Others given told s names shared o p4 asked asked2 fate2 clocks0 clocks2 full
+  pub others-made : (full : Option ℕ) → after ≡ stop_at full → Others given told s names shared o p5 asked asked2 fate2 clocks0 clocks3 full
   others-made full is = record {
-    opener = rel.opener;
+    opener = back.opener;
     begins = begins-o;
     ws = vs;
     count = vs-count;
@@ -274,9 +304,12 @@ module _ {C T : Type 0} (given : C → Option (List ℕ)) (least : C → ℕ) (t
     reaping = pd.reaping;
     reaping_clock = pd.reaping_clock;
     reaping_back = record { number_is = e.reaping.number ∙ reaping-middle; own = e.reaping.own own-middle; timed = reaping-timed };
+    pass = pass;
+    pass_clock = clock_h;
+    pass_mine = pass_mine ∙ oh.mine;
     retired = lists;
     clocks_are = all-clocks;
-    known = rel.launcher;
+    known = at-last (seen_of pd.launcher) rel.launcher;
     known_first = known-first;
     known_clients = λ i v h. begins-both (seen_of (slice_index_or vs i v).client) (seen_of pc.launcher) (seen_of pd.launcher) (d.told i v h) cd;
     at = at2;
@@ -286,3 +319,9 @@ module _ {C T : Type 0} (given : C → Option (List ℕ)) (least : C → ℕ) (t
     agrees = λ none. agrees-d (is ∙ ap stop_at none);
     ends = ends-by full is;
   }
+
+  -- the hub with it
+  pub heard-made : {B : Type 0} (hub : Following B) (full : Option ℕ) → after ≡ stop_at full → BeginsWith (seen_of pass) (seen_of pd.launcher) → BeginsWith (seen_of pass) (seen_of pd.reaping)
+      → FollowsAll shared (seen_of pass) hub → OthersHeard given told s names shared o p5 asked asked2 fate2 clocks0 clocks3 full hub
+  unfolding others-made
+  heard-made hub full is launched reaped follows = record { others = others-made full is; known = back.known; launcher = launched; reaping = reaped; follows = follows }

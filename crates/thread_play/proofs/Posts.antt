@@ -1,10 +1,9 @@
 -- Desks of launcher and reaper, over the rounds that they make.
-use Rattle.std.proofs.Common.{◌≡◌, ◌⊎◌, inl, inr, ℕ, List, [], ◌∷◌, ◌++◌, map, Option, Some, None, refl, sym, ap, ◌∙◌, subst, append_assoc, append-nil}
-use Rattle.std.specs.Prelude.{IfSome}
-use Rattle.std.specs.List.{AllByRecursion, flat_map}
+use Rattle.std.proofs.Common.{◌≡◌, inl, inr, ℕ, List, [], ◌∷◌, ◌++◌, map, Option, Some, None, refl, sym, ap, ◌∙◌, subst, append_assoc}
+use Rattle.std.specs.List.{AllByRecursion}
 use Rattle.drmaa_model.specs.declared.entries.Entry.{Entry}
 use Rattle.call_history.specs.Clients.{mine_of}
-use Rattle.call_history.specs.Timed.{begun_in, moments_in, moments_of, StandsIn, IsTimed}
+use Rattle.call_history.specs.Timed.{moments_in, moments_of, StandsIn, IsTimed}
 use Rattle.call_history.specs.TimedLaws.{stands-both}
 use Rattle.attendant.specs.Posts.{Post, Gives, AreAmong, IsStillAt}
 use Rattle.thread_play.proofs.Callers.{IsAtOnce}

@@ -1,5 +1,5 @@
 -- The calls of a run may stand in a journal.
-use Rattle.std.proofs.Common.{◌≡◌, ◌⊎◌, inl, inr, ℕ, ◌+◌, ◌<◌, true, List, [], ◌∷◌, length, Option, Some, None, sym, subst, arith}
+use Rattle.std.proofs.Common.{◌≡◌, inl, inr, ℕ, ◌+◌, true, List, [], ◌∷◌, length, Option, Some, None, sym, subst, arith}
 use Rattle.std.specs.List.{slice_get, AllByRecursion}
 use Rattle.std.proofs.lemmas.Option.{slice_get-get_or}
 use Rattle.std.proofs.Common.{get_or}
@@ -13,7 +13,7 @@ use Rattle.script_text.specs.Follows.{lines_of}
 use Rattle.script_asks.specs.declared.given.Given.{Given}
 use Rattle.script_asks.specs.Plays.{Plays}
 use Rattle.script_journals.specs.Calls.{CallMayStand, is_attendants}
-use Rattle.thread_play.specs.Runs.{names_given, launcher_of, reaper_of, HasRun, PlaysUpTo, EndsBy, IsStopped, in_setup, behind_setup}
+use Rattle.thread_play.specs.Runs.{names_given, launcher_of, reaper_of, HasRun, PlaysUpTo, EndsBy, in_setup, behind_setup}
 use Rattle.thread_play.proofs.Callers.{by-caller, IsAttendants, launcher-attends, reaper-attends}
 
 -- what lines ask may stand there

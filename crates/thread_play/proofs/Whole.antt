@@ -1,19 +1,19 @@
 -- From what all callers leave to the one history.
-use Rattle.std.proofs.Common.{◌≡◌, ◌≢◌, ◌⊎◌, inl, inr, ℕ, zero, suc, ◌+◌, ◌<◌, ◌≤◌, Bool, true, List, [], ◌∷◌, ◌++◌, map, length, slice_index_or, Option, Some, None, refl, sym, ap, ◌∙◌, subst, append_assoc, append-nil, length-append, arith}
+use Rattle.std.proofs.Common.{◌≡◌, ◌≢◌, ◌⊎◌, ⊎_elim, inl, inr, ℕ, zero, suc, ◌+◌, ◌<◌, ◌≤◌, true, List, [], ◌∷◌, ◌++◌, map, length, slice_index_or, Option, Some, None, refl, sym, ap, ◌∙◌, subst, append_assoc, append-nil, length-append, arith}
 use Rattle.std.specs.Prelude.{IfSome, Result, Ok, Err}
 use Rattle.std.specs.List.{slice_get, AllByRecursion}
+use Rattle.std.proofs.lemmas.Bool.{cases_eq}
 use Rattle.std.proofs.lemmas.Option.{slice_get_within, get_or_from_slice_get, slice_get-get_or}
 use Rattle.child_spawner.specs.declared.fates.Asked.{Asked}
 use Rattle.child_spawner.specs.declared.fates.Fate.{Fate}
 use Rattle.child_spawner.specs.Children.{Told}
 use Rattle.drmaa_types.specs.declared.refusals.Refusal.{Refusal}
-use Rattle.drmaa_types.specs.declared.refusals.Refusal.TheVariants.{OutOfResource, OutOfMemory}
+use Rattle.drmaa_types.specs.declared.refusals.Refusal.TheVariants.{OutOfResource}
 use Rattle.drmaa_types.specs.declared.refusals.Limit.TheVariants as limit
 use Rattle.drmaa_model.specs.declared.calls.Call.{Call}
 use Rattle.drmaa_model.specs.declared.calls.Call.TheVariants as call
 use Rattle.drmaa_model.specs.declared.configs.Config.{Config}
 use Rattle.drmaa_model.specs.declared.entries.Entry.{Entry}
-use Rattle.drmaa_model.specs.declared.faults.NoEntry.{NoEntry}
 use Rattle.drmaa_model.specs.declared.faults.NoEntry.TheVariants as no
 use Rattle.drmaa_model.specs.declared.looks.Answer.TheVariants as answer
 use Rattle.drmaa_model.specs.Consistent.{IsConsistent}
@@ -23,28 +23,29 @@ use Rattle.drmaa_model.specs.Order.{settled}
 use Rattle.drmaa_model.specs.Plan.{Plan}
 use Rattle.drmaa_model.specs.SettledLaws.{IsQuiet}
 use Rattle.drmaa_model.specs.Time.{advance, advance_plan}
-use Rattle.drmaa_model.specs.declared.replies.Signal.{Signal}
 use Rattle.drmaa_model.specs.KeptCalls.{kept}
 use Rattle.drmaa_machine.specs.Chronicles.{MakesNone}
 use Rattle.attendant.specs.Rounds.{asked_signal}
 use Rattle.drmaa_types.specs.Readings.{Reads}
 use Rattle.turn_lock.specs.Histories.{BeginsWith, left_of}
-use Rattle.turn_lock.specs.Tokens.{Named, BelongsTo}
+use Rattle.turn_lock.specs.Tokens.{Named}
 use Rattle.call_history.specs.Callers.{calls_of}
 use Rattle.call_history.specs.Clients.{Seat, seen_of, mine_of, number_of, retired_of, KnowsItsOwn, SeesMore}
 use Rattle.call_history.specs.ClientLaws.{begins-itself, begins-both}
 use Rattle.call_history.specs.Timed.{IsTimed}
+use Rattle.notify_hub.specs.Hubs.{Following}
+use Rattle.notify_hub.specs.Places.{HavePlaces}
 use Rattle.script_lines.specs.declared.lines.Line.{Line}
 use Rattle.script_text.specs.declared.scripts.Script.{Script}
 use Rattle.script_text.specs.Follows.{lines_of}
 use Rattle.script_asks.specs.declared.given.Given.{Given}
-use Rattle.script_asks.specs.Plays.{Plays, PlaysPart, names_by, setup_names}
+use Rattle.script_asks.specs.Plays.{Plays, names_by, setup_names}
 use Rattle.attendant.specs.declared.reaper.Held.{Held}
 use Rattle.attendant.specs.declared.reaper.Hand.{Hand}
 use Rattle.attendant.specs.Acts.{acts_of, own_acts, Each, is_launched}
-use Rattle.attendant.specs.Posts.{Post, acts_at, FailsWithin}
+use Rattle.attendant.specs.Posts.{Post, FailsWithin}
 use Rattle.attendant.specs.Runs.{is_ended, owed}
-use Rattle.attendant.specs.Outside.{Tends, Keeps, Tells, AgreesOf, IsHeldUp, out_of_memory, full_at_launch, full_at_order, full_at_answer, EndsSettled, IsLaunchersEntry, IsReapersEntry}
+use Rattle.attendant.specs.Outside.{Keeps, Tells, AgreesOf, IsHeldUp, out_of_memory, full_at_launch, full_at_order, full_at_answer, EndsSettled, IsLaunchersEntry, IsReapersEntry}
 use Rattle.attendant.specs.Whole.{AgreesWithOutside, AreAlone}
 use Rattle.block_play.specs.declared.stops.Stopped.{Stopped}
 use Rattle.block_play.specs.declared.stops.Stopped.TheVariants as stopped
@@ -52,13 +53,16 @@ use Rattle.block_play.specs.Played.{IsFullFor}
 use Rattle.script_journals.specs.Calls.{IsClientsEntry}
 use Rattle.thread_play.specs.declared.firsts.First.{First}
 use Rattle.thread_play.specs.declared.workers.Worker.{Worker}
+use Rattle.thread_play.specs.Hubs.{FollowsAll, HearRun}
 use Rattle.thread_play.specs.Stages.{StopsAt, PlaysOn, IsFirst}
-use Rattle.thread_play.specs.Others.{IsBack, IsEnded, IsFullAtEnd, by_attendant, by_client, EndsWhole, Ends, Others}
-use Rattle.thread_play.specs.Runs.{IsForThreads, launcher_of, reaper_of, names_given, IsRun, PlaysAll, IsSettledAt, IsCutShort, PlaysUpTo, MeetsSize, IsMet, by_block, by_launch, by_order, by_answer, AreAsked, IsStopped, in_setup, behind_setup, IsWhole, EndsBy, HasRun}
+use Rattle.thread_play.specs.Others.{IsFullAtEnd, by_attendant, by_client, Ends, Others}
+use Rattle.thread_play.specs.Runs.{launcher_of, reaper_of, hub_of, names_given, IsRun, PlaysAll, IsSettledAt, IsCutShort, PlaysUpTo, MeetsSize, IsMet, by_block, by_launch, by_order, by_answer, AreAsked, in_setup, behind_setup, EndsBy, HasRun}
 use Rattle.thread_play.proofs.Lists.{at-between, at-front, length-mapped, map-at, some-item}
-use Rattle.thread_play.proofs.Beginnings.{calls-append, calls-begin, begins-shorter, none-before, alone, nothing-after}
+use Rattle.thread_play.proofs.Beginnings.{calls-append, calls-begin, begins-shorter, alone, nothing-after}
 use Rattle.thread_play.proofs.Clients.{Lists, own_lists}
 use Rattle.thread_play.proofs.Callers.{by-caller, are-alone}
+use Rattle.thread_play.proofs.Hearing.{NoneRegisters, hear-run}
+use Rattle.thread_play.proofs.Posts.{none-timed}
 
 -- what the machine that is had back says of its history
 pub record IsClosed (config : Config) (o : Seat) (history : List Entry) : Type 0 where
@@ -134,6 +138,13 @@ module _ {C : Type 0} (given : C → Option (List ℕ)) (s : Script) (shared : N
             (λ k above. none k (omega arith)) refl (ap length are);
       }
 
+  -- the hub that follows setup has followed the run
+  pub stopped-heard : {B : Type 0} (hub : Following B) (asked : Option (List Asked)) (fate : ℕ → Fate) (size : ℕ) (clocks : List C) → NoneRegisters s → HasRun given s history asked asked fate clocks (Some size)
+      → FollowsAll shared first.own hub → HavePlaces first.own hub.ears.places → HearRun s.config history hub
+  stopped-heard hub asked fate size clocks none r follows placed =
+      hear-run given s history asked asked fate clocks none shared first.own hub (Some size) r config_is (sym (alone history first-others) ∙ first-own) follows
+      (subst (λ (es : List Entry). HavePlaces es hub.ears.places) (sym first-own) placed)
+
 -- ---- a run behind setup
 
 last-of : (config : Config) (history : List Entry) (before : Option (List ℕ)) (at : ℕ) (after : Option (List ℕ)) → Reads before at after → settled (advance (replay config history) at).plan ≡ true → IfSome after (IsSettledAt config history)
@@ -208,11 +219,11 @@ module _ {C T : Type 0} (given : C → Option (List ℕ)) (told : T → Option T
   front-size : length (Some first.own ∷ own_lists x.ws) ≡ length s.clients + 1
   front-size = let a = length-mapped (λ (w : Worker C). Some (mine_of w.client)) x.ws in let b = x.count in omega arith
 
-  shape : retired_of p ≡ (Some first.own ∷ own_lists x.ws) ++ Some (mine_of x.launcher.client) ∷ Some (mine_of x.reaping) ∷ []
-  shape = x.retired ∙ ap (λ (l : Lists). l ++ (own_lists x.ws ++ Some (mine_of x.launcher.client) ∷ Some (mine_of x.reaping) ∷ [])) first.retired
+  shape : retired_of p ≡ (Some first.own ∷ own_lists x.ws) ++ Some (mine_of x.launcher.client) ∷ Some (mine_of x.reaping) ∷ Some (mine_of x.pass) ∷ []
+  shape = x.retired ∙ ap (λ (l : Lists). l ++ (own_lists x.ws ++ Some (mine_of x.launcher.client) ∷ Some (mine_of x.reaping) ∷ Some (mine_of x.pass) ∷ [])) first.retired
 
   pub none-left : left_of (retired_of p) ≡ 0
-  none-left = ap (λ (l : Lists). left_of l) shape ∙ left-own x.ws (Some (mine_of x.launcher.client) ∷ Some (mine_of x.reaping) ∷ [])
+  none-left = ap (λ (l : Lists). left_of l) shape ∙ left-own x.ws (Some (mine_of x.launcher.client) ∷ Some (mine_of x.reaping) ∷ Some (mine_of x.pass) ∷ [])
 
   module _ (history : List Entry) (laws : Laws s) (config_is : shared.fixed ≡ s.config) (closed : IsClosed shared.fixed p history) where
     -- ---- the entries of each caller
@@ -226,28 +237,46 @@ module _ {C T : Type 0} (given : C → Option (List ℕ)) (told : T → Option T
         let size = length-mapped (λ (w : Worker C). Some (mine_of w.client)) x.ws in
         closed.lists (i + 1) (mine_of (slice_index_or x.ws i d).client)
         (ap (λ (l : Lists). slice_index_or l (i + 1) None) shape
-        ∙ (ap (λ (k : ℕ). slice_index_or ((Some first.own ∷ own_lists x.ws) ++ Some (mine_of x.launcher.client) ∷ Some (mine_of x.reaping) ∷ []) k None) next
-        ∙ (at-front (own_lists x.ws) (Some (mine_of x.launcher.client) ∷ Some (mine_of x.reaping) ∷ []) None i (omega arith)
+        ∙ (ap (λ (k : ℕ). slice_index_or ((Some first.own ∷ own_lists x.ws) ++ Some (mine_of x.launcher.client) ∷ Some (mine_of x.reaping) ∷ Some (mine_of x.pass) ∷ []) k None) next
+        ∙ (at-front (own_lists x.ws) (Some (mine_of x.launcher.client) ∷ Some (mine_of x.reaping) ∷ Some (mine_of x.pass) ∷ []) None i (omega arith)
         ∙ map-at (λ (w : Worker C). Some (mine_of w.client)) x.ws i d None below)))
 
     of-launcher : calls_of history (length s.clients + 1) ≡ mine_of x.launcher.client
     of-launcher = closed.lists (length s.clients + 1) (mine_of x.launcher.client)
         (ap (λ (l : Lists). slice_index_or l (length s.clients + 1) None) shape
-        ∙ at-between (Some first.own ∷ own_lists x.ws) (Some (mine_of x.launcher.client)) None (Some (mine_of x.reaping) ∷ []) (length s.clients + 1) (sym front-size))
+        ∙ at-between (Some first.own ∷ own_lists x.ws) (Some (mine_of x.launcher.client)) None (Some (mine_of x.reaping) ∷ Some (mine_of x.pass) ∷ []) (length s.clients + 1) (sym front-size))
 
     of-reaper : calls_of history (length s.clients + 2) ≡ mine_of x.reaping
     of-reaper =
         let longer = length-append (Some first.own ∷ own_lists x.ws) (Some (mine_of x.launcher.client) ∷ []) in
         let size = front-size in
         closed.lists (length s.clients + 2) (mine_of x.reaping)
-        (ap (λ (l : Lists). slice_index_or l (length s.clients + 2) None) (shape ∙ sym (append_assoc (Some first.own ∷ own_lists x.ws) (Some (mine_of x.launcher.client) ∷ []) (Some (mine_of x.reaping) ∷ [])))
-        ∙ at-between ((Some first.own ∷ own_lists x.ws) ++ Some (mine_of x.launcher.client) ∷ []) (Some (mine_of x.reaping)) None [] (length s.clients + 2) (omega arith))
+        (ap (λ (l : Lists). slice_index_or l (length s.clients + 2) None) (shape ∙ sym (append_assoc (Some first.own ∷ own_lists x.ws) (Some (mine_of x.launcher.client) ∷ []) (Some (mine_of x.reaping) ∷ Some (mine_of x.pass) ∷ [])))
+        ∙ at-between ((Some first.own ∷ own_lists x.ws) ++ Some (mine_of x.launcher.client) ∷ []) (Some (mine_of x.reaping)) None (Some (mine_of x.pass) ∷ []) (length s.clients + 2) (omega arith))
+
+    -- the hub's client made none
+    of-hub : calls_of history (length s.clients + 3) ≡ []
+    of-hub =
+        let both : Lists = (Some first.own ∷ own_lists x.ws) ++ Some (mine_of x.launcher.client) ∷ Some (mine_of x.reaping) ∷ [] in
+        let size = front-size in
+        let longer : length both ≡ length (Some first.own ∷ own_lists x.ws) + 2 = length-append (Some first.own ∷ own_lists x.ws) (Some (mine_of x.launcher.client) ∷ Some (mine_of x.reaping) ∷ []) in
+        closed.lists (length s.clients + 3) (mine_of x.pass)
+        (ap (λ (l : Lists). slice_index_or l (length s.clients + 3) None)
+        (shape ∙ sym (append_assoc (Some first.own ∷ own_lists x.ws) (Some (mine_of x.launcher.client) ∷ Some (mine_of x.reaping) ∷ []) (Some (mine_of x.pass) ∷ [])))
+        ∙ at-between both (Some (mine_of x.pass)) None [] (length s.clients + 3) (omega arith))
+        ∙ x.pass_mine
+
+    beyond-hub : (k : ℕ) → length s.clients + 3 < k → calls_of history k ≡ []
+    beyond-hub k above = closed.strangers k (
+        let a = ap length shape in
+        let b = length-append (Some first.own ∷ own_lists x.ws) (Some (mine_of x.launcher.client) ∷ Some (mine_of x.reaping) ∷ Some (mine_of x.pass) ∷ []) in
+        let c = front-size in omega arith)
 
     of-others : (k : ℕ) → length s.clients + 2 < k → calls_of history k ≡ []
-    of-others k above = closed.strangers k (
-        let a = ap length shape in
-        let b = length-append (Some first.own ∷ own_lists x.ws) (Some (mine_of x.launcher.client) ∷ Some (mine_of x.reaping) ∷ []) in
-        let c = front-size in omega arith)
+    of-others k above = ⊎_elim
+        (λ (is : k ≡ length s.clients + 3). ap (λ (n : ℕ). calls_of history n) is ∙ of-hub)
+        (λ (other : k ≡ length s.clients + 3 → ⊥). beyond-hub k (omega arith))
+        (cases_eq k (length s.clients + 3))
 
     -- ---- what stands in beginnings
 
@@ -260,23 +289,27 @@ module _ {C T : Type 0} (given : C → Option (List ℕ)) (told : T → Option T
     client-known : (i : ℕ) (d : Worker C) → i < length x.ws → BeginsWith history (seen_of (slice_index_or x.ws i d).client)
     client-known i d below = begins-both (seen_of (slice_index_or x.ws i d).client) (seen_of x.launcher.client) history (x.known_clients i d below) known
 
-    enough : (k : ℕ) (seen : List Entry) → BeginsWith (seen_of x.launcher.client) seen → calls_of history k ≡ calls_of seen k → length (calls_of history k) ≤ length (calls_of (seen_of x.launcher.client) k)
-    enough k seen b same = let e = ap length same in let h = begins-shorter (calls_of (seen_of x.launcher.client) k) (calls_of seen k) (calls-begin (seen_of x.launcher.client) seen k b) in omega arith
+    enough : (top : List Entry) (k : ℕ) (seen : List Entry) → BeginsWith top seen → calls_of history k ≡ calls_of seen k → length (calls_of history k) ≤ length (calls_of top k)
+    enough top k seen b same = let e = ap length same in let h = begins-shorter (calls_of top k) (calls_of seen k) (calls-begin top seen k b) in omega arith
 
-    all-seen : BeginsWith (seen_of x.launcher.client) (seen_of x.reaping) → history ≡ seen_of x.launcher.client
-    all-seen reaped = nothing-after history (seen_of x.launcher.client) known
-        (by-caller (λ k. length (calls_of history k) ≤ length (calls_of (seen_of x.launcher.client) k)) (length s.clients)
-        (enough 0 first.own (begins-both first.own (seen_of o) (seen_of x.launcher.client) first.seen x.known_first) (of-setup ∙ sym first.alone))
+    -- what the launcher's client and the reaper's have seen is all
+    all-within : (top : List Entry) → BeginsWith history top → BeginsWith top (seen_of x.launcher.client) → BeginsWith top (seen_of x.reaping) → history ≡ top
+    all-within top within launched reaped = nothing-after history top within
+        (by-caller (λ k. length (calls_of history k) ≤ length (calls_of top k)) (length s.clients)
+        (enough top 0 first.own (begins-both first.own (seen_of x.launcher.client) top (begins-both first.own (seen_of o) (seen_of x.launcher.client) first.seen x.known_first) launched) (of-setup ∙ sym first.alone))
         (λ i h. let below : i < length x.ws = (let c = x.count in omega arith) in
         let d = some-item x.ws i below in
         let b = (x.clients i d below).back in
-        enough (i + 1) (seen_of (slice_index_or x.ws i d).client) (x.known_clients i d below)
+        enough top (i + 1) (seen_of (slice_index_or x.ws i d).client) (begins-both (seen_of (slice_index_or x.ws i d).client) (seen_of x.launcher.client) top (x.known_clients i d below) launched)
         (of-client i d below ∙ (b.own ∙ ap (λ (k : ℕ). calls_of (seen_of (slice_index_or x.ws i d).client) k) b.number_is)))
-        (enough (length s.clients + 1) (seen_of x.launcher.client) (begins-itself (seen_of x.launcher.client))
+        (enough top (length s.clients + 1) (seen_of x.launcher.client) launched
         (of-launcher ∙ (x.launcher_back.own ∙ ap (λ (k : ℕ). calls_of (seen_of x.launcher.client) k) x.launcher_back.number_is)))
-        (enough (length s.clients + 2) (seen_of x.reaping) reaped
+        (enough top (length s.clients + 2) (seen_of x.reaping) reaped
         (of-reaper ∙ (x.reaping_back.own ∙ ap (λ (k : ℕ). calls_of (seen_of x.reaping) k) x.reaping_back.number_is)))
         (λ k above. let e = ap length (of-others k above) in omega arith))
+
+    all-seen : BeginsWith (seen_of x.launcher.client) (seen_of x.reaping) → history ≡ seen_of x.launcher.client
+    all-seen reaped = all-within (seen_of x.launcher.client) known (begins-itself (seen_of x.launcher.client)) reaped
 
     -- ---- the run
 
@@ -303,37 +336,37 @@ module _ {C T : Type 0} (given : C → Option (List ℕ)) (told : T → Option T
 
     -- ---- the clocks
 
-    clocks-size : length clocks ≡ length s.clients + 3
+    clocks-size : length clocks ≡ length s.clients + 4
     clocks-size =
         let a = ap length x.clocks_are in
-        let b = length-append (map (λ (w : Worker C). w.clock) x.ws) (x.launcher_clock ∷ x.reaping_clock ∷ []) in
+        let b = length-append (map (λ (w : Worker C). w.clock) x.ws) (x.launcher_clock ∷ x.reaping_clock ∷ x.pass_clock ∷ []) in
         let c = length-mapped (λ (w : Worker C). w.clock) x.ws in
         let d = x.count in omega arith
 
     -- a clock at a place, as a list that is indexed has it
-    at-place : (k : ℕ) (c : C) → slice_get clocks k ≡ Some c → slice_index_or (f.clock ∷ (map (λ (w : Worker C). w.clock) x.ws ++ x.launcher_clock ∷ x.reaping_clock ∷ [])) k c ≡ c
+    at-place : (k : ℕ) (c : C) → slice_get clocks k ≡ Some c → slice_index_or (f.clock ∷ (map (λ (w : Worker C). w.clock) x.ws ++ x.launcher_clock ∷ x.reaping_clock ∷ x.pass_clock ∷ [])) k c ≡ c
     at-place k c at = ap (λ (l : List C). slice_index_or l k c) (sym x.clocks_are) ∙ get_or_from_slice_get clocks k c c at
 
     launcher-place : (c : C) → slice_get clocks (length s.clients + 1) ≡ Some c → x.launcher_clock ≡ c
     launcher-place c at =
         let size = length-mapped (λ (w : Worker C). w.clock) x.ws in
         let count = x.count in
-        sym (at-between (f.clock ∷ map (λ (w : Worker C). w.clock) x.ws) x.launcher_clock c (x.reaping_clock ∷ []) (length s.clients + 1) (omega arith)) ∙ at-place (length s.clients + 1) c at
+        sym (at-between (f.clock ∷ map (λ (w : Worker C). w.clock) x.ws) x.launcher_clock c (x.reaping_clock ∷ x.pass_clock ∷ []) (length s.clients + 1) (omega arith)) ∙ at-place (length s.clients + 1) c at
 
     reaper-place : (c : C) → slice_get clocks (length s.clients + 2) ≡ Some c → x.reaping_clock ≡ c
     reaper-place c at =
         let size = length-mapped (λ (w : Worker C). w.clock) x.ws in
         let count = x.count in
         let longer = length-append (f.clock ∷ map (λ (w : Worker C). w.clock) x.ws) (x.launcher_clock ∷ []) in
-        sym (ap (λ (l : List C). slice_index_or l (length s.clients + 2) c) (sym (append_assoc (f.clock ∷ map (λ (w : Worker C). w.clock) x.ws) (x.launcher_clock ∷ []) (x.reaping_clock ∷ [])))
-        ∙ at-between ((f.clock ∷ map (λ (w : Worker C). w.clock) x.ws) ++ x.launcher_clock ∷ []) x.reaping_clock c [] (length s.clients + 2) (omega arith)) ∙ at-place (length s.clients + 2) c at
+        sym (ap (λ (l : List C). slice_index_or l (length s.clients + 2) c) (sym (append_assoc (f.clock ∷ map (λ (w : Worker C). w.clock) x.ws) (x.launcher_clock ∷ []) (x.reaping_clock ∷ x.pass_clock ∷ [])))
+        ∙ at-between ((f.clock ∷ map (λ (w : Worker C). w.clock) x.ws) ++ x.launcher_clock ∷ []) x.reaping_clock c (x.pass_clock ∷ []) (length s.clients + 2) (omega arith)) ∙ at-place (length s.clients + 2) c at
 
     client-place : (i : ℕ) (d : Worker C) → i < length x.ws → (c : C) → slice_get clocks (i + 1) ≡ Some c → (slice_index_or x.ws i d).clock ≡ c
     client-place i d below c at =
         let next : i + 1 ≡ suc i = omega arith in
         let size = length-mapped (λ (w : Worker C). w.clock) x.ws in
-        sym (ap (λ (k : ℕ). slice_index_or (f.clock ∷ (map (λ (w : Worker C). w.clock) x.ws ++ x.launcher_clock ∷ x.reaping_clock ∷ [])) k c) next
-        ∙ (at-front (map (λ (w : Worker C). w.clock) x.ws) (x.launcher_clock ∷ x.reaping_clock ∷ []) c i (omega arith)
+        sym (ap (λ (k : ℕ). slice_index_or (f.clock ∷ (map (λ (w : Worker C). w.clock) x.ws ++ x.launcher_clock ∷ x.reaping_clock ∷ x.pass_clock ∷ [])) k c) next
+        ∙ (at-front (map (λ (w : Worker C). w.clock) x.ws) (x.launcher_clock ∷ x.reaping_clock ∷ x.pass_clock ∷ []) c i (omega arith)
         ∙ map-at (λ (w : Worker C). w.clock) x.ws i d c below)) ∙ at-place (i + 1) c at
 
     timed-by : (k : ℕ) (own : List Entry) (mine c : C) → IsTimed own (given mine) → mine ≡ c → calls_of history k ≡ own → IsTimed (calls_of history k) (given c)
@@ -348,7 +381,7 @@ module _ {C T : Type 0} (given : C → Option (List ℕ)) (told : T → Option T
         (λ c at. timed-by (length s.clients + 1) (mine_of x.launcher.client) x.launcher_clock c
         (subst (λ (g : Option (List ℕ)). IsTimed (mine_of x.launcher.client) g) (sym x.launcher_given) x.launcher_back.timed) (launcher-place c at) of-launcher)
         (λ c at. timed-by (length s.clients + 2) (mine_of x.reaping) x.reaping_clock c x.reaping_back.timed (reaper-place c at) of-reaper)
-        (λ k above c at. absurd (let h = slice_get_within clocks k c at in let z = clocks-size in omega arith))
+        (λ k above c at. none-timed (given c) (calls_of history k) (of-others k above))
 
     -- ---- the blocks
 
@@ -417,7 +450,7 @@ module _ {C T : Type 0} (given : C → Option (List ℕ)) (told : T → Option T
 
     -- ---- the ends
 
-    callers-are : length clocks ≡ reaper_of s + 1
+    callers-are : length clocks ≡ hub_of s + 1
     callers-are = let z = clocks-size in omega arith
 
     cut-client : (size i : ℕ) (d : Worker C) → i < length x.ws → (slice_index_or x.ws i d).ended ≡ Err (stopped.Full size) → IsMet s history size
@@ -457,3 +490,11 @@ module _ {C T : Type 0} (given : C → Option (List ℕ)) (told : T → Option T
         → AgreesOf (Some starts) fate (acts_of (calls_of es (length s.clients + 1))) (acts_of (calls_of es (length s.clients + 2))) → AgreesWithOutside starts fate (acts_of es))
         → HasRun given s history asked asked2 fate clocks full
     has-run law = record { run = is-run; timed = all-timed; ends = ends-of law full refl x.ends }
+
+    -- the hub that follows all callers has followed the run
+    pub heard-run : {B : Type 0} (before hub : Following B) → NoneRegisters s → HasRun given s history asked asked2 fate clocks full → BeginsWith (seen_of p) (seen_of x.pass) → BeginsWith (seen_of x.pass) (seen_of x.launcher.client)
+        → BeginsWith (seen_of x.pass) (seen_of x.reaping) → FollowsAll shared (seen_of x.pass) hub → HavePlaces first.own before.ears.places → hub.ears.places ≡ before.ears.places → HearRun s.config history hub
+    heard-run before hub none r seen launched reaped follows placed same =
+        let all : history ≡ seen_of x.pass = all-within (seen_of x.pass) (begins-both (seen_of x.pass) (seen_of p) history seen closed.seen) launched reaped in
+        hear-run given s history asked asked2 fate clocks none shared (seen_of x.pass) hub full r config_is all follows
+        (subst (λ (es : List Entry). HavePlaces es hub.ears.places) (sym of-setup) (subst (λ (ps : List (Option ℕ)). HavePlaces first.own ps) (sym same) placed))

@@ -1,4 +1,5 @@
 pub mod Runs
+pub mod Hubs
 pub mod Stages
 pub mod Others
 pub mod Pairs

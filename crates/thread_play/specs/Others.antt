@@ -1,19 +1,17 @@
--- What the clients, the launcher and the reaper of a run leave.
-use Rattle.std.specs.Prelude.{◌≡◌, ◌≢◌, ◌⊎◌, ℕ, ◌+◌, ◌<◌, ◌≤◌, List, [], ◌∷◌, ◌++◌, length, map, Option, Some, None, IfSome, Ok, Err, slice_index_or}
+-- What the clients, the launcher, the reaper and the hub of a run leave.
+use Rattle.std.specs.Prelude.{◌≡◌, ◌≢◌, ℕ, ◌+◌, ◌<◌, List, [], ◌∷◌, ◌++◌, length, map, Option, Some, None, Ok, Err, slice_index_or}
 use Rattle.std.specs.List.{slice_get}
 use Rattle.child_spawner.specs.declared.fates.Asked.{Asked}
 use Rattle.child_spawner.specs.declared.fates.Fate.{Fate}
 use Rattle.child_spawner.specs.Children.{Told}
-use Rattle.drmaa_types.specs.declared.refusals.Refusal.{Refusal}
 use Rattle.drmaa_types.specs.declared.refusals.Refusal.TheVariants.{OutOfResource}
 use Rattle.drmaa_types.specs.declared.refusals.Limit.TheVariants as limit
 use Rattle.drmaa_model.specs.declared.configs.Config.{Config}
-use Rattle.drmaa_model.specs.declared.entries.Entry.{Entry}
-use Rattle.drmaa_model.specs.History.{IsLegal}
 use Rattle.turn_lock.specs.Histories.{BeginsWith}
 use Rattle.turn_lock.specs.Tokens.{Named, BelongsTo}
 use Rattle.call_history.specs.Clients.{Seat, seen_of, mine_of, number_of, retired_of, KnowsItsOwn}
 use Rattle.call_history.specs.Timed.{IsTimed}
+use Rattle.notify_hub.specs.Hubs.{Following}
 use Rattle.script_lines.specs.declared.lines.Line.{Line}
 use Rattle.script_text.specs.declared.scripts.Script.{Script}
 use Rattle.script_asks.specs.declared.given.Given.{Given}
@@ -24,6 +22,7 @@ use Rattle.attendant.specs.Posts.{Post}
 use Rattle.attendant.specs.Outside.{Tends, Keeps, AgreesOf, IsHeldUp, EndsSettled}
 use Rattle.block_play.specs.declared.stops.Stopped.TheVariants as stopped
 use Rattle.thread_play.specs.declared.workers.Worker.{Worker}
+use Rattle.thread_play.specs.Hubs.{FollowsAll}
 use Rattle.thread_play.specs.Stages.{PlaysOn}
 
 -- a client that is back, with its number
@@ -55,7 +54,8 @@ abbrev pub Ends : {C : Type 0} → Named Config → ℕ → Seat → List (Worke
 Ends shared number p ws launcher reaping None = EndsWhole shared.fixed ws launcher reaping
 Ends shared number p ws launcher reaping (Some size) = IsFullAtEnd shared number p ws size
 
--- What is left once all are back: each client's entries under its number, then the launcher's and the reaper's.
+-- What is left once all are back: each client's entries under its number, then the launcher's, the reaper's, and those of the hub's
+-- client, which made none.
 pub record Others {C T : Type 0} (given : C → Option (List ℕ)) (told : T → Option Told) (s : Script) (names : List (List ℕ × Given)) (shared : Named Config) (o p : Seat)
     (asked asked_after : Option (List Asked)) (fate : ℕ → Fate) (clocks clocks_after : List C) (full : Option ℕ) : Type 0 where
   pub opener : BelongsTo shared p
@@ -70,8 +70,11 @@ pub record Others {C T : Type 0} (given : C → Option (List ℕ)) (told : T →
   pub reaping : Seat
   pub reaping_clock : C
   pub reaping_back : IsBack (length s.clients + 2) (given reaping_clock) reaping
-  pub retired : retired_of p ≡ retired_of o ++ (map (λ (w : Worker C). Some (mine_of w.client)) ws ++ Some (mine_of launcher.client) ∷ Some (mine_of reaping) ∷ [])
-  pub clocks_are : clocks_after ≡ clocks ++ (map (λ (w : Worker C). w.clock) ws ++ launcher_clock ∷ reaping_clock ∷ [])
+  pub pass : Seat
+  pub pass_clock : C
+  pub pass_mine : mine_of pass ≡ []
+  pub retired : retired_of p ≡ retired_of o ++ (map (λ (w : Worker C). Some (mine_of w.client)) ws ++ Some (mine_of launcher.client) ∷ Some (mine_of reaping) ∷ Some (mine_of pass) ∷ [])
+  pub clocks_are : clocks_after ≡ clocks ++ (map (λ (w : Worker C). w.clock) ws ++ launcher_clock ∷ reaping_clock ∷ pass_clock ∷ [])
   -- the launcher's client has seen what the opener had, and what each client had
   pub known : BeginsWith (seen_of p) (seen_of launcher.client)
   pub known_first : BeginsWith (seen_of launcher.client) (seen_of o)
@@ -83,3 +86,12 @@ pub record Others {C T : Type 0} (given : C → Option (List ℕ)) (told : T →
   pub keeps : asked ≡ Some [] → Keeps told asked_after fate (own_acts launcher.client) (own_acts reaping) at hand
   pub agrees : full ≡ None → asked ≡ Some [] → AgreesOf asked_after fate (own_acts launcher.client) (own_acts reaping)
   pub ends : Ends shared (length s.clients + 2) p ws launcher reaping full
+
+-- The hub's client has seen what the launcher's and the reaper's had, and all changes of that were handed over.
+pub record OthersHeard {B C T : Type 0} (given : C → Option (List ℕ)) (told : T → Option Told) (s : Script) (names : List (List ℕ × Given)) (shared : Named Config) (o p : Seat)
+    (asked asked_after : Option (List Asked)) (fate : ℕ → Fate) (clocks clocks_after : List C) (full : Option ℕ) (hub : Following B) : Type 0 where
+  pub others : Others given told s names shared o p asked asked_after fate clocks clocks_after full
+  pub known : BeginsWith (seen_of p) (seen_of others.pass)
+  pub launcher : BeginsWith (seen_of others.pass) (seen_of others.launcher.client)
+  pub reaping : BeginsWith (seen_of others.pass) (seen_of others.reaping)
+  pub follows : FollowsAll shared (seen_of others.pass) hub

@@ -38,13 +38,16 @@ use Rattle.block_play.specs.Played.{IsFullFor}
 abbrev pub IsForThreads : Script → Type 0
 IsForThreads s = (lines : List (List ℕ)) × Spells mode.Threads lines s
 
--- The callers: the setup block is played by 0 and the clients' blocks by 1 and so on, in their order; then come the launcher and the
--- reaper.
+-- The callers: the setup block is played by 0 and the clients' blocks by 1 and so on, in their order; then come the launcher, the
+-- reaper, and the hub, who makes no call of its own.
 abbrev pub launcher_of : Script → ℕ
 launcher_of s = length s.clients + 1
 
 abbrev pub reaper_of : Script → ℕ
 reaper_of s = length s.clients + 2
+
+abbrev pub hub_of : Script → ℕ
+hub_of s = length s.clients + 3
 
 -- the names that setup gave, by its entries
 abbrev pub names_given : Script → List Entry → List (List ℕ × Given)
@@ -127,7 +130,7 @@ pub data IsStopped (s : Script) (history : List Entry) (asked asked_after : Opti
       → IsStopped s history asked asked_after size callers
   behind_setup : Plays s [] 0 (lines_of s.setup) (calls_of history 0)
       → ((n : ℕ) (block : List Line) → slice_get s.clients n ≡ Some block → PlaysUpTo s (names_given s history) block (n + 1) history)
-      → IsMet s history size → (asked ≡ Some [] → IfSome asked_after (λ starts. AreAsked (acts_of (calls_of history (launcher_of s))) starts)) → callers ≡ reaper_of s + 1
+      → IsMet s history size → (asked ≡ Some [] → IfSome asked_after (λ starts. AreAsked (acts_of (calls_of history (launcher_of s))) starts)) → callers ≡ hub_of s + 1
       → IsStopped s history asked asked_after size callers
 
 -- ---- a run as it is left
@@ -137,7 +140,7 @@ pub data IsStopped (s : Script) (history : List Entry) (asked asked_after : Opti
 -- outside agrees with the history.
 pub record IsWhole {C : Type 0} (given : C → Option (List ℕ)) (s : Script) (history : List Entry) (asked asked_after : Option (List Asked)) (fate : ℕ → Fate) (clocks : List C) : Type 0 where
   pub plays : PlaysAll s history
-  pub callers : length clocks ≡ reaper_of s + 1
+  pub callers : length clocks ≡ hub_of s + 1
   pub quiet : IsQuiet (replay s.config history).plan
   pub rest : (clock : C) → slice_get clocks (launcher_of s) ≡ Some clock → IfSome (given clock) (IsSettledAt s.config history)
   pub outside : asked ≡ Some [] → IfSome asked_after (λ starts. AgreesWithOutside starts fate (acts_of history))

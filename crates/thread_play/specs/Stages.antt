@@ -1,6 +1,7 @@
 -- How a run goes on: what its parts leave.
-use Rattle.std.specs.Prelude.{◌≡◌, ◌≢◌, ◌⊎◌, ℕ, ◌+◌, ◌<◌, List, [], ◌∷◌, ◌++◌, length, replicate, All, map, Option, Some, None, IfSome, IfOk, Result, Ok, Err, slice_index_or, slice_set}
+use Rattle.std.specs.Prelude.{◌≡◌, ℕ, ◌+◌, ◌<◌, List, [], ◌∷◌, ◌++◌, length, replicate, All, Option, Some, None, IfSome, IfOk, Result, Ok, Err, slice_index_or, slice_set}
 use Rattle.std.specs.List.{slice_get}
+use Rattle.drmaa_types.specs.declared.changes.Notification.{Notification}
 use Rattle.drmaa_types.specs.declared.refusals.Refusal.{Refusal}
 use Rattle.drmaa_types.specs.declared.refusals.Refusal.TheVariants.{OutOfResource}
 use Rattle.drmaa_types.specs.declared.refusals.Limit.TheVariants as limit
@@ -12,6 +13,7 @@ use Rattle.turn_lock.specs.Tokens.{Named, BelongsTo, IsFree}
 use Rattle.call_history.specs.Callers.{calls_of}
 use Rattle.call_history.specs.Clients.{Seat, seen_of, mine_of, number_of, retired_of, KnowsItsOwn, IsStillAt}
 use Rattle.call_history.specs.Timed.{IsTimed}
+use Rattle.notify_hub.specs.Hubs.{Following}
 use Rattle.script_lines.specs.declared.lines.Line.{Line}
 use Rattle.script_text.specs.declared.scripts.Script.{Script}
 use Rattle.script_text.specs.Follows.{lines_of}
@@ -20,6 +22,7 @@ use Rattle.script_asks.specs.Plays.{Plays, names_by, setup_names}
 use Rattle.block_play.specs.declared.stops.Stopped.{Stopped}
 use Rattle.block_play.specs.declared.stops.Stopped.TheVariants as stopped
 use Rattle.block_play.specs.Played.{IsFullFor}
+use Rattle.thread_play.specs.Hubs.{HearSetup}
 use Rattle.thread_play.specs.declared.firsts.First.{First}
 use Rattle.thread_play.specs.declared.workers.Worker.{Worker}
 
@@ -53,6 +56,11 @@ pub record IsFirst {C : Type 0} (given : C → Option (List ℕ)) (s : Script) (
   pub timed : IsTimed own (given f.clock)
   pub played : PlaysOn shared.fixed s [] (lines_of s.setup) own own f.played
   pub names : IfOk f.played (λ names. names ≡ setup_names s own)
+
+-- The hub's callbacks heard all of it.
+pub record IsFirstHeard {B C : Type 0} (counted : B → ℕ) (told : B → Option (List Notification)) (given : C → Option (List ℕ)) (s : Script) (shared : Named Config) (o : Seat) (f : First C) (hub hub_after : Following B) : Type 0 where
+  pub first : IsFirst given s shared o f
+  pub hears : HearSetup counted told shared first.own hub hub_after
 
 -- ---- clients
 

@@ -1,12 +1,14 @@
 //! The play of the setup block.
-ghost use Rattle.std.specs.Prelude.{◌≡◌, []};
+ghost use Rattle.std.specs.Prelude.{◌≡◌, ◌<◌, ◌^◌, [], None};
 ghost use Rattle.turn_lock.specs.Tokens.{BelongsTo};
 ghost use Rattle.call_history.specs.Clients.{retired_of};
-ghost use Rattle.thread_play.specs.Stages.{IsFirst};
+ghost use Rattle.thread_play.specs.Stages.{IsFirstHeard};
 
+use crate::passes::{Pass, pump_once};
 use block_play::{Names, Stopped, play_setup};
 use call_history::{Bell, Desk, MachineOpener, SharedMachine};
 use drmaa_types::{CallerId, Clocks};
+use notify_hub::{Callback, Hub};
 use script_text::Script;
 use std::alloc::Global;
 use std::sync::Wait;
@@ -19,8 +21,9 @@ pub(crate) struct First<C> {
     pub played: Result<Names, Stopped>,
 }
 
-/// Plays the setup block by a client of its own, and takes it back.
-pub(crate) fn play_first<R: Wait + Pause, K: Clocks>(
+/// Plays the setup block by a client of its own, by whose lines the hub's callbacks are registered, hands them over what it changed
+/// behind their places, and takes the client back.
+pub(crate) fn play_first<R: Wait + Pause, K: Clocks, B: Callback>(
     rt: &R,
     alloc: Global,
     script: &Script,
@@ -28,10 +31,13 @@ pub(crate) fn play_first<R: Wait + Pause, K: Clocks>(
     opener: &mut MachineOpener,
     clocks: &K,
     bell: &Bell,
+    hub: &mut Hub<B>,
 ) -> First<K::One>
     requires opener { BelongsTo shared.now opener.old }
     requires fresh { retired_of opener.old ≡ [] }
-    ensures { IsFirst K.One.given script.now shared.now opener.new result }
+    requires note { hub.old.note ≡ None }
+    requires size { shared.now.fixed.journal < 2 ^ 64 }
+    ensures { IsFirstHeard B.counted B.told K.One.given script.now shared.now opener.new result hub.old hub.new }
 {
     let mut desk = Desk {
         shared,
@@ -39,8 +45,11 @@ pub(crate) fn play_first<R: Wait + Pause, K: Clocks>(
         clock: clocks.clock(CallerId(0)),
         bell,
     };
-    let played = play_setup(rt, alloc, script, &mut desk);
+    let played = play_setup(rt, alloc, script, &mut desk, hub);
     let Desk { client, clock, .. } = desk;
+    let mut pass = Pass { client, clock };
+    pump_once(rt, shared, hub, &mut pass);
+    let Pass { client, clock } = pass;
     shared.retire(opener, client);
     First { clock, played }
 }

@@ -6,6 +6,7 @@ mod ends;
 mod firsts;
 mod laws;
 mod pairs;
+mod passes;
 mod runs;
 mod workers;
 

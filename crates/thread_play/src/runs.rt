@@ -1,17 +1,21 @@
 //! The run of a script.
-ghost use Rattle.std.specs.Prelude.{◌≡◌, ◌+◌, ◌≤◌, ◌++◌, ◌∷◌, [], length, IfOk, vec_len, vec_capacity};
+ghost use Rattle.std.specs.Prelude.{◌≡◌, ◌+◌, ◌<◌, ◌≤◌, ◌^◌, ◌++◌, ◌∷◌, [], length, None, IfOk, vec_len, vec_capacity};
 ghost use Rattle.slab.specs.Slab.{get};
 ghost use Rattle.drmaa_model.specs.History.{IsLegal};
 ghost use Rattle.turn_lock.specs.Tokens.{BelongsTo};
 ghost use Rattle.call_history.specs.Clients.{seen_of, retired_of};
+ghost use Rattle.notify_hub.specs.Ears.{HaveHeard};
+ghost use Rattle.notify_hub.specs.Hubs.{IsNoteOf};
+ghost use Rattle.thread_play.specs.Hubs.{HearRun, KeepsCallbacks};
 ghost use Rattle.thread_play.specs.Runs.{IsForThreads, HasRun};
 ghost use Rattle.thread_play.specs.Pairs.{ArePlaced, HasEnded, AreReleased};
-ghost use Rattle.thread_play.specs.Others.{Others};
+ghost use Rattle.thread_play.specs.Others.{OthersHeard};
 
 use crate::crews::play_beside;
 use crate::ends::{dismiss, stopped_by, worse};
 use crate::firsts::{First, play_first};
 use crate::pairs::{Attended, Pair, settle};
+use crate::passes::{Pass, end_pass, pump_last};
 use crate::workers::hire;
 use attendant::{Reaper, nothing_is_kept, the_outside_agrees};
 use block_play::{Names, Stopped};
@@ -21,7 +25,8 @@ use drmaa_model::{
     a_legal_history_leads_to_a_consistent_world, a_settled_plan_is_quiet, each_prefix_is_legal,
 };
 use drmaa_types::{CallerId, Clock, Clocks, ListOf};
-use script_journals::no_client_asks_what_the_attendant_asks;
+use notify_hub::{Callback, Hub};
+use script_journals::{no_client_asks_what_the_attendant_asks, no_client_registers};
 use script_play::{copy_of, each_script_can_be_played};
 use script_text::Script;
 use std::alloc::{AllocError, Global};
@@ -39,7 +44,8 @@ pub struct Run<C> {
     pub machine: Machine,
     /// The size that the journal would have had by a step that was not made. None where each block was played whole.
     pub full: Option<u64>,
-    /// The clocks of the callers that there were: of the setup block, of the clients' blocks, of the launcher and of the reaper.
+    /// The clocks of the callers that there were: of the setup block, of the clients' blocks, of the launcher, of the reaper and of
+    /// the hub.
     pub clocks: ClockList<C>,
 }
 
@@ -76,6 +82,7 @@ fn release<C: Drop>(
     requires room { vec_len clocks.old + 2 ≤ vec_capacity clocks.old }
     ensures back { AreReleased shared.now opener.old opener.new pair }
     ensures clocks { clocks.new.items ≡ (clocks.old.items ++ pair.launcher_clock ∷ []) ++ pair.reaping_clock ∷ [] }
+    ensures capacity { vec_capacity clocks.new ≡ vec_capacity clocks.old }
 {
     let Pair {
         launcher,
@@ -95,7 +102,7 @@ fn release<C: Drop>(
 /// # Errors
 ///
 /// Want of memory, of any of them.
-fn play_others<R: Threads + Wait + Pause + Sync, K: Clocks, S: Spawner + Send>(
+fn play_others<R: Threads + Wait + Pause + Sync, K: Clocks, S: Spawner + Send, B: Callback + Send>(
     rt: &R,
     alloc: Global,
     script: &Script,
@@ -105,16 +112,20 @@ fn play_others<R: Threads + Wait + Pause + Sync, K: Clocks, S: Spawner + Send>(
     clocks: &K,
     spawner: &mut S,
     bell: &Bell,
+    hub: &mut Hub<B>,
     given: &mut Vec<K::One>,
 ) -> Result<Option<u64>, AllocError>
     requires opener { BelongsTo shared.now opener.old }
     requires first { length (retired_of opener.old) ≡ 1 }
     requires legal { IsLegal shared.now.fixed (seen_of opener.old) }
     requires few { length script.now.clients ≤ 32 }
-    requires room { vec_len given.old + length script.now.clients + 2 ≤ vec_capacity given.old }
+    requires room { vec_len given.old + length script.now.clients + 3 ≤ vec_capacity given.old }
+    requires note { IsNoteOf shared.now hub.old.note }
+    requires size { shared.now.fixed.journal < 2 ^ 64 }
     ensures fates { S.fate spawner.new ≡ S.fate spawner.old }
-    ensures others { IfOk result (λ full. Others K.One.given S.One.told script.now names.now shared.now opener.old opener.new
-        (S.asked spawner.old) (S.asked spawner.new) (S.fate spawner.new) given.old.items given.new.items full) }
+    ensures kept { KeepsCallbacks B.counted B.told hub.old hub.new }
+    ensures others { IfOk result (λ full. OthersHeard K.One.given S.One.told script.now names.now shared.now opener.old opener.new
+        (S.asked spawner.old) (S.asked spawner.new) (S.fate spawner.new) given.old.items given.new.items full hub.new) }
 {
     let mut workers = hire(alloc, script, shared, opener, clocks)?;
     let number = script.clients.as_slice().len() as u32 + 1;
@@ -123,6 +134,10 @@ fn play_others<R: Threads + Wait + Pause + Sync, K: Clocks, S: Spawner + Send>(
         launcher_clock: clocks.clock(CallerId(number)),
         reaping: shared.open_client(opener),
         reaping_clock: clocks.clock(CallerId(number + 1)),
+    };
+    let mut pass = Pass {
+        client: shared.open_client(opener),
+        clock: clocks.clock(CallerId(number + 2)),
     };
     let mut reaper = Reaper::new(alloc);
     let (attended, played) = play_beside(
@@ -136,6 +151,8 @@ fn play_others<R: Threads + Wait + Pause + Sync, K: Clocks, S: Spawner + Send>(
         spawner,
         &mut reaper,
         &mut workers,
+        hub,
+        &mut pass,
     );
     played?;
     let Attended { pair, ended } = attended;
@@ -149,7 +166,10 @@ fn play_others<R: Threads + Wait + Pause + Sync, K: Clocks, S: Spawner + Send>(
         worse(None, stopped_by(ended)),
     );
     let (pair, ended) = end_others(rt, shared, bell, pair, spawner, &mut reaper, ended);
+    let mut pair = pair;
+    pump_last(rt, shared, hub, &mut pair, &mut pass);
     release(shared, opener, pair, given);
+    end_pass(shared, opener, pass, given);
     nothing_is_kept::<S::One>();
     match ended {
         None => Ok(None),
@@ -159,41 +179,61 @@ fn play_others<R: Threads + Wait + Pause + Sync, K: Clocks, S: Spawner + Send>(
 }
 
 /// Plays a script: its setup block first; then its clients' blocks, each in a thread of its own, beside launcher and reaper in one,
-/// who start the children of its jobs and report of them. Where a thread can't be started, the caller does its work. It may wait for
-/// good.
+/// who start the children of its jobs and report of them, and beside the hub in one, whose callbacks hear each change of a job's state
+/// behind their Register entries. Where a thread can't be started, the caller does its work. It may wait for good.
 ///
 /// A client stops at the first line that makes no entry for want of memory or the journal's size. Where setup stops so, nobody else
-/// makes a call.
+/// makes a call. The hub is a new one: it has made no call.
 ///
 /// # Errors
 ///
 /// Want of memory, of any caller; then what was asked of the spawner stays.
-pub fn play_threads<R: Threads + Wait + Pause + Sync, K: Clocks, S: Spawner + Send>(
+pub fn play_threads<
+    R: Threads + Wait + Pause + Sync,
+    K: Clocks,
+    S: Spawner + Send,
+    B: Callback + Send,
+>(
     rt: &R,
     alloc: Global,
     script: &Script,
     clocks: &K,
     spawner: &mut S,
     bell: &Bell,
+    hub: &mut Hub<B>,
 ) -> Result<Run<K::One>, AllocError>
-    requires { IsForThreads script.now }
+    requires threads { IsForThreads script.now }
+    requires new { hub.old.note ≡ None }
     ensures config { IfOk result (λ run. run.machine.ledger.config ≡ script.now.config) }
     ensures fates { S.fate spawner.new ≡ S.fate spawner.old }
     ensures run { IfOk result (λ run. HasRun K.One.given script.now run.machine.ledger.history
         (S.asked spawner.old) (S.asked spawner.new) (S.fate spawner.new) run.clocks run.full) }
+    ensures hub { IfOk result (λ run. HearRun script.now.config run.machine.ledger.history hub.new) }
+    ensures begun { hub.new.ears.begun ≡ hub.old.ears.begun }
+    ensures heard { HaveHeard B.counted B.told hub.old.ears → HaveHeard B.counted B.told hub.new.ears }
 {
     each_script_can_be_played();
     each_prefix_is_legal();
     a_legal_history_leads_to_a_consistent_world();
     a_settled_plan_is_quiet();
     no_client_asks_what_the_attendant_asks();
+    no_client_registers();
     the_outside_agrees::<S::One>();
     let config = copy_of(&script.config)?;
-    let mut given = Vec::with_capacity(alloc, script.clients.as_slice().len() + 3)?;
+    let mut given = Vec::with_capacity(alloc, script.clients.as_slice().len() + 4)?;
     let Ok((shared, mut opener)) = SharedMachine::new(alloc, config) else {
         return Err(AllocError);
     };
-    let First { clock, played } = play_first(rt, alloc, script, &shared, &mut opener, clocks, bell);
+    let First { clock, played } = play_first(
+        rt,
+        alloc,
+        script,
+        &shared,
+        &mut opener,
+        clocks,
+        bell,
+        hub,
+    );
     given.push_reserved(clock);
     match played {
         Ok(names) => {
@@ -207,6 +247,7 @@ pub fn play_threads<R: Threads + Wait + Pause + Sync, K: Clocks, S: Spawner + Se
                 clocks,
                 spawner,
                 bell,
+                hub,
                 &mut given,
             )?;
             Ok(Run {

@@ -56,14 +56,14 @@ fn infos(entries: &[Entry]) -> u32 {
     count
 }
 
-/// Asserts that two jobs were run, one of which has not started. Setup, clients, launcher and reaper are five callers.
+/// Asserts that two jobs were run, one of which has not started. Setup, clients, launcher, reaper and the hub are six callers.
 fn assert_night(
     rt: &(impl Abort + AllocGlobal),
     run: &Run<StepClock>,
     spawner: &MemorySpawner,
 ) -> Result<(), Fail> {
     assert_eq!(rt; run.full, None);
-    assert_eq!(rt; run.clocks.as_slice().len(), 5);
+    assert_eq!(rt; run.clocks.as_slice().len(), 6);
     assert!(rt; spawner.told());
     let begun = begun(rt.alloc(), spawner)?;
     assert_eq!(rt; begun.as_slice(), [true, false].as_slice());
@@ -90,10 +90,10 @@ fn two_clients_run_a_job_each(rt: HostRuntime) -> Result<(), Fail> {
     assert_night(&rt, &run, &spawner)
 }
 
-/// Asserts that nothing was called and nothing started. Setup, launcher and reaper have a clock where there are no clients.
+/// Asserts that nothing was called and nothing started. Setup, launcher, reaper and the hub have a clock where there are no clients.
 fn assert_quiet(rt: &impl Abort, run: &Run<StepClock>, spawner: &MemorySpawner) {
     assert_eq!(rt; run.full, None);
-    assert_eq!(rt; run.clocks.as_slice().len(), 3);
+    assert_eq!(rt; run.clocks.as_slice().len(), 4);
     assert!(rt; run.machine.entries().is_empty());
     assert!(rt; spawner.told());
     assert!(rt; spawner.asked().is_empty());

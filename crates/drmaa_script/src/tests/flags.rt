@@ -1,4 +1,4 @@
-//! Two flags, by which a client's clock frees a start that is held.
+//! Two flags, by which a client's clock or a callback frees a start that is held.
 use std::sync::atomic::{AtomicBool, Ordering};
 
 /// How often a start looks whether it may go on.
@@ -36,5 +36,10 @@ impl Flags {
         if self.held.load(Ordering::SeqCst) {
             self.freed.store(true, Ordering::SeqCst);
         }
+    }
+
+    /// Lets who is held go on, and who comes to be held.
+    pub fn let_on(&self) {
+        self.freed.store(true, Ordering::SeqCst);
     }
 }

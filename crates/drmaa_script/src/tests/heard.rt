@@ -1,4 +1,4 @@
-//! What callbacks hear of a play on one thread.
+//! What callbacks hear of a play on one thread, and of a run in threads.
 use crate::commands::run;
 use crate::outcomes::Outcome;
 use crate::tests::{StillClocks, sink, source, words};
@@ -27,6 +27,10 @@ const HEARD: [(u64, JobState); 5] = [
     (2, JobState::Failed),
 ];
 
+/// The setup block registers a callback before the client's job is run. Another callback is registered by no line, and hears nothing.
+const THREADS: &str =
+    "machine 4 \"node1\" suspend\ntemplate t\ncommand \"true\"\nend\nsetup\ncreate-jobs z \"s\"\nregister\nend\nclient\nopen-jobs s \"s\"\nrun j s t\nwait-terminated s infinite j\nend\n";
+
 /// So many callbacks that keep what they hear.
 fn callbacks(alloc: Global, count: usize) -> Result<Callbacks<MemoryCallback>, Fail> {
     let mut callbacks = Vec::new(alloc);
@@ -52,11 +56,12 @@ fn heard_run<E: Threads + Wait + Pause + Sync>(
     rt: &E,
     alloc: Global,
     word: &str,
+    text: &str,
     count: usize,
     sink: &mut MemorySink,
 ) -> Result<(u8, Callbacks<MemoryCallback>), Fail> {
     let words = words(alloc, word)?;
-    let mut source = source(alloc, SCRIPT, &[])?;
+    let mut source = source(alloc, text, &[])?;
     let mut spawner = MemorySpawner::new(alloc, FateList::new(alloc), PlaceList::new(alloc));
     let Outcome {
         status,
@@ -81,7 +86,7 @@ fn heard_run<E: Threads + Wait + Pause + Sync>(
 fn callbacks_hear_what_comes_behind_them(rt: HostRuntime) -> Result<(), Fail> {
     let alloc = rt.alloc();
     let mut sink = sink(alloc, 2000, &[])?;
-    let (status, callbacks) = heard_run(&rt, alloc, "serial", 3, &mut sink)?;
+    let (status, callbacks) = heard_run(&rt, alloc, "serial", SCRIPT, 3, &mut sink)?;
     assert_eq!(rt; status, 0);
     for (callback, count) in callbacks.as_slice().iter().zip([5, 3, 0]) {
         let heard = heard(alloc, callback)?;
@@ -91,16 +96,37 @@ fn callbacks_hear_what_comes_behind_them(rt: HostRuntime) -> Result<(), Fail> {
     Ok(())
 }
 
-/// There are two register lines; where there are fewer callbacks nothing is played.
+/// There are two register lines, and one in the script for threads; where there are fewer callbacks nothing is played.
 #[test]
 fn each_register_line_wants_a_callback(rt: HostRuntime) -> Result<(), Fail> {
     let alloc = rt.alloc();
-    for (word, count, wanted) in [("serial", 1, 2), ("table", 0, 2), ("table", 2, 0)] {
+    for (word, text, count, wanted) in [
+        ("serial", SCRIPT, 1, 2),
+        ("table", SCRIPT, 0, 2),
+        ("table", SCRIPT, 2, 0),
+        ("threads", THREADS, 0, 2),
+    ] {
         let mut sink = sink(alloc, 2000, &[])?;
-        let (status, callbacks) = heard_run(&rt, alloc, word, count, &mut sink)?;
+        let (status, callbacks) = heard_run(&rt, alloc, word, text, count, &mut sink)?;
         assert_eq!(rt; status, wanted);
         assert_eq!(rt; callbacks.as_slice().len(), count);
         assert_eq!(rt; sink.bytes().is_empty(), wanted == 2);
+    }
+    Ok(())
+}
+
+#[test]
+fn a_callback_hears_a_run_in_threads(rt: HostRuntime) -> Result<(), Fail> {
+    let alloc = rt.alloc();
+    let mut sink = sink(alloc, 2000, &[])?;
+    let (status, callbacks) = heard_run(&rt, alloc, "threads", THREADS, 2, &mut sink)?;
+    assert_eq!(rt; status, 0);
+    for (callback, count) in callbacks.as_slice().iter().zip([2, 0]) {
+        let heard = heard(alloc, callback)?;
+        assert_eq!(rt;
+            heard.as_slice(),
+            &[(1, JobState::Running), (1, JobState::Done)][..count]
+        );
     }
     Ok(())
 }

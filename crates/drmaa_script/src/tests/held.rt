@@ -26,7 +26,7 @@ const WAIT: &str =
 
 /// A child that has ended with code 0.
 #[derive(Drop)]
-struct EndedChild;
+pub struct EndedChild;
 
 impl Child for EndedChild {
     ghost faults = { λ _. 0 };
@@ -42,12 +42,23 @@ impl Child for EndedChild {
     }
 }
 
-/// A spawner whose starts are held until a client has read its clock since.
+/// A spawner whose starts are held until its flags let them go on.
 #[derive(Drop)]
-struct HeldSpawner<'a> {
+pub struct HeldSpawner<'a> {
     flags: &'a Flags,
-    starts: u32,
-    freed: bool,
+    pub starts: u32,
+    pub freed: bool,
+}
+
+impl<'a> HeldSpawner<'a> {
+    /// Nothing was started.
+    pub fn new(flags: &'a Flags) -> HeldSpawner<'a> {
+        HeldSpawner {
+            flags,
+            starts: 0,
+            freed: false,
+        }
+    }
 }
 
 impl Spawner for HeldSpawner<'_> {
@@ -119,11 +130,7 @@ fn held<E: Threads + Wait + Pause + Sync>(
     alloc: Global,
     flags: &Flags,
 ) -> Result<(u8, usize, Vec<u8>, u32, bool), Fail> {
-    let mut spawner = HeldSpawner {
-        flags,
-        starts: 0,
-        freed: false,
-    };
+    let mut spawner = HeldSpawner::new(flags);
     let mut source = source(alloc, WAIT, &[])?;
     let mut sink = sink(alloc, 1000, &[])?;
     let (status, clocks) = counted(rt, alloc, flags, &mut source, &mut sink, &mut spawner)?;
@@ -162,7 +169,7 @@ fn counted<E: Threads + Wait + Pause + Sync>(
 fn a_client_plays_while_a_start_is_held(rt: HostRuntime) -> Result<(), Fail> {
     let flags = Flags::new();
     let (status, clocks, journal, starts, freed) = held(&rt, rt.alloc(), &flags)?;
-    assert_eq!(rt; (status, clocks, starts), (0, 4, 1));
+    assert_eq!(rt; (status, clocks, starts), (0, 5, 1));
     assert!(rt; freed);
     assert_eq!(rt; times(journal.as_slice(), " = reached 1\n"), 1);
     is_legal(&rt, rt.alloc(), journal.as_slice())

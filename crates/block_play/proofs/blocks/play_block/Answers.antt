@@ -1,4 +1,4 @@
-use Rattle.std.proofs.Common.{List, ◌++◌, ◌∷◌, [], take, drop, suc, sym, ap, subst}
+use Rattle.std.proofs.Common.{List, take, drop, suc, sym, subst}
 use Rattle.script_lines.specs.declared.lines.Line.{Line}
 use Rattle.call_history.specs.Clients.{mine_of}
 use Rattle.block_play.specs.Played.{PlayedLines}

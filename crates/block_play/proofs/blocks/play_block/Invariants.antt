@@ -1,4 +1,4 @@
-use Rattle.std.proofs.Common.{◌≡◌, take}
+use Rattle.std.proofs.Common.{take}
 use Rattle.call_history.specs.Clients.{mine_of, IsStillAt}
 use Rattle.call_history.specs.Timed.{IsTimed}
 use Rattle.block_play.specs.Played.{PlayedLines}

@@ -1,7 +1,7 @@
-use Rattle.std.proofs.Common.{◌≡◌, length, Result, Err, ◌⊎◌, inl, inr, ap, subst}
+use Rattle.std.proofs.Common.{◌≡◌, length, Result, Err, ◌⊎◌, inl, inr, refl, ap, subst}
 use Rattle.std.proofs.lemmas.Option.{IfSome_then}
 use Rattle.script_asks.specs.Plays.{serial_play}
-use Rattle.script_play.specs.Callbacks.{HearHistory}
+use Rattle.script_play.specs.Callbacks.{HearHistory, HearFront}
 use Rattle.script_text.specs.declared.scripts.Mode.TheVariants as mode
 use Rattle.script_text.specs.declared.scripts.Script.{Script}
 use Rattle.text_lines.specs.Lines.{IsFirstBad}
@@ -9,7 +9,7 @@ use Rattle.drmaa_script.specs.declared.status.Status.{Status}
 use Rattle.drmaa_script.specs.declared.status.Status.TheVariants.{Text, ReadFault, Memory}
 use Rattle.drmaa_script.specs.Outcomes.{SpellsScript, IsScriptText, IsWritten, PlayIsWhole, own_of}
 use Rattle.drmaa_script.specs.Registers.{end_of}
-use Rattle.drmaa_script.proofs.Kept.{kept_same}
+use Rattle.drmaa_script.proofs.Kept.{kept_same, same_front}
 use Rattle.drmaa_script.proofs.Played.{unread_ends, unread_refused, unread_played}
 use Rattle.drmaa_script.proofs.Somes.{some_both, some_all}
 use Rattle.drmaa_script.proofs.plays.run_play.Goals as goal
@@ -51,6 +51,16 @@ returns-in-Ok-clause-heard g c = λ played.
 
 pub returns-in-Err-clause-heard : goal.returns-in-Err-clause-heard
 returns-in-Err-clause-heard g c = λ played. absurd (unread_played c.in-Err.status c.in-Err.ensures.causes played)
+
+pub returns-in-Ok-clause-heard_front : goal.returns-in-Ok-clause-heard_front
+returns-in-Ok-clause-heard_front g c = λ want.
+    IfSome_then (g.R.Source.left c.args.source.now) c.in-Ok.ensures.only (λ bytes only s t.
+    subst (λ (x : Script). HearFront g.B.Callback.counted g.B.Callback.told x.config (serial_play x).entries c.args.callbacks c.play_to.result.callbacks) (only s t) (c.play_to.ensures.heard_front want))
+
+pub returns-in-Err-clause-heard_front : goal.returns-in-Err-clause-heard_front
+returns-in-Err-clause-heard_front g c = λ want.
+    IfSome_then (g.R.Source.left c.args.source.now) c.in-Err.ensures.only (λ bytes only s t.
+    same_front g.B.Callback.counted g.B.Callback.told s.config (serial_play s).entries c.args.callbacks c.args.callbacks refl)
 
 pub returns-in-Err-clause-kept : goal.returns-in-Err-clause-kept
 returns-in-Err-clause-kept g c = kept_same g.B.Callback.counted g.B.Callback.told c.args.callbacks

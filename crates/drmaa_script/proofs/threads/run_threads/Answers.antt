@@ -1,24 +1,32 @@
-use Rattle.std.proofs.Common.{◌≡◌, Result, Err, inl, inr, sym, ap, subst}
+use Rattle.std.proofs.Common.{◌≡◌, ◌⊎◌, ◌<◌, ◌≤◌, length, Result, Err, inl, inr, sym, ap, subst}
 use Rattle.std.proofs.lemmas.Option.{IfSome_then}
 use Rattle.script_text.specs.declared.scripts.Mode.TheVariants as mode
 use Rattle.script_text.specs.declared.scripts.Script.{Script}
 use Rattle.text_lines.specs.Lines.{IsFirstBad}
 use Rattle.drmaa_script.specs.declared.status.Status.{Status}
-use Rattle.drmaa_script.specs.declared.status.Status.TheVariants.{Text, ReadFault}
+use Rattle.drmaa_script.specs.declared.status.Status.TheVariants.{Text, Words, ReadFault, Memory}
 use Rattle.drmaa_script.specs.Outcomes.{SpellsScript, IsScriptText}
 use Rattle.drmaa_script.specs.Runs.{RunEnds, RunIsWhole, IsRunEnd}
+use Rattle.drmaa_script.specs.Registers.{registers_of}
 use Rattle.drmaa_script.proofs.Played.{unread_refused}
-use Rattle.drmaa_script.proofs.Ran.{unread_run}
+use Rattle.drmaa_script.proofs.Ran.{unread_run, ran_ends}
 use Rattle.drmaa_script.proofs.Somes.{some_both, some_all}
 use Rattle.drmaa_script.proofs.threads.run_threads.Goals as goal
 
 err_is : (a b : Status) → a ≡ b → ◌≡◌ {A = Result Script Status} (Err a) (Err b)
 err_is a b e = ap (λ (x : Status). let r : Result Script Status = Err x in r) e
 
+pub returns-in-Ok-clause-ends : goal.returns-in-Ok-clause-ends
+returns-in-Ok-clause-ends g c =
+    IfSome_then (g.R.Source.left c.args.source.now) c.in-Ok.ensures.found (λ bytes spelled.
+    ran_ends g.K.One.Clock.given c.in-Ok.script (g.W.Sink.written c.args.sink.now) (g.W.Sink.written c.run_to.new.sink) (g.S.Spawner.asked c.args.spawner.now) (g.S.Spawner.asked c.run_to.new.spawner) (g.S.Spawner.fate c.run_to.new.spawner)
+    c.run_to.result.clocks g.B.Callback.counted g.B.Callback.told bytes c.args.callbacks c.run_to.result.callbacks c.run_to.result.status spelled c.run_to.ensures.ends)
+
 pub returns-in-Ok-clause-whole : goal.returns-in-Ok-clause-whole
 returns-in-Ok-clause-whole g c = λ calm quiet.
-    some_both (g.R.Source.left c.args.source.now) (λ bytes. IsScriptText mode.Threads bytes c.in-Ok.script) (λ bytes. (s : Script) → IsScriptText mode.Threads bytes s → c.in-Ok.script ≡ s) (λ bytes. RunIsWhole bytes c.write_run.result.status) (λ bytes spelled only. record {
-      script = λ s t. c.write_run.ensures.whole quiet;
+    some_both (g.R.Source.left c.args.source.now) (λ bytes. IsScriptText mode.Threads bytes c.in-Ok.script) (λ bytes. (s : Script) → IsScriptText mode.Threads bytes s → c.in-Ok.script ≡ s) (λ bytes. RunIsWhole (length c.args.callbacks) bytes c.run_to.result.status) (λ bytes spelled only. record {
+      script = λ s t few. c.run_to.ensures.enough (subst (λ (x : Script). registers_of x ≤ length c.args.callbacks) (sym (only s t)) few) quiet;
+      few = λ s t lacks. inl (c.run_to.ensures.few (subst (λ (x : Script). length c.args.callbacks < registers_of x) (sym (only s t)) lacks));
       other = λ none. absurd (none c.in-Ok.script spelled);
     }) c.in-Ok.ensures.found c.in-Ok.ensures.only
 
@@ -26,17 +34,21 @@ pub returns-in-Err-clause-ends : goal.returns-in-Err-clause-ends
 returns-in-Err-clause-ends g c =
     let left = g.R.Source.left c.args.source.now in
     IfSome_then left (some_all left (λ n. ◌≡◌ {A = Result Script Status} (Err c.in-Err.status) (Err (Text n))) (λ n bytes. IsFirstBad (SpellsScript mode.Threads) 16_777_216 bytes n) c.in-Err.ensures.line) (λ bytes line.
-    subst (λ (s : Status). RunEnds g.K.One.Clock.given bytes (g.W.Sink.written c.args.sink.now) (g.W.Sink.written c.args.sink.now) (g.S.Spawner.asked c.args.spawner.now) (g.S.Spawner.asked c.args.spawner.now)
-    (g.S.Spawner.fate c.args.spawner.now) c.without_clocks.result.clocks s) (sym c.without_clocks.ensures.status)
-    (unread_run g.K.One.Clock.given bytes (g.W.Sink.written c.args.sink.now) (g.W.Sink.written c.args.sink.now) (g.S.Spawner.asked c.args.spawner.now) (g.S.Spawner.asked c.args.spawner.now)
-    (g.S.Spawner.fate c.args.spawner.now) c.without_clocks.result.clocks c.in-Err.status c.in-Err.ensures.causes (λ n e. line n (err_is c.in-Err.status (Text n) e))))
+    subst (λ (s : Status). RunEnds g.B.Callback.counted g.B.Callback.told g.K.One.Clock.given bytes (g.W.Sink.written c.args.sink.now) (g.W.Sink.written c.args.sink.now) (g.S.Spawner.asked c.args.spawner.now) (g.S.Spawner.asked c.args.spawner.now)
+    (g.S.Spawner.fate c.args.spawner.now) c.without_clocks.result.clocks c.args.callbacks c.without_clocks.result.callbacks s) (sym c.without_clocks.ensures.status)
+    (unread_run g.B.Callback.counted g.B.Callback.told g.K.One.Clock.given bytes (g.W.Sink.written c.args.sink.now) (g.W.Sink.written c.args.sink.now) (g.S.Spawner.asked c.args.spawner.now) (g.S.Spawner.asked c.args.spawner.now)
+    (g.S.Spawner.fate c.args.spawner.now) c.without_clocks.result.clocks c.args.callbacks c.without_clocks.result.callbacks c.in-Err.status c.in-Err.ensures.causes (λ n e. line n (err_is c.in-Err.status (Text n) e))))
 
 pub returns-in-Err-clause-whole : goal.returns-in-Err-clause-whole
 returns-in-Err-clause-whole g c = λ calm quiet.
-    IfSome_then (g.R.Source.left c.args.source.now) c.in-Err.ensures.only (λ bytes only. subst (λ (status : Status). RunIsWhole bytes status) (sym c.without_clocks.ensures.status) (record {
-      script = λ s t. (elim (only s t) as (λ _. IsRunEnd c.in-Err.status) [
+    IfSome_then (g.R.Source.left c.args.source.now) c.in-Err.ensures.only (λ bytes only. subst (λ (status : Status). RunIsWhole (length c.args.callbacks) bytes status) (sym c.without_clocks.ensures.status) (record {
+      script = λ s t enough. (elim (only s t) as (λ _. IsRunEnd c.in-Err.status) [
         | inl e ↦ absurd (calm (c.in-Err.ensures.fault (err_is c.in-Err.status ReadFault e)))
         | inr e ↦ subst IsRunEnd (sym e) tt
+      ]);
+      few = λ s t lacks. (elim (only s t) as (λ _. (c.in-Err.status ≡ Words) ⊎ (c.in-Err.status ≡ Memory)) [
+        | inl e ↦ absurd (calm (c.in-Err.ensures.fault (err_is c.in-Err.status ReadFault e)))
+        | inr e ↦ inr e
       ]);
       other = λ none. unread_refused c.in-Err.status c.in-Err.ensures.causes (λ e. calm (c.in-Err.ensures.fault (err_is c.in-Err.status ReadFault e)));
     }))

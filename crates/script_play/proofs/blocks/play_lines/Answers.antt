@@ -1,5 +1,6 @@
-use Rattle.std.proofs.Common.{◌∙◌}
+use Rattle.std.proofs.Common.{drop, ◌∙◌}
 use Rattle.script_play.specs.Crews.{crew_meant}
+use Rattle.script_play.proofs.Fronts.{lines-front, on_err}
 use Rattle.script_play.proofs.Handing.{goes-on, leads-on}
 use Rattle.script_play.proofs.blocks.play_lines.Goals as goal
 
@@ -24,3 +25,10 @@ loop-line-preserved g c =
       current = c.hear.ensures.current;
       begun = c.hear.ensures.begun ∙ c.loop-line.invariant.begun;
     }
+
+-- the ears have all of the lines before this one
+pub returns-in_err-play_line-clause-front : goal.returns-in_err-play_line-clause-front
+returns-in_err-play_line-clause-front g c =
+    let before = c.loop-line.invariant in
+    on_err c.from_residual.result _ (lines-front g.B.Callback.counted g.B.Callback.told c.args.script.now (crew_meant c.args.crew) c.args.player.now c.loop-line.player c.args.lines.now (drop c.loop-line.line-index c.args.lines.now) c.loop-line.ears
+    before.played before.config before.current)

@@ -1,8 +1,8 @@
-use Rattle.std.proofs.Common.{rules, ◌≡◌, ◌∙◌, ap, sym, subst, set, refl, Some, arith, length, ◌+◌, ◌≤◌, ◌++◌, ◌∷◌, [], List, map, append_assoc, append-nil}
+use Rattle.std.proofs.Common.{rules, ◌≡◌, ◌∙◌, ap, sym, subst, set, refl, Some, arith, length, ◌++◌, ◌∷◌, [], List, map, append_assoc, append-nil}
 use Rattle.std.specs.Vec.Iter.{into_iter_items, into_iter_len}
 use Rattle.call_history.specs.Clients.{Seat, retired_of, number_of, mine_of}
 use Rattle.thread_play.specs.declared.workers.Worker.{Worker}
-use Rattle.thread_play.proofs.Clients.{Going, Dismissing, dismissing-none, dismissing-more, dismissed}
+use Rattle.thread_play.proofs.Clients.{Dismissing, dismissing-none, dismissing-more}
 use Rattle.thread_play.proofs.ends.dismiss.Goals as goal
 
 more : {C : Type 0} (xs ys : List C) (w : Worker C) (all rest : List (Worker C)) → ys ≡ xs ++ w.clock ∷ [] → all ≡ w ∷ rest → ys ++ map (λ (v : Worker C). v.clock) rest ≡ xs ++ map (λ (v : Worker C). v.clock) all

@@ -1,4 +1,4 @@
-use Rattle.std.proofs.Common.{◌≡◌, Option, Some, None, refl, sym, ap, subst, ◌∙◌}
+use Rattle.std.proofs.Common.{sym, ◌∙◌}
 use Rattle.thread_play.proofs.Endings.{some-not, not-some, ended-before, ended-after}
 use Rattle.thread_play.proofs.runs.end_others.Goals as goal
 

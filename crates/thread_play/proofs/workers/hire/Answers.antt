@@ -1,6 +1,5 @@
-use Rattle.std.proofs.Common.{◌≡◌, ◌+◌, ◌<◌, ◌≤◌, ◌++◌, ◌∷◌, [], ℕ, List, ap, sym, ◌∙◌, subst, length, length-append, arith, rules}
+use Rattle.std.proofs.Common.{◌≡◌, ◌+◌, ◌++◌, ◌∷◌, [], ap, sym, ◌∙◌, length, length-append, arith, rules}
 use Rattle.std.specs.Prelude.{Ok}
-use Rattle.call_history.specs.Clients.{retired_of}
 use Rattle.thread_play.specs.declared.workers.Worker.{Worker}
 use Rattle.thread_play.specs.Stages.{IsNew}
 use Rattle.thread_play.proofs.Clients.{hired-count, hired-more}

@@ -1,4 +1,4 @@
-use Rattle.std.proofs.Common.{◌≡◌, List, ℕ, sym, subst}
+use Rattle.std.proofs.Common.{subst}
 use Rattle.call_history.specs.Clients.{seen_of, mine_of}
 use Rattle.thread_play.specs.Stages.{PlaysOn}
 use Rattle.thread_play.proofs.Blocks.{Names, plays-on, ends-well, ends-early}

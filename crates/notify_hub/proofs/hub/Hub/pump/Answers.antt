@@ -1,4 +1,4 @@
-use Rattle.std.proofs.Common.{◌≡◌, List, Option, Some, refl, sym, subst}
+use Rattle.std.proofs.Common.{◌≡◌, List, length, Option, Some, refl, sym, ap, ◌∙◌, subst}
 use Rattle.drmaa_model.specs.declared.entries.Entry.{Entry}
 use Rattle.turn_lock.specs.Histories.{BeginsWith}
 use Rattle.call_history.specs.ClientLaws.{more-both}
@@ -33,6 +33,7 @@ invariant_of-self g c =
     let f = kept-follows shared ears c.self.inside.note c.self.inside.handed seen c.self.invariant own b c.hand_all-handed.ensures.looks.legal in
     let now : Follows shared.fixed seen after = record {
       legal = f.legal;
+      as_many = ap (λ (e : Listening g.row.B.Denot). length e.places) c.hand_all-handed.ensures.ears ∙ f.as_many;
       places = λ i p at. f.places i p (subst (λ (e : Listening g.row.B.Denot). place_at e.places i ≡ Some p) c.hand_all-handed.ensures.ears at);
       handed = c.hand_all-handed.ensures.begins;
     } in

@@ -85,8 +85,9 @@ returns-in-Ok-clause-ok g c = λ knows.
     let old = c.args.client.now in
     let mid = c.recall.new.client in
     registered-both old mid c.register_next.new.client (learnt-more old mid knows (c.recall.ensures.own knows) c.recall.ensures.number c.recall.ensures.mine c.recall.ensures.begins)
-    c.recall.ensures.number c.args.shared.now.fixed _ _ c.in-Ok.n c.note.new.client c.in-Ok.ensures.ok c.in-Ok.ensures.new
+    c.recall.ensures.number c.args.shared.now.fixed _ _ _ c.in-Ok.n c.note.new.client c.in-Ok.ensures.ok c.in-Ok.ensures.new
     (subst (λ (s : Seat). SeesMore c.register_next.new.client s) (sym c.note.ensures.client) c.place_after-place.ensures.looks.more)
+    c.place_after-place.ensures.looks.rises
 
 pub returns-in-Ok-clause-place : goal.returns-in-Ok-clause-place
 returns-in-Ok-clause-place g c = λ few.
