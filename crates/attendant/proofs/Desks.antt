@@ -341,6 +341,24 @@ still-look old mid new config question answer shared free learnt number mine beg
   timed = tt;
 }
 
+-- what a client learns by a hand-over, and nothing else
+pub still-learnt : (old : Post) (seat : Seat) → IsFree old.shared seat → number_of seat ≡ number_of old.client → mine_of seat ≡ mine_of old.client → KnowsItsOwn seat
+    → BeginsWith (seen_of seat) (seen_of old.client) → IsLegal old.shared.fixed (seen_of seat) → IsStillAt old (record { shared = old.shared; client = seat; clock = old.clock })
+still-learnt old seat free number mine own begins legal = record {
+  shared_is = refl;
+  client = free;
+  number = number;
+  begins = begins;
+  own = λ o. own;
+  legal = λ l. legal;
+  least = omega arith;
+  readings = [];
+  gave = gives-none old.clock.given;
+  added = [];
+  mine = mine ∙ sym (append-nil _);
+  timed = tt;
+}
+
 -- where the client stands at the end
 pub still-free : (old new : Post) → IsStillAt old new → IsFree new.shared new.client
 still-free old new s = subst (λ (n : Named Config). IsFree n new.client) (sym s.shared_is) s.client

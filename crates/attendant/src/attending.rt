@@ -67,8 +67,14 @@ fn attend_once<R: Wait, S: Spawner, C: Clock>(
     Ok(reports? == 0 && nothing)
 }
 
-/// Whether the machine is settled, after all that the reaper's client has seen.
-fn is_settled<R: Wait, C: Clock>(rt: &R, launcher: &mut Desk<C>, reaping: &mut Desk<C>) -> bool
+/// Whether the machine is settled, after all that the reaper's client has seen. It is not asked behind a round that had something
+/// to do.
+fn is_settled<R: Wait, C: Clock>(
+    rt: &R,
+    idle: bool,
+    launcher: &mut Desk<C>,
+    reaping: &mut Desk<C>,
+) -> bool
     requires lock { reaping.old.shared.now ≡ launcher.old.shared.now }
     requires launcher { IsFree launcher.old.shared.now launcher.old.client }
     requires reaping { IsFree reaping.old.shared.now reaping.old.client }
@@ -81,6 +87,9 @@ fn is_settled<R: Wait, C: Clock>(rt: &R, launcher: &mut Desk<C>, reaping: &mut D
     launcher
         .shared
         .hand_over(&mut reaping.client, &mut launcher.client);
+    if !idle {
+        return false;
+    }
     matches!(launcher.look(rt, Question::Settled), Answer::Settled(true))
 }
 
@@ -125,7 +134,7 @@ pub fn run_attendant<R: Wait + Pause, S: Spawner, C: Clock>(
             if let Some(why) = kept {
                 return Err(why);
             }
-            if is_settled(rt, launcher, reaping) {
+            if is_settled(rt, idle, launcher, reaping) {
                 return Ok(());
             }
         }
@@ -163,7 +172,7 @@ pub fn finish<R: Wait + Pause, S: Spawner, C: Clock>(
 {
     for _ in rt.forever() {
         let idle = attend_once(rt, launcher, reaping, spawner, reaper)?;
-        if is_settled(rt, launcher, reaping) {
+        if is_settled(rt, idle, launcher, reaping) {
             return Ok(());
         }
         if idle {

@@ -1,45 +1,153 @@
 //! A bell that wakes those who rest until something may have happened.
+use drmaa_machine::{Call, NoEntry, Reply};
+use drmaa_types::{Control, WaitKind};
 use std::sync::{Condvar, Mutex, Wait};
 use std::time::{Clock, Duration};
 
-/// The longest rest, in microseconds.
-const PAUSE: u64 = 500;
+/// The longest rest of who looks for what rings no bell, as the end of a process, in microseconds.
+const SHORT_REST: u64 = 500;
+
+/// The longest rest of a wait, in microseconds.
+const LONG_REST: u64 = 5_000;
+
+/// What an entry may bring to those who rest, beside what time brings.
+#[derive(Clone, Copy)]
+pub enum News {
+    /// Nothing that anybody rests for.
+    Nothing,
+    /// Work, or another state of a job that has not ended.
+    Change,
+    /// The end of a job, or a session or a job that is no longer there.
+    End,
+}
+
+impl News {
+    /// What an entry of this call may bring, if it is not refused. An order that waits for a start is found by the reaper in its
+    /// next round.
+    pub(crate) fn of(call: &Call) -> News {
+        match call {
+            Call::RunJob { .. } | Call::RunBulk { .. } | Call::TakeLaunch => News::Change,
+            Call::Control { what, .. } => match what {
+                Control::Suspend | Control::Resume | Control::Hold | Control::Release => {
+                    News::Change
+                }
+                Control::Terminate => News::End,
+            },
+            Call::DestroyJobSession { .. }
+            | Call::CloseSession { .. }
+            | Call::Reap { .. }
+            | Call::EndReservation { .. }
+            | Call::StartFailed { .. }
+            | Call::Exited { .. }
+            | Call::ExitUnknown { .. } => News::End,
+            Call::CreateJobSession { .. }
+            | Call::CreateReservationSession { .. }
+            | Call::OpenJobSession { .. }
+            | Call::OpenReservationSession { .. }
+            | Call::DestroyReservationSession { .. }
+            | Call::JobSessionNames
+            | Call::ReservationSessionNames
+            | Call::OpenMonitoring
+            | Call::GetJobs { .. }
+            | Call::GetJobArray { .. }
+            | Call::GetState { .. }
+            | Call::GetInfo { .. }
+            | Call::Wait { .. }
+            | Call::RequestReservation { .. }
+            | Call::GetReservation { .. }
+            | Call::GetReservations { .. }
+            | Call::AllJobs { .. }
+            | Call::AllReservations { .. }
+            | Call::AllQueues { .. }
+            | Call::AllMachines { .. }
+            | Call::Register
+            | Call::Started { .. }
+            | Call::TakeSignal
+            | Call::SignalDone { .. }
+            | Call::SignalFailed { .. } => News::Nothing,
+        }
+    }
+
+    /// What such a call brought that was served so: nothing without an entry, and nothing where it was refused.
+    pub(crate) fn behind(self, served: &Result<Reply, NoEntry>) -> News {
+        match served {
+            Ok(Reply::Refused(_)) | Err(_) => News::Nothing,
+            Ok(_) => self,
+        }
+    }
+}
+
+/// How often the bell rang.
+#[derive(Clone, Copy)]
+struct Rings {
+    all: u64,
+    ends: u64,
+}
 
 /// Wakes who rests. It carries no fact: who rests looks again.
 #[derive(Drop)]
 pub struct Bell {
-    rings: Mutex<u64>,
+    rings: Mutex<Rings>,
     struck: Condvar,
+    ended: Condvar,
     is_silent: bool,
+}
+
+/// How often a bell had struck at one time for those who wait for a state.
+#[derive(Clone, Copy)]
+pub struct Strokes {
+    kind: WaitKind,
+    count: u64,
 }
 
 impl Bell {
     /// A bell. It takes no memory.
     pub fn new() -> Bell {
-        Bell {
-            rings: Mutex::new(0),
-            struck: Condvar::new(),
-            is_silent: false,
-        }
+        Bell::of(false)
     }
 
     /// A bell whose rest ends at once. It takes no memory.
     pub fn silent() -> Bell {
+        Bell::of(true)
+    }
+
+    fn of(is_silent: bool) -> Bell {
         Bell {
-            rings: Mutex::new(0),
+            rings: Mutex::new(Rings { all: 0, ends: 0 }),
             struck: Condvar::new(),
-            is_silent: true,
+            ended: Condvar::new(),
+            is_silent,
         }
     }
 
-    /// Ends all rests. It may wait for another thread.
-    pub fn ring<R: Wait>(&self, rt: &R) {
+    /// Ends the rests that the news are for. It may wait for another thread.
+    pub fn ring<R: Wait>(&self, rt: &R, news: News) {
         if self.is_silent {
             return;
         }
+        match news {
+            News::Nothing => {}
+            News::Change => {
+                self.count_change(rt);
+                self.struck.notify_all();
+            }
+            News::End => {
+                self.count_end(rt);
+                self.struck.notify_all();
+                self.ended.notify_all();
+            }
+        }
+    }
+
+    fn count_change<R: Wait>(&self, rt: &R) {
         let mut rings = self.rings.lock(rt);
-        *rings = rings.wrapping_add(1);
-        self.struck.notify_all();
+        rings.all = rings.all.wrapping_add(1);
+    }
+
+    fn count_end<R: Wait>(&self, rt: &R) {
+        let mut rings = self.rings.lock(rt);
+        rings.all = rings.all.wrapping_add(1);
+        rings.ends = rings.ends.wrapping_add(1);
     }
 
     /// Waits until the bell rings, or for a short while.
@@ -48,12 +156,39 @@ impl Bell {
             return;
         }
         let rings = self.rings.lock(rt);
-        let before = *rings;
+        let before = rings.all;
         let _ = self.struck.wait_timeout_while(
             rt,
             rings,
-            Duration::from_micros(PAUSE),
-            |now| *now == before,
+            Duration::from_micros(SHORT_REST),
+            |now| now.all == before,
         );
+    }
+
+    /// How often the bell has struck for those who wait for this state.
+    pub fn strokes<R: Wait>(&self, rt: &R, kind: WaitKind) -> Strokes {
+        let rings = self.rings.lock(rt);
+        let count = match kind {
+            WaitKind::Started => rings.all,
+            WaitKind::Terminated => rings.ends,
+        };
+        Strokes { kind, count }
+    }
+
+    /// Waits until the bell has struck once more for those who wait for that state, or for a while.
+    pub fn rest_since<R: Wait + Clock>(&self, rt: &R, before: Strokes) {
+        if self.is_silent {
+            return;
+        }
+        let rings = self.rings.lock(rt);
+        let longest = Duration::from_micros(LONG_REST);
+        let _ = match before.kind {
+            WaitKind::Started => self
+                .struck
+                .wait_timeout_while(rt, rings, longest, |now| now.all == before.count),
+            WaitKind::Terminated => self
+                .ended
+                .wait_timeout_while(rt, rings, longest, |now| now.ends == before.count),
+        };
     }
 }

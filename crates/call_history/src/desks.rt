@@ -8,7 +8,7 @@ ghost use Rattle.call_history.specs.Clocks.{dial};
 ghost use Rattle.call_history.specs.Calls.{IsServed, IsUnserved, IsLookedAt, IsTriedInVain};
 ghost use Rattle.call_history.specs.Timed.{begun_in, IsTimed};
 
-use crate::bells::Bell;
+use crate::bells::{Bell, News};
 use crate::machines::{Client, SharedMachine};
 use crate::tries::TryFault;
 use drmaa_machine::{Answer, Call, NoEntry, Question, Reply};
@@ -25,7 +25,7 @@ pub struct Desk<'a, C: Clock> {
 }
 
 impl<'a, C: Clock> Desk<'a, C> {
-    /// Serves a call, as `SharedMachine::call`, and rings the bell after it: others may find what they wait for.
+    /// Serves a call, as `SharedMachine::call`, and rings the bell after an entry that may bring something to those who rest.
     ///
     /// # Errors
     ///
@@ -44,12 +44,11 @@ impl<'a, C: Clock> Desk<'a, C> {
         ensures begins { BeginsWith (seen_of self.new.client) (seen_of self.old.client) }
         ensures timed { begun_in call ≡ [] → IsTimed (mine_of self.old.client) (C.given self.old.clock) → IsTimed (mine_of self.new.client) (C.given self.new.clock) }
     {
+        let news = News::of(&call);
         let served = self
             .shared
             .call(rt, &mut self.client, &mut self.clock, call);
-        if served.is_ok() {
-            self.bell.ring(rt);
-        }
+        self.bell.ring(rt, news.behind(&served));
         served
     }
 

@@ -74,7 +74,8 @@ impl SharedMachine {
 }
 
 impl<'a, C: Clock> Desk<'a, C> {
-    /// Looks once whether a wait is over, as `SharedMachine::look_at_wait`, and rings the bell after its entry.
+    /// Looks once whether a wait is over, as `SharedMachine::look_at_wait`. The bell does not ring after its entry, which brings
+    /// others nothing but what time brings.
     pub fn look_at_wait<R: Wait>(&mut self, rt: &R, awaited: Awaited) -> WaitLook
         requires { IsFree self.old.shared.now self.old.client }
         ensures shared { self.new.shared.now ≡ self.old.shared.now }
@@ -86,12 +87,7 @@ impl<'a, C: Clock> Desk<'a, C> {
         ensures own { KnowsItsOwn self.new.client }
         ensures legal { IsLegal self.old.shared.now.fixed (seen_of self.new.client) }
     {
-        let look = self
-            .shared
-            .look_at_wait(rt, &mut self.client, &mut self.clock, awaited);
-        if let WaitLook::Over(Ok(_)) = &look {
-            self.bell.ring(rt);
-        }
-        look
+        self.shared
+            .look_at_wait(rt, &mut self.client, &mut self.clock, awaited)
     }
 }

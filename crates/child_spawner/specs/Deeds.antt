@@ -18,17 +18,15 @@ pub data Deed : Type 0 where
 abbrev pub Did : Option (List Deed) → List Deed → Option (List Deed) → Type 0
 Did before deeds after = after ≡ option_map (λ told. told ++ deeds) before
 
--- A start of `sh` for this process: a file of an earlier run is removed first.
+-- A start of `sh` for this process, and nothing else.
 abbrev pub Launches : List ℕ → List (List ℕ) → ℕ → Option (List Deed) → Option (List Deed) → Type 0
 Launches file words number before after =
-    Did before (Removes file true ∷ Starts shell (launch_args file words) (Some number) ∷ []) after
+    Did before (Starts shell (launch_args file words) (Some number) ∷ []) after
 
--- A launch that failed got as far as one of its steps: each went well before the next was tried.
+-- A launch that failed: nothing was asked, or `sh` was not started.
 pub data Fails (file : List ℕ) (words : List (List ℕ)) (before after : Option (List Deed)) : Type 0 where
   unasked : after ≡ before → Fails file words before after
-  not_removed : Did before (Removes file false ∷ []) after → Fails file words before after
-  removed : Did before (Removes file true ∷ []) after → Fails file words before after
-  not_started : Did before (Removes file true ∷ Starts shell (launch_args file words) None ∷ []) after → Fails file words before after
+  not_started : Did before (Starts shell (launch_args file words) None ∷ []) after → Fails file words before after
 
 -- the file was removed, or at least that was asked
 pub record Clears (file : List ℕ) (before after : Option (List Deed)) : Type 0 where

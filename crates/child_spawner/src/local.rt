@@ -35,7 +35,7 @@ impl<H: Host> Model for LocalSpawner<H> {
 
 impl LocalSpawner<SystemHost> {
     /// A spawner whose processes write their numbers into files of this folder, one for each attempt of
-    /// a job, which is removed before the start and when the end is seen.
+    /// a job, which is removed when the end is seen.
     pub fn new(rt: HostRuntime, folder: Text) -> LocalSpawner<SystemHost>
         ensures folder { result.folder ≡ folder }
         ensures faults { result.faults ≡ 0 }
@@ -77,7 +77,7 @@ where
         ensures counted { OnOk result (self.new.faults ≡ self.old.faults) }
         ensures never_falls { self.old.faults ≤ self.new.faults }
 
-        // What is asked of the host: exactly the launch of this attempt, or a beginning of it.
+        // What is asked of the host: exactly the launch of this attempt, or nothing.
         ensures launched { IfOk result (λ child. Launches (number_file self.old.folder job.0 attempt) words.now child.number
             (H.told self.old.host) (H.told self.new.host)) }
         ensures failed { OnErr result (Fails (number_file self.old.folder job.0 attempt) words.now
@@ -115,8 +115,7 @@ where
     }
 }
 
-/// Starts the process of this attempt. A file of its name, which an earlier run may have left, is
-/// removed first.
+/// Starts the process of this attempt. `sh` writes over a file of its name that an earlier run may have left.
 fn launch<H: Host>(
     alloc: Global,
     host: &mut H,
@@ -141,7 +140,6 @@ fn launch<H: Host>(
     ensures twin { IfOk result (λ child. H.told child.host ≡ H.told host.new) }
 {
     let file = number_file(alloc, folder, job, attempt)?;
-    host.remove(file.as_str())?;
     let command = launch_command(alloc, file.as_str(), words)?;
     let process = host.start(command)?;
     Ok(LocalChild {

@@ -1,26 +1,15 @@
 -- How a play ends, and what was written then.
-use Rattle.std.proofs.Common.{◌≡◌, ℕ, ◌≤◌, List, Option, Some, None, refl, sym, subst}
-use Rattle.std.specs.Io.KnownBytes.{Appends}
+use Rattle.std.proofs.Common.{◌≡◌, ℕ, List, Option, Some, None, refl, subst}
 use Rattle.journal_text.specs.declared.journals.Journal.{Journal}
-use Rattle.script_asks.specs.Plays.{serial_play}
 use Rattle.script_text.specs.declared.scripts.Mode.TheVariants as mode
 use Rattle.script_text.specs.declared.scripts.Script.{Script}
-use Rattle.text_codec.specs.Formats.{choose}
 use Rattle.drmaa_script.specs.declared.plays.Output.{Output}
 use Rattle.drmaa_script.specs.declared.plays.Output.TheVariants.{Journal as JournalOutput, Listing}
 use Rattle.drmaa_script.specs.declared.status.Status.{Status}
 use Rattle.drmaa_script.specs.declared.status.Status.TheVariants.{Done, Text, Words, ReadFault, WriteFault, Memory, JournalFull, NotLegal}
 use Rattle.drmaa_script.specs.Statuses.{IsQuiet, HasRead, HasWritten, IsUnread, IsRefused, IsUnstarted, ended_as}
-use Rattle.drmaa_script.specs.Registers.{registers_of, HasPlayed}
-use Rattle.drmaa_script.specs.Outcomes.{IsScriptText, IsJournalText, journal_of, play_text, PlayEnds, PlayedEnds, CheckEnds, CheckedEnds, HasJournal, WritesPlay}
-
--- the text that was written, by how the play ended
-pub written_ends : (own : Script → List ℕ) (callbacks : ℕ) (s : Script) (full : Option ℕ) (old new : Option (List ℕ)) → registers_of s ≤ callbacks → full ≡ (serial_play s).full → Appends old new (play_text own s)
-    → PlayedEnds own callbacks s (ended_as full) old new
-written_ends own callbacks s None old new enough is written =
-    (enough, sym is, subst (λ (o : Option ℕ). Appends old new (choose o (λ (n : ℕ). journal_of s) (own s))) (sym is) written)
-written_ends own callbacks s (Some size) old new enough is written =
-    (enough, sym is, subst (λ (o : Option ℕ). Appends old new (choose o (λ (n : ℕ). journal_of s) (own s))) (sym is) written)
+use Rattle.drmaa_script.specs.Registers.{HasPlayed}
+use Rattle.drmaa_script.specs.Outcomes.{IsScriptText, IsJournalText, PlayEnds, PlayedEnds, CheckEnds, CheckedEnds, HasJournal, WritesPlay}
 
 pub writes_has : (output : Output) (full : Option ℕ) → WritesPlay output (ended_as full) → HasJournal output full
 writes_has JournalOutput full w = tt

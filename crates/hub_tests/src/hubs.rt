@@ -128,8 +128,10 @@ fn a_pump_hands_over_all_that_is_left(rt: HostRuntime) -> Result<(), Fail> {
 #[test]
 fn the_65th_is_refused(rt: HostRuntime) -> Result<(), Fail> {
     let mut steps = Vec::new(rt.alloc());
+    steps.push(Step::Listens(false))?;
     for number in 1..=64 {
         steps.push(Step::Registers(number))?;
+        steps.push(Step::Listens(true))?;
     }
     steps.push(Step::IsRefused)?;
     played(&rt, rt.alloc(), 0, steps.as_slice())?;

@@ -23,6 +23,8 @@ pub enum Step {
     IsRefused,
     /// Changes are handed over, by so many calls.
     Pumps(u64),
+    /// Whether any number has a place.
+    Listens(bool),
 }
 
 /// Takes a step. Whether this comes of it.
@@ -51,6 +53,7 @@ fn take_step<R: Wait>(
             hub.register(rt, shared, client, &mut clock()) == Err(refusal)
         }
         Step::Pumps(calls) => hub.pump(rt, shared, client, &mut clock()) == calls,
+        Step::Listens(any) => hub.listens() == any,
     }
 }
 

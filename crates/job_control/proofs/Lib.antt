@@ -1,4 +1,5 @@
 pub mod ControlLaws
+pub mod PhaseLaws
 pub mod Searches
 pub mod SignalLaws
 pub mod TargetLaws

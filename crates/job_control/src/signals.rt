@@ -131,7 +131,7 @@ fn kill_due(book: &Book, at: Moment) -> Option<Order>
     requires kept { IsKept book.now }
     ensures { result ≡ option_map kill_order (find (is_killed at (plan_of book.now)) book.now.rows.items) }
 {
-    for row in &book.rows {
+    for row in book.rows() {
         if is_killed(book, at, row) {
             return Some(kill_order(row));
         }
@@ -144,6 +144,9 @@ fn is_killed(book: &Book, at: Moment, row: &Row) -> bool
     requires kept { IsKept book.now }
     ensures { result ≡ is_killed at (plan_of book.now) row.now }
 {
+    if !is_alive(row.course.phase) {
+        return false;
+    }
     let then = book.course_at(at, row);
     is_unasked(row.course.kill) && (!is_unasked(then.kill) && is_alive(then.phase))
 }

@@ -64,7 +64,7 @@ fn first_state(book: &Book, at: Moment, target: &Target) -> Option<JobState>
 fn first_meant<'a>(book: &'a Book, target: &Target) -> Option<&'a Row>
     ensures { option_copied result ≡ find (is_meant target.now) book.now.rows.items }
 {
-    book.rows.iter().find(|row| is_meant(target, row))
+    book.rows().iter().find(|row| is_meant(target, row))
 }
 
 /// Whether the state of one of the jobs that are meant permits the call once time has come to this moment.
@@ -72,7 +72,7 @@ fn is_any_permitted(book: &Book, at: Moment, target: &Target, act: Act) -> bool
     requires kept { IsKept book.now }
     ensures { result ≡ list_any (λ (row : Row). is_meant target.now row && may_act act row.course.state) (rows_at at (plan_of book.now)) }
 {
-    for row in &book.rows {
+    for row in book.rows() {
         if is_permitted(book, at, row, target, act) {
             return true;
         }

@@ -191,7 +191,7 @@ pub fn rows_of(
     ensures fits { IfOk result (λ rows. kept_text (plan_of book.now).rows + new_text (batch_members b.now template indices) ≤ most_kept_text) }
     ensures err { IfErr result (λ why. why ≡ Unmade.TooMuchText → most_kept_text < kept_text (plan_of book.now).rows + new_text (batch_members b.now template indices)) }
 {
-    let Some(room) = without_rows(MOST_KEPT_TEXT, &book.rows) else {
+    let Some(room) = without_rows(MOST_KEPT_TEXT, book.rows()) else {
         return Err(Unmade::TooMuchText);
     };
     match indices {

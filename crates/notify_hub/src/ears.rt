@@ -1,5 +1,6 @@
 //! Ears: a caller's callbacks with their places, and what each of them heard.
-ghost use Rattle.std.specs.Prelude.{◌≡◌, ℕ, ◌+◌, ◌-◌, ◌≤◌, List, ◌++◌, length, slice_set, Some, None, IfOk, IfErr};
+ghost use Rattle.std.specs.Prelude.{◌≡◌, ℕ, ◌+◌, ◌-◌, ◌≤◌, List, ◌++◌, length, slice_set, Some, None, is_some, IfOk, IfErr};
+ghost use Rattle.std.specs.List.{list_any};
 ghost use Rattle.drmaa_model.specs.declared.configs.Config.{Config};
 ghost use Rattle.drmaa_model.specs.declared.entries.Entry.{Entry};
 ghost use Rattle.notify_hub.specs.Ears.{Listening, HaveHeard, EachHeard, silent, place_at, from_place, due, calls_for};
@@ -74,6 +75,13 @@ impl<B: Callback> Ears<B> {
         ensures heard { HaveHeard B.counted B.told self.old → HaveHeard B.counted B.told self.new }
     {
         self.places[n as usize - 1] = Some(place);
+    }
+
+    /// Whether any number has a place. It takes no memory.
+    pub fn listens(&self) -> bool
+        ensures { result ≡ list_any is_some self.now.places }
+    {
+        self.places.iter().any(|place| place.is_some())
     }
 
     /// Hands over a batch of changes, of which the first has the place `from`, the number of changes

@@ -1,5 +1,6 @@
 //! A hub: a caller's callbacks follow the history of a shared machine.
-ghost use Rattle.std.specs.Prelude.{◌≡◌, ℕ, ◌-◌, ◌^◌, ◌≤◌, min, length, take, None, Some, IfSome, IfNone, IfOk, IfErr, OnErr};
+ghost use Rattle.std.specs.Prelude.{◌≡◌, ℕ, ◌-◌, ◌^◌, ◌≤◌, min, length, take, None, Some, is_some, IfSome, IfNone, IfOk, IfErr, OnErr};
+ghost use Rattle.std.specs.List.{list_any};
 ghost use Rattle.drmaa_model.specs.declared.configs.Config.{Config};
 ghost use Rattle.drmaa_model.specs.History.{IsLegal};
 ghost use Rattle.turn_lock.specs.Histories.{BeginsWith};
@@ -144,6 +145,14 @@ impl<B: Callback> Hub<B> {
         self.handed = handed;
         self.note = Some(seen);
         calls
+    }
+
+    /// Whether any number has a place: else no callback hears anything, whatever changes, until one is registered. It takes no
+    /// memory.
+    pub fn listens(&self) -> bool
+        ensures { result ≡ list_any is_some self.now.ears.places }
+    {
+        self.ears.listens()
     }
 
     /// The callbacks, as many as there were, in their order. Each heard, since the hub was made, exactly the changes of the

@@ -2,6 +2,8 @@ pub mod ArrivalLaws
 pub mod FirstOrder
 pub mod Flat
 pub mod MoveLaws
+pub mod QuietLaws
 pub mod RoomLaws
 pub mod Searched
+pub mod SumLaws
 pub mod SweepLaws

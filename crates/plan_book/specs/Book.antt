@@ -1,12 +1,11 @@
 -- How a book is read: the plan that it keeps, and the room that it has.
-use Rattle.std.specs.Prelude.{◌≡◌, ℕ, max, filter, ◌+◌, ◌-◌, ◌<◌, ◌≤◌, ◌&&◌, ◌==◌, not, true, false, Bool, List, ◌++◌, Option, Some, None, sum_by, length, vec_len, vec_capacity, if◌then◌else◌}
-use Rattle.drmaa_types.specs.States.{is_waiting, is_started, is_state}
+use Rattle.std.specs.Prelude.{◌≡◌, ℕ, max, filter, ◌+◌, ◌-◌, ◌<◌, ◌≤◌, ◌&&◌, ◌==◌, not, true, false, Bool, List, ◌++◌, Option, Some, None, length, vec_len, vec_capacity, if◌then◌else◌}
+use Rattle.drmaa_types.specs.States.{is_state}
 use Rattle.drmaa_types.specs.declared.identifiers.JobId.{JobId}
 use Rattle.drmaa_types.specs.declared.states.SignalKind.{SignalKind}
 use Rattle.drmaa_model.specs.declared.courses.Course.{Course}
 use Rattle.drmaa_model.specs.declared.courses.Order.{Order}
 use Rattle.drmaa_model.specs.declared.rows.Row.{Row}
-use Rattle.drmaa_model.specs.Courses.{is_unasked}
 use Rattle.drmaa_model.specs.Fit.{IsFit}
 use Rattle.drmaa_types.specs.declared.refusals.Refusal.{Refusal}
 use Rattle.drmaa_types.specs.declared.refusals.Refusal.TheVariants.{OutOfResource}
@@ -21,6 +20,7 @@ use Rattle.drmaa_model.specs.Size.{weight}
 use Rattle.drmaa_model.specs.Time.{lasts}
 use Rattle.drmaa_model.specs.TimeLaws.{timed}
 use Rattle.reservation_calendar.specs.Schedules.{Schedule}
+pub use Rattle.plan_book.specs.Owed.{owes, may_ask, owed, askable}
 use Rattle.plan_book.specs.Ties.{IsTied}
 use Rattle.plan_book.specs.declared.book.Book.{Book}
 use Rattle.plan_book.specs.declared.moves.Move.{Move}
@@ -48,20 +48,6 @@ calendar_of b = b.calendar
 -- the course of a job once time has come to a moment
 abbrev pub course_then : ℕ → Plan → Row → Course
 course_then at p row = (timed (max p.moment at) (filter (lasts (max p.moment at)) p.reservations) row).course
-
--- The changes that a job may still make with no memory: to its end, or to the queue and then to its end.
-abbrev pub owes : Course → ℕ
-owes course = if is_waiting course.state then 1 else if is_started course.state then 2 else 0
-
--- the order that time may ask
-abbrev pub may_ask : Course → ℕ
-may_ask course = if is_started course.state && is_unasked course.kill then 1 else 0
-
-abbrev pub owed : List Row → ℕ
-owed rows = sum_by (λ (row : Row). owes row.course) rows
-
-abbrev pub askable : List Row → ℕ
-askable rows = sum_by (λ (row : Row). may_ask row.course) rows
 
 pub record HasRoom (b : Book) : Type 0 where
   pub changes : vec_len b.changes + owed b.rows.items ≤ vec_capacity b.changes

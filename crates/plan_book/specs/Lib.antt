@@ -2,7 +2,10 @@ pub mod Book
 pub mod FactLaws
 pub mod Facts
 pub mod MeetLaws
+pub mod Owed
 pub mod Places
+pub mod Quiet
+pub mod Sums
 pub mod Sweeps
 pub mod TieLaws
 pub mod Ties

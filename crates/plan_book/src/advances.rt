@@ -1,14 +1,14 @@
 //! Time goes on: the four rules of time, over the plan as it is kept. None of it takes memory.
 ghost use Rattle.std.specs.Prelude.{◌≡◌, max};
+ghost use Rattle.std.specs.List.{list_all};
 ghost use Rattle.drmaa_model.specs.Time.{advance_plan, come_to, let_go, expire, call_in};
 ghost use Rattle.plan_book.specs.Book.{plan_of, HasPlace, HasRoom, spare, spare_orders, spare_rows};
 ghost use Rattle.plan_book.specs.Places.{AreInOrder};
+ghost use Rattle.plan_book.specs.Quiet.{is_left};
 ghost use Rattle.plan_book.specs.Ties.{let_go_of};
 
 use crate::book::Book;
-use crate::time::{
-    call_in_rows, cancel_ended, expire_rows, keep_lasting, note_expiries, order_kills,
-};
+use crate::time::{are_left, cancel_ended, is_past, keep_lasting, note_expiries, order_kills};
 use drmaa_types::Moment;
 
 impl Book {
@@ -44,12 +44,12 @@ impl Book {
     {
         note_expiries(
             &self.reservations,
-            &self.rows,
+            self.rows.list(),
             &mut self.changes,
             self.moment,
             entry,
         );
-        expire_rows(&self.reservations, &mut self.rows, self.moment);
+        self.rows.expire_rows(&self.reservations, self.moment);
     }
 
     /// The started jobs whose time is over are asked to end.
@@ -67,11 +67,27 @@ impl Book {
     {
         order_kills(
             &self.reservations,
-            &self.rows,
+            self.rows.list(),
             &mut self.orders,
             self.moment,
         );
-        call_in_rows(&self.reservations, &mut self.rows, self.moment);
+        self.rows.call_in_rows(&self.reservations, self.moment);
+    }
+
+    /// Whether time leaves all jobs as they are, now that it has come to its moment.
+    fn is_quiet(&mut self) -> bool
+        requires order { AreInOrder self.old.reservations.items }
+        ensures value { result ≡ list_all (is_left self.old.moment self.old.reservations.items) self.old.rows.items }
+        ensures same { self.new ≡ self.old }
+    {
+        if !is_past(self.rows.soonest(), self.moment) {
+            return true;
+        }
+        let quiet = are_left(&self.reservations, self.rows.list(), self.moment);
+        if quiet {
+            self.rows.add_up();
+        }
+        quiet
     }
 
     /// Time goes on. It takes no memory.
@@ -88,6 +104,9 @@ impl Book {
         ensures spare_rows { spare_rows self.new ≡ spare_rows self.old }
     {
         self.come_to(at);
+        if self.is_quiet() {
+            return;
+        }
         self.expire(entry);
         self.call_in();
     }

@@ -10,7 +10,6 @@ ghost use Rattle.plan_book.specs.Book.{plan_of, HasRoom, IsKept, joined, spare, 
 ghost use Rattle.plan_book.specs.Waiting.{AreWaiting};
 
 use crate::book::Book;
-use crate::rows::owed;
 use crate::targets::{is_done, is_meant};
 use drmaa_model::{Row, Target};
 use drmaa_types::{Limit, Moment, Refusal};
@@ -68,7 +67,7 @@ impl Book {
         ensures rows { OnOk result (n ≤ spare_rows self.new) }
         ensures changes { OnOk result (n ≤ spare self.new) }
     {
-        self.changes.reserve(owed(&self.rows) + n)?;
+        self.changes.reserve(self.rows.owed() + n)?;
         self.rows.reserve(n)
     }
 
@@ -86,7 +85,7 @@ impl Book {
     {
         self.next_job += rows.len() as u64;
         self.next_array += arrays;
-        append_rows(&mut self.rows, rows);
+        self.rows.append_rows(rows);
     }
 
     /// Forgets the ended ones of the jobs that are meant, at a moment, where the journal has room for that. It takes no memory.
@@ -115,12 +114,13 @@ impl Book {
             return Err(Refusal::OutOfResource(Limit::Journal { size }));
         }
         self.advance(at, entry);
-        drop_done(&mut self.rows, target);
+        self.rows.drop_done(target);
         Ok(())
     }
 }
 
-fn append_rows(rows: &mut Vec<Row>, more: Vec<Row>)
+/// Puts rows behind the others. There is memory for them.
+pub fn append_rows(rows: &mut Vec<Row>, more: Vec<Row>)
     requires { vec_len rows.old + vec_len more ≤ vec_capacity rows.old }
     ensures { rows.new.items ≡ rows.old.items ++ more.items }
 {
@@ -130,7 +130,7 @@ fn append_rows(rows: &mut Vec<Row>, more: Vec<Row>)
 }
 
 /// Forgets the ended ones of the jobs that are meant.
-fn drop_done(rows: &mut Vec<Row>, target: &Target)
+pub fn drop_done(rows: &mut Vec<Row>, target: &Target)
     ensures { rows.new.items ≡ filter (λ (row : Row). not (is_meant target.now row && is_done row)) rows.old.items }
 {
     rows.retain(|row| !(is_meant(target, row) && is_done(row)));

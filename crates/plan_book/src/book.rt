@@ -1,6 +1,7 @@
 //! The plan as it is kept, and what is read of it.
 ghost use Rattle.std.specs.Prelude.{◌≡◌, ◌≤◌, max, filter, OnOk, IfErr};
 ghost use Rattle.std.specs.Option.{option_copied, option_map};
+ghost use Rattle.drmaa_model.specs.Order.{held};
 ghost use Rattle.drmaa_model.specs.Plan.{opening_plan};
 ghost use Rattle.drmaa_model.specs.Rows.{row_of};
 ghost use Rattle.drmaa_model.specs.Size.{weight};
@@ -10,8 +11,9 @@ ghost use Rattle.plan_book.specs.Book.{plan_of, calendar_of, IsKept, spare, cour
 ghost use Rattle.plan_book.specs.Facts.{facts_of};
 ghost use Rattle.plan_book.specs.Places.{AreInOrder};
 
+use crate::kept::Rows;
 use crate::reservations::{is_lasting, reservation_of};
-use crate::rows::{Facts, owed, promised, row_of};
+use crate::rows::Facts;
 use crate::time::course_at;
 use drmaa_model::{Accepted, Course, Order, Row};
 use drmaa_types::{Change, JobId, Moment, Refusal, ReservationId};
@@ -23,7 +25,7 @@ use std::alloc::Global;
 pub struct Book {
     pub total: u32,
     pub moment: Moment,
-    pub rows: Vec<Row>,
+    pub rows: Rows,
     pub reservations: Vec<Accepted>,
     /// The bookings of the accepted reservations and of the started ordinary jobs.
     pub calendar: Calendar,
@@ -43,7 +45,7 @@ impl Book {
         Book {
             total: slots,
             moment: opening_moment(),
-            rows: Vec::new(alloc),
+            rows: Rows::new(alloc),
             reservations: Vec::new(alloc),
             calendar: Calendar::new(alloc, slots),
             orders: Vec::new(alloc),
@@ -63,7 +65,7 @@ impl Book {
         ensures more { spare self.old ≤ spare self.new }
         ensures err { IfErr result (λ why. why ≡ Refusal.OutOfMemory) }
     {
-        let wanted = owed(&self.rows) + n as usize;
+        let wanted = self.rows.owed() + n as usize;
         match self.changes.reserve(wanted) {
             Ok(()) => Ok(()),
             Err(_) => Err(Refusal::OutOfMemory),
@@ -75,7 +77,7 @@ impl Book {
         requires { weight (plan_of self.now) ≤ 4_000_000 }
         ensures { result ≡ weight (plan_of self.now) }
     {
-        self.changes.len() as u64 + promised(&self.rows)
+        self.changes.len() as u64 + self.rows.promised()
     }
 
     /// The moment to which time comes by this one: it never falls.
@@ -95,7 +97,7 @@ impl Book {
         ensures { result ≡ option_map facts_of (row_of job (rows_at at (plan_of self.now))) }
     {
         let moment = self.moment_at(at);
-        match row_of(&self.rows, job) {
+        match self.rows.row_of(job) {
             None => None,
             Some(row) => Some(facts_then(&self.reservations, row, moment)),
         }
@@ -119,7 +121,16 @@ impl Book {
     pub fn rows(&self) -> &Vec<Row>
         ensures { result.now.items ≡ (plan_of self.now).rows }
     {
-        &self.rows
+        self.rows.list()
+    }
+
+    /// The slots that all jobs hold.
+    pub fn held(&self) -> u32
+        requires kept { IsKept self.now }
+        ensures { result ≡ held (plan_of self.now).rows }
+    {
+        let _total = self.total(); // which is not less
+        self.rows.held()
     }
 
     /// The accepted reservations, in order of number.
@@ -200,11 +211,12 @@ impl Book {
         requires kept { IsKept self.now }
         ensures { option_copied result ≡ row_of job (plan_of self.now).rows }
     {
-        row_of(&self.rows, job)
+        self.rows.row_of(job)
     }
 }
 
-fn opening_moment() -> Moment
+/// Moment 0.
+pub fn opening_moment() -> Moment
     ensures { result ≡ 0 }
 {
     Moment::new(0).unwrap_or(Moment::greatest())

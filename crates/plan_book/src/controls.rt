@@ -10,8 +10,7 @@ ghost use Rattle.plan_book.specs.Places.{AreInOrder};
 ghost use Rattle.plan_book.specs.Sweeps.{acted, growth, asking, is_asking};
 
 use crate::book::Book;
-use crate::rows::{askable, owed};
-use crate::sweeps::{ask_controls, control_rows, is_controlled, note_controls};
+use crate::sweeps::{ask_controls, is_controlled, note_controls};
 use crate::time::course_at;
 use drmaa_model::{Accepted, Row, Target};
 use drmaa_types::{Control, Limit, Moment, Refusal};
@@ -69,7 +68,7 @@ impl Book {
     {
         acted_then(
             &self.reservations,
-            &self.rows,
+            self.rows.list(),
             self.moment_at(at),
             target,
             what,
@@ -89,8 +88,8 @@ impl Book {
         ensures orders { OnOk result (orders ≤ spare_orders self.new) }
         ensures enough { changes ≤ spare self.old → orders ≤ spare_orders self.old → IsOk result }
     {
-        self.changes.reserve(owed(&self.rows) + changes)?;
-        self.orders.reserve(askable(&self.rows) + orders)
+        self.changes.reserve(self.rows.owed() + changes)?;
+        self.orders.reserve(self.rows.askable() + orders)
     }
 
     /// The jobs go on, where there is room for that.
@@ -105,15 +104,15 @@ impl Book {
         ensures spare { spare self.old ≤ spare self.new + growth what (acted target.now what self.old.rows.items) }
     {
         note_controls(
-            &self.rows,
+            self.rows.list(),
             &mut self.changes,
             self.moment,
             entry,
             target,
             what,
         );
-        ask_controls(&self.rows, &mut self.orders, target, what);
-        control_rows(&mut self.rows, self.moment, target, what);
+        ask_controls(self.rows.list(), &mut self.orders, target, what);
+        self.rows.control_rows(self.moment, target, what);
     }
 }
 

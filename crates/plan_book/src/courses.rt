@@ -24,7 +24,8 @@ fn limit_end(moment: Moment, limit: Option<u64>) -> End
     }
 }
 
-fn optional_end(moment: Option<Moment>) -> End
+/// An end where there is a moment, and else never.
+pub fn optional_end(moment: Option<Moment>) -> End
     ensures { result ≡ optional_end moment }
 {
     match moment {
@@ -42,7 +43,8 @@ fn end_after(moment: Moment, seconds: u64) -> End
     }
 }
 
-fn lesser_end(one: End, other: End) -> End
+/// The lesser of two ends.
+pub fn lesser_end(one: End, other: End) -> End
     ensures { result ≡ lesser_end one other }
 {
     match one {

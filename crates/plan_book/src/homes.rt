@@ -24,8 +24,8 @@ impl Book {
         ensures spare { spare self.new ≡ spare self.old }
     {
         self.advance(at, entry);
-        drop_forgotten(&mut self.rows, home);
-        leave_rows(&mut self.rows, home);
+        self.rows.drop_forgotten(home);
+        self.rows.leave_rows(home);
         leave_reservations(&mut self.reservations, home);
     }
 }
@@ -47,7 +47,7 @@ fn left_by(own: Option<u64>, home: u64) -> Option<u64>
 }
 
 /// Forgets the ended jobs of the home.
-fn drop_forgotten(rows: &mut Vec<Row>, home: u64)
+pub fn drop_forgotten(rows: &mut Vec<Row>, home: u64)
     ensures { rows.new.items ≡ filter (λ (row : Row). not (is_forgotten home row)) rows.old.items }
 {
     rows.retain(|row| !(is_home(row.home, home) && is_done(row)));
@@ -65,7 +65,8 @@ fn leave_reservation(r: &mut Accepted, home: u64)
     r.home = left_by(r.home, home);
 }
 
-fn leave_rows(rows: &mut Vec<Row>, home: u64)
+/// The jobs of the home are left without one.
+pub fn leave_rows(rows: &mut Vec<Row>, home: u64)
     ensures { rows.new.items ≡ map (λ (row : Row). record row { home = left_by home row.home }) rows.old.items }
 {
     for row in rows.iter_mut() {

@@ -12,7 +12,6 @@ use crate::changes::push_change;
 use crate::moves::{Booked, Move};
 use crate::orders::edit_orders;
 use crate::rooms::room_of;
-use crate::rows::{askable, owed, put_course};
 use drmaa_types::{Change, JobId, Limit, Moment, Refusal};
 use reservation_calendar::{Calendar, Key};
 use std::alloc::AllocError;
@@ -40,8 +39,8 @@ impl Book {
         ensures more { spare self.old ≤ spare self.new }
         ensures enough { grows m.now ≤ spare self.old → asks m.now ≤ spare_orders self.old → IsOk result }
     {
-        self.changes.reserve(owed(&self.rows) + m.grows())?;
-        self.orders.reserve(askable(&self.rows) + m.asks())
+        self.changes.reserve(self.rows.owed() + m.grows())?;
+        self.orders.reserve(self.rows.askable() + m.asks())
     }
 
     /// Refuses at a moment, where the journal has room for that.
@@ -125,7 +124,7 @@ impl Book {
         };
         push_change(&mut self.changes, change);
         edit_orders(&mut self.orders, m.job, m.orders);
-        put_course(&mut self.rows, m.job, &m.after);
+        self.rows.put_course(m.job, &m.after);
     }
 }
 

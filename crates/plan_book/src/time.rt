@@ -1,5 +1,6 @@
 //! What time does to rows, reservations and orders. None of it takes memory.
 ghost use Rattle.std.specs.Prelude.{◌≡◌, ◌+◌, ◌≤◌, ◌++◌, ◌&&◌, ◌||◌, length, map, filter, if◌then◌else◌, vec_len, vec_capacity};
+ghost use Rattle.std.specs.List.{list_all};
 ghost use Rattle.drmaa_types.specs.States.{is_waiting, is_started};
 ghost use Rattle.drmaa_model.specs.Courses.{is_unasked};
 ghost use Rattle.drmaa_model.specs.Time.{lasts, is_late, is_past, is_over, is_stranded, lapses, lapsed, is_due, called_in, kill_order};
@@ -7,6 +8,7 @@ ghost use Rattle.drmaa_model.specs.TimeLaws.{expiry};
 ghost use Rattle.reservation_calendar.specs.Schedules.{without};
 ghost use Rattle.plan_book.specs.Places.{AreInOrder};
 ghost use Rattle.plan_book.specs.Ties.{let_go_of};
+ghost use Rattle.plan_book.specs.Quiet.{is_left};
 
 use crate::courses::{called, failed, is_unasked};
 use crate::reservations::{is_accepted, is_lasting};
@@ -34,7 +36,8 @@ fn is_late(row: &Row, moment: Moment) -> bool
     }
 }
 
-fn is_past(end: End, moment: Moment) -> bool
+/// Whether an end has come.
+pub fn is_past(end: End, moment: Moment) -> bool
     ensures { result ≡ is_past moment end }
 {
     match end {
@@ -170,6 +173,22 @@ fn is_due_where(row: &Row, moment: Moment, stranded: bool) -> bool
         return false;
     }
     is_over(row, moment) || stranded
+}
+
+/// Whether time leaves all jobs as they are.
+pub fn are_left(rs: &Vec<Accepted>, rows: &Vec<Row>, moment: Moment) -> bool
+    requires order { AreInOrder rs.now.items }
+    ensures { result ≡ list_all (is_left moment rs.now.items) rows.now.items }
+{
+    rows.iter().all(|row| is_left(rs, row, moment))
+}
+
+/// Whether time leaves a job as it is.
+fn is_left(rs: &Vec<Accepted>, row: &Row, moment: Moment) -> bool
+    requires order { AreInOrder rs.now.items }
+    ensures { result ≡ is_left moment rs.now.items row.now }
+{
+    !lapses(rs, row, moment) && !is_due(rs, row, moment)
 }
 
 fn due_note(row: &Row, moment: Moment) -> Note

@@ -20,9 +20,11 @@ use Rattle.reservation_calendar.specs.Schedules.{Schedule, is_booked}
 use Rattle.plan_book.specs.TieLaws.{tied-fresh, fits-calendar, same-end, filter-same, tied-same, tied-booked, fits-plan}
 use Rattle.plan_book.specs.declared.moves.Booked.TheVariants.{Same, Books}
 use Rattle.plan_book.specs.Ties.{IsTied, MayMake, IsBeside, KeepsTie, booking_of}
-use Rattle.std.proofs.Common.{◌≡◌, ℕ, ◌+◌, ◌-◌, ◌≤◌, Bool, true, false, cond, ◌&&◌, min, max, List, ◌∷◌, map, filter, Option, Some, None, refl, sym, ◌∙◌, ap, subst, arith, leb, not, length}
+use Rattle.std.proofs.Common.{◌≡◌, ℕ, ◌+◌, ◌-◌, ◌≤◌, Bool, true, false, cond, ◌&&◌, min, max, List, [], ◌∷◌, map, filter, Option, Some, None, refl, sym, ◌∙◌, ap, subst, arith, leb, not, length}
 use Rattle.std.specs.Prelude.{int_lt, Ok, IfSome, is_some}
 use Rattle.std.specs.Option.{option_map, option_map_or}
+use Rattle.std.specs.List.{AllByRecursion}
+use Rattle.std.proofs.lemmas.Bool.Decides.{nat_tests}
 use Rattle.drmaa_model.specs.declared.replies.Launch.{Launch}
 use Rattle.drmaa_model.specs.declared.rows.Row.{Row}
 use Rattle.drmaa_model.specs.Fit.{IsFit, IsSound}
@@ -31,7 +33,7 @@ use Rattle.drmaa_model.specs.Operation.{Outcome, outcome}
 use Rattle.drmaa_model.specs.Launching.{launch, launch_of}
 use Rattle.drmaa_model.specs.OperationLaws.{outcome-served, outcome-fit}
 use Rattle.drmaa_model.specs.LaunchFit.{launch-effect, launch-keeps}
-use Rattle.drmaa_model.specs.Order.{held, is_ready, slots_for, better, first_in_order, next_launch, has_slots_in, has_turn, is_queued, is_reached}
+use Rattle.drmaa_model.specs.Order.{held, is_ready, may_come, has_slots, slots_for, better, first_in_order, next_launch, has_slots_in, has_turn, is_queued, is_reached}
 use Rattle.drmaa_model.specs.OrderLaws.{IsNextLaunch, next_launch-is, ready-parts, ready-from, queued-may_launch}
 use Rattle.drmaa_model.specs.Plan.{Plan}
 use Rattle.drmaa_model.specs.RowLaws.{row_of-all}
@@ -366,3 +368,25 @@ looked-grows p o next fit is said =
     let named : IsNext p next = subst (IsNextIn p) is said in
     let fact = next_launch-is p (named.row, named.slots) fit.jobs.rising named.first in
     subst (λ (m : Move). grows m ≤ 2) (sym named.is.move_is) (launch-grows p.moment named.row named.slots fact.state.waits)
+
+-- ---- where no slot is free, no job may be launched
+
+free-not : (used least total : ℕ) → total ≤ used → 1 ≤ least → leb (used + least) total ≡ false
+free-not used least total full some = grind (arith, nat_tests)
+
+and-not : (a b : Bool) → b ≡ false → (a && b) ≡ false
+and-not true b lacks = lacks
+and-not false b lacks = refl
+
+may-not : (m : ℕ) (p : Plan) (row : Row) → p.total ≤ held p.rows → IsSound row.wants row.course → may_launch m p (seen_row m p row) ≡ false
+may-not m p row full sound =
+    let at = seen_row m p row in
+    let least : 1 ≤ at.wants.min = subst (λ (w : Wants). 1 ≤ w.min) (sym (timed-wants m (filter (lasts m) p.reservations) row)) sound.least in
+    and-not (may_come (seen m p) at) (leb (held p.rows + at.wants.min) p.total && has_slots (seen m p) at.wants.min at)
+    (ap (λ (b : Bool). b && has_slots (seen m p) at.wants.min at) (free-not (held p.rows) at.wants.min p.total full least))
+
+pub none-free : (m : ℕ) (p : Plan) (rows : List Row) → p.total ≤ held p.rows → AllByRecursion (λ row. IsSound row.wants row.course) rows → filter (may_launch m p) (map (seen_row m p) rows) ≡ []
+none-free m p [] full sound = refl
+none-free m p (row ∷ rows) full sound =
+    ap (λ (b : Bool). cond b (seen_row m p row ∷ filter (may_launch m p) (map (seen_row m p) rows)) (filter (may_launch m p) (map (seen_row m p) rows))) (may-not m p row full sound.0)
+    ∙ none-free m p rows full sound.1

@@ -25,7 +25,7 @@ ghost use Rattle.scheduler_core.specs.Facts.{row_facts, job_from, lapses_at, rep
 
 use crate::facts::{self, RowFacts};
 use crate::ready::is_settled;
-use crate::rows::{held, reports_to_come};
+use crate::rows::reports_to_come;
 use crate::{launches, reports};
 use drmaa_model::{Accepted, Indices, Launch, Report, Signal, Submitted, Target};
 use drmaa_types::{Change, Control, JobId, Moment, Refusal, ReservationId, Reserved, Text};
@@ -343,8 +343,7 @@ impl Core {
     pub fn held(&self) -> u32
         ensures { result ≡ held self.now.plan.rows }
     {
-        let _total = self.book.total();
-        held(self.book.rows())
+        self.book.held()
     }
 
     /// The changes and the promised room.

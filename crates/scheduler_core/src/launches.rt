@@ -15,7 +15,6 @@ ghost use Rattle.plan_book.specs.Ties.{MayMake};
 ghost use Rattle.scheduler_core.specs.Launches.{IsLaunchOf, IsNext, IsNextIn, MayMakeNext, launch_booking, seen, seen_row};
 
 use crate::ready::{first_ready_at, slots_at};
-use crate::rows::held;
 use crate::times::course_then;
 use drmaa_model::{Launch, Row};
 use drmaa_types::{End, Moment, Refusal, TextList};
@@ -40,8 +39,7 @@ pub fn next_launch(book: &Book, alloc: Global, at: Moment) -> Result<Option<Next
     ensures some { next_launch (advance_plan 0 at (plan_of book.now)) ≡ None → result ≡ Ok None }
 {
     let moment = book.moment_at(at);
-    let _total = book.total();
-    let used = held(book.rows());
+    let used = book.held();
     match first_ready_at(book, moment, used) {
         None => Ok(None),
         Some(row) => Ok(Some(next_of(book, alloc, row, moment, used)?)),

@@ -1,15 +1,15 @@
 //! Who may be launched at a moment, and with how many slots. None of it takes memory.
-ghost use Rattle.std.specs.Prelude.{◌≡◌, ℕ, ◌+◌, ◌-◌, ◌^◌, ◌<◌, ◌≤◌, ◌&&◌, true, map, filter, nat_le, IsTrue, ◌↔◌};
+ghost use Rattle.std.specs.Prelude.{◌≡◌, ℕ, ◌+◌, ◌-◌, ◌^◌, ◌<◌, ◌≤◌, ◌&&◌, true, false, Some, map, filter, nat_le, IsTrue, ◌↔◌};
 ghost use Rattle.std.specs.Option.{option_copied, option_map, option_map_or};
 ghost use Rattle.drmaa_model.specs.declared.reservations.Accepted.{Accepted};
 ghost use Rattle.drmaa_model.specs.declared.rows.Row.{Row};
 ghost use Rattle.drmaa_model.specs.Load.{covers, in_reservation, in_array, holds_in, held_inside, reservation_of};
-ghost use Rattle.drmaa_model.specs.Order.{held, is_queued, is_reached, is_ready, has_slots_in, has_turn, first_in_order, settled};
+ghost use Rattle.drmaa_model.specs.Order.{held, is_queued, is_reached, is_ready, has_slots_in, has_turn, better, first_in_order, settled};
 ghost use Rattle.drmaa_model.specs.Time.{lasts, advance_plan};
 ghost use Rattle.plan_book.specs.Book.{plan_of, IsKept};
 ghost use Rattle.scheduler_core.specs.Launches.{seen, seen_row, may_launch, turn_of, slots_of, IsMost};
 
-use crate::rows::{best_of, held, is_reached};
+use crate::rows::{is_beaten, is_reached};
 use crate::times::course_then;
 use drmaa_model::{Accepted, Row, Wants};
 use drmaa_types::{ArrayId, JobState, Moment, ReservationId};
@@ -27,13 +27,39 @@ pub fn first_ready_at<'a>(book: &'a Book, moment: Moment, used: u32) -> Option<&
     ensures { option_map (seen_row moment (plan_of book.now)) (option_copied result)
         ≡ first_in_order (filter (may_launch moment (plan_of book.now)) (map (seen_row moment (plan_of book.now)) (plan_of book.now).rows)) }
 {
+    if used >= book.total() {
+        return None;
+    }
     let mut best: Option<&Row> = None;
     for row in book.rows() {
-        if may_launch_at(book, row, moment, used) {
-            best = Some(best_of(best, row));
-        }
+        best = best_with(book, best, row, moment, used);
     }
     best
+}
+
+/// The first in order of the best job so far and this one, where this one may be launched, and otherwise the best so far.
+fn best_with<'a>(
+    book: &Book,
+    best: Option<&'a Row>,
+    row: &'a Row,
+    moment: Moment,
+    used: u32,
+) -> Option<&'a Row>
+    requires kept { IsKept book.now }
+    requires later { (plan_of book.now).moment ≤ moment }
+    requires used { used ≡ held (plan_of book.now).rows }
+    ensures may { may_launch moment (plan_of book.now) (seen_row moment (plan_of book.now) row.now) ≡ true →
+        option_copied result ≡ Some (option_map_or (λ (first : Row). better first row.now) (option_copied best.entry) row.now) }
+    ensures not { may_launch moment (plan_of book.now) (seen_row moment (plan_of book.now) row.now) ≡ false → option_copied result ≡ option_copied best.entry }
+{
+    if is_beaten(best, row) {
+        return best;
+    }
+    if may_launch_at(book, row, moment, used) {
+        Some(row)
+    } else {
+        best
+    }
 }
 
 /// Whether nothing is left to do once time has come to this moment. Where no job holds slots, no order stands.
@@ -42,8 +68,7 @@ pub fn is_settled(book: &Book, at: Moment) -> bool
     ensures { result ≡ settled (advance_plan 0 at (plan_of book.now)) }
 {
     let moment = book.moment_at(at);
-    let _total = book.total();
-    let used = held(book.rows());
+    let used = book.held();
     if used > 0 {
         return false;
     }
@@ -56,23 +81,38 @@ fn may_launch_at(book: &Book, row: &Row, moment: Moment, used: u32) -> bool
     requires used { used ≡ held (plan_of book.now).rows }
     ensures { result ≡ may_launch moment (plan_of book.now) (seen_row moment (plan_of book.now) row.now) }
 {
-    let course = course_then(book, row, moment);
-    let free = is_free(used, row.wants.min, book.total());
-    let come = may_come(book, &row.wants, course.state, moment);
-    let has = has_slots(book, &row.wants, moment, row.wants.min);
-    all_three(come, free, has)
+    if !is_free(used, row.wants.min, book.total()) {
+        return false;
+    }
+    if !comes_at(book, row, moment) {
+        return false;
+    }
+    has_slots(book, &row.wants, moment, row.wants.min)
+}
+
+/// Whether a job may be launched as far as its state, its start and its array go.
+fn comes_at(book: &Book, row: &Row, moment: Moment) -> bool
+    requires kept { IsKept book.now }
+    requires few { (plan_of book.now).total < 2 ^ 32 }
+    requires later { (plan_of book.now).moment ≤ moment }
+    ensures { result ≡ (is_queued (seen_row moment (plan_of book.now) row.now).course.state
+        && is_reached moment row.now.wants.start && turn_of (plan_of book.now).rows row.now.wants) }
+{
+    if !is_queued(row.course.state) {
+        return false;
+    }
+    may_come(
+        book,
+        &row.wants,
+        course_then(book, row, moment).state,
+        moment,
+    )
 }
 
 fn is_free(used: u32, least: u32, total: u32) -> bool
     ensures { result ≡ nat_le (used + least) total }
 {
     u64::from(used) + u64::from(least) <= u64::from(total)
-}
-
-fn all_three(come: bool, free: bool, has: bool) -> bool
-    ensures { result ≡ (come && (free && has)) }
-{
-    come && free && has
 }
 
 fn may_come(book: &Book, wants: &Wants, state: JobState, moment: Moment) -> bool

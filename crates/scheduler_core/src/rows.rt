@@ -1,24 +1,12 @@
 //! What is read of all rows. None of it takes memory.
-ghost use Rattle.std.specs.Prelude.{◌≡◌, ◌<◌, ◌^◌};
+ghost use Rattle.std.specs.Prelude.{◌≡◌, ◌<◌, ◌^◌, IsTrue, IsFalse, Some, int_lt};
 ghost use Rattle.std.specs.Option.{option_copied, option_map_or};
 ghost use Rattle.drmaa_model.specs.declared.rows.Row.{Row};
-ghost use Rattle.drmaa_model.specs.Order.{held, is_reached, better};
+ghost use Rattle.drmaa_model.specs.Order.{is_reached, better};
 ghost use Rattle.scheduler_core.specs.Facts.{reports_due, reports_to_come};
 
 use drmaa_model::{Phase, Row};
 use drmaa_types::Moment;
-
-/// The slots that all jobs hold.
-pub fn held(rows: &Vec<Row>) -> u32
-    requires { held rows.now.items < 2 ^ 32 }
-    ensures { result ≡ held rows.now.items }
-{
-    let mut sum = 0;
-    for row in rows {
-        sum += row.course.held;
-    }
-    sum
-}
 
 /// The reports of starts and ends that the processes of all jobs may still bring.
 pub fn reports_to_come(rows: &Vec<Row>) -> u64
@@ -52,22 +40,19 @@ pub fn is_reached(moment: Moment, start: Option<Moment>) -> bool
     }
 }
 
-/// The first in order of the best job so far and this one.
-pub fn best_of<'a>(best: Option<&'a Row>, row: &'a Row) -> &'a Row
-    ensures { result.now ≡ option_map_or (λ (first : Row). better first row.now) (option_copied best.entry) row.now }
+/// Whether the best job so far stands before this one, which comes later: its priority is at least as great.
+pub fn is_beaten(best: Option<&Row>, row: &Row) -> bool
+    ensures beaten { IsTrue result → Some (option_map_or (λ (first : Row). better first row.now) (option_copied best.entry) row.now) ≡ option_copied best.entry }
+    ensures first { IsFalse result → option_map_or (λ (first : Row). better first row.now) (option_copied best.entry) row.now ≡ row.now }
 {
     match best {
-        Some(first) => better(first, row),
-        None => row,
+        Some(first) => !is_lesser(first, row),
+        None => false,
     }
 }
 
-fn better<'a>(first: &'a Row, second: &'a Row) -> &'a Row
-    ensures { result.now ≡ better first.now second.now }
+fn is_lesser(first: &Row, second: &Row) -> bool
+    ensures { result ≡ int_lt first.now.wants.priority second.now.wants.priority }
 {
-    if first.wants.priority < second.wants.priority {
-        second
-    } else {
-        first
-    }
+    first.wants.priority < second.wants.priority
 }

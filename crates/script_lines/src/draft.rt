@@ -115,85 +115,40 @@ pub fn with_field(alloc: Global, draft: Draft, field: JobField) -> Result<Draft,
     ensures { IfOk result (λ d. d ≡ templates.with_field draft field) }
 {
     let mut draft = draft;
+    set_field(alloc, &mut draft, field)?;
+    Ok(draft)
+}
+
+/// Sets what one line more says.
+fn set_field(alloc: Global, draft: &mut Draft, field: JobField) -> Result<(), AllocError>
+    ensures { OnOk result (draft.new ≡ templates.with_field draft.old field) }
+{
+    let template = &mut draft.template;
     match field {
         JobField::Command(text) => {
             draft.has_command = true;
-            draft.template.remote_command = text;
-            Ok(draft)
+            template.remote_command = text;
         }
-        JobField::Arg(text) => {
-            push_last(alloc, &mut draft.template.args, text)?;
-            Ok(draft)
-        }
-        JobField::Hold => {
-            draft.template.submit_as_hold = true;
-            Ok(draft)
-        }
-        JobField::Rerunnable => {
-            draft.template.rerunnable = true;
-            Ok(draft)
-        }
-        JobField::Env(variable) => {
-            push_last(alloc, &mut draft.template.job_environment, variable)?;
-            Ok(draft)
-        }
-        JobField::Directory(text) => {
-            draft.template.working_directory = Some(text);
-            Ok(draft)
-        }
-        JobField::Name(text) => {
-            draft.template.job_name = Some(text);
-            Ok(draft)
-        }
-        JobField::Input(text) => {
-            draft.template.input_path = Some(text);
-            Ok(draft)
-        }
-        JobField::Output(text) => {
-            draft.template.output_path = Some(text);
-            Ok(draft)
-        }
-        JobField::Error(text) => {
-            draft.template.error_path = Some(text);
-            Ok(draft)
-        }
-        JobField::Join => {
-            draft.template.join_files = true;
-            Ok(draft)
-        }
-        JobField::Queue(text) => {
-            draft.template.queue_name = Some(text);
-            Ok(draft)
-        }
-        JobField::MinSlots(slots) => {
-            draft.template.min_slots = Some(slots);
-            Ok(draft)
-        }
-        JobField::MaxSlots(slots) => {
-            draft.template.max_slots = Some(slots);
-            Ok(draft)
-        }
-        JobField::Priority(priority) => {
-            draft.template.priority = Some(priority);
-            Ok(draft)
-        }
-        JobField::Start(said) => {
-            draft.template.start_time = Some(said.moment);
-            Ok(draft)
-        }
-        JobField::Deadline(said) => {
-            draft.template.deadline_time = Some(said.moment);
-            Ok(draft)
-        }
-        JobField::Limit(limit) => {
-            push_last(alloc, &mut draft.template.resource_limits, limit)?;
-            Ok(draft)
-        }
-        JobField::Other(attribute) => {
-            push_last(alloc, &mut draft.template.others, attribute)?;
-            Ok(draft)
-        }
+        JobField::Arg(text) => push_last(alloc, &mut template.args, text)?,
+        JobField::Hold => template.submit_as_hold = true,
+        JobField::Rerunnable => template.rerunnable = true,
+        JobField::Env(variable) => push_last(alloc, &mut template.job_environment, variable)?,
+        JobField::Directory(text) => template.working_directory = Some(text),
+        JobField::Name(text) => template.job_name = Some(text),
+        JobField::Input(text) => template.input_path = Some(text),
+        JobField::Output(text) => template.output_path = Some(text),
+        JobField::Error(text) => template.error_path = Some(text),
+        JobField::Join => template.join_files = true,
+        JobField::Queue(text) => template.queue_name = Some(text),
+        JobField::MinSlots(slots) => template.min_slots = Some(slots),
+        JobField::MaxSlots(slots) => template.max_slots = Some(slots),
+        JobField::Priority(priority) => template.priority = Some(priority),
+        JobField::Start(said) => template.start_time = Some(said.moment),
+        JobField::Deadline(said) => template.deadline_time = Some(said.moment),
+        JobField::Limit(limit) => push_last(alloc, &mut template.resource_limits, limit)?,
+        JobField::Other(attribute) => push_last(alloc, &mut template.others, attribute)?,
     }
+    Ok(())
 }
 
 /// Whether what a line sets is set already. What may stand any number of times is never set.
@@ -230,34 +185,26 @@ pub fn with_reservation_field(
     ensures { IfOk result (λ t. t ≡ templates.with_reservation_field template field) }
 {
     let mut template = template;
+    set_reservation_field(alloc, &mut template, field)?;
+    Ok(template)
+}
+
+/// Sets what one line more says.
+fn set_reservation_field(
+    alloc: Global,
+    template: &mut ReservationTemplate,
+    field: ReservationField,
+) -> Result<(), AllocError>
+    ensures { OnOk result (template.new ≡ templates.with_reservation_field template.old field) }
+{
     match field {
-        ReservationField::Name(text) => {
-            template.reservation_name = Some(text);
-            Ok(template)
-        }
-        ReservationField::Start(beginning) => {
-            template.start_time = Some(start_of(beginning));
-            Ok(template)
-        }
-        ReservationField::End(said) => {
-            template.end_time = Some(said.moment);
-            Ok(template)
-        }
-        ReservationField::Duration(seconds) => {
-            template.duration = Some(seconds);
-            Ok(template)
-        }
-        ReservationField::MinSlots(slots) => {
-            template.min_slots = Some(slots);
-            Ok(template)
-        }
-        ReservationField::MaxSlots(slots) => {
-            template.max_slots = Some(slots);
-            Ok(template)
-        }
-        ReservationField::Other(attribute) => {
-            push_last(alloc, &mut template.others, attribute)?;
-            Ok(template)
-        }
+        ReservationField::Name(text) => template.reservation_name = Some(text),
+        ReservationField::Start(beginning) => template.start_time = Some(start_of(beginning)),
+        ReservationField::End(said) => template.end_time = Some(said.moment),
+        ReservationField::Duration(seconds) => template.duration = Some(seconds),
+        ReservationField::MinSlots(slots) => template.min_slots = Some(slots),
+        ReservationField::MaxSlots(slots) => template.max_slots = Some(slots),
+        ReservationField::Other(attribute) => push_last(alloc, &mut template.others, attribute)?,
     }
+    Ok(())
 }

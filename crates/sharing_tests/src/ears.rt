@@ -69,7 +69,9 @@ fn the_second_callback_hears_from_its_place_on(rt: HostRuntime) -> Result<(), Fa
         return Ok(());
     };
 
+    assert!(rt; !ears.listens());
     ears.place(1, 0);
+    assert!(rt; ears.listens());
     let mut batch = ChangeBatch::new();
     batch.push(change(3, 1, JobState::Queued, JobState::QueuedHeld));
     batch.push(change(4, 1, JobState::QueuedHeld, JobState::Queued));

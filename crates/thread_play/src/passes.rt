@@ -40,7 +40,7 @@ pub(crate) fn pump_once<R: Wait, C: Clock, B: Callback>(
     hub.pump(rt, shared, &mut pass.client, &mut pass.clock);
 }
 
-/// Hands over what changes, until the clients are over.
+/// Hands over what changes, until the clients are over; nothing, where no number has a place, since no client registers a callback.
 pub(crate) fn follow<R: Wait + Pause, C: Clock, B: Callback>(
     rt: &R,
     shared: &SharedMachine,
@@ -54,6 +54,9 @@ pub(crate) fn follow<R: Wait + Pause, C: Clock, B: Callback>(
     requires size { shared.now.fixed.journal < 2 ^ 64 }
     ensures { GoesOn B.counted B.told shared.now hub.old pass.old.client hub.new pass.new.client }
 {
+    if !hub.listens() {
+        return;
+    }
     for _ in rt.forever() {
         pump_once(rt, shared, hub, pass);
         if done.clients_over(rt) {

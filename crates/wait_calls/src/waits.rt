@@ -50,11 +50,12 @@ pub fn wait<R: Wait + Pause, C: Clock>(
         timeout,
     };
     for _ in rt.forever() {
+        let strokes = desk.bell.strokes(rt, kind);
         match desk.look_at_wait(rt, awaited) {
             WaitLook::NotYet(back) => awaited = back,
             WaitLook::Over(made) => return told(made),
         }
-        desk.bell.rest(rt);
+        desk.bell.rest_since(rt, strokes);
     }
     unreachable!()
 }

@@ -2,7 +2,7 @@
 ghost use Rattle.std.specs.Prelude.{◌≡◌};
 ghost use Rattle.turn_lock.specs.Tokens.{IsFree};
 
-use crate::machines::{SESSION, desk, end, job, launch, machine, numbers, open, run, stopped};
+use crate::machines::{SESSION, at, desk, end, job, launch, machine, numbers, open, run, stopped};
 use attendant::{Reaper, finish};
 use call_history::{Bell, Desk};
 use child_spawner::{Fate, FateList, MemoryChild, MemorySpawner};
@@ -159,5 +159,23 @@ fn launcher_and_reaper_end_the_waits_of_a_client(rt: HostRuntime) {
     assert_eq!(rt;
         side_by_side(&rt, rt.alloc(), launcher, reaping, client),
         (Ok(()), (Ok(JobState::Done), Ok(JobState::Failed)))
+    );
+}
+
+#[test]
+fn a_wait_at_a_bell_that_nobody_strikes_ends_by_its_clock(rt: HostRuntime) {
+    let (shared, mut opener) = machine(&rt, rt.alloc(), 4_000_000);
+    let bell = Bell::new();
+    let mut client = desk(&shared, &mut opener, &bell, StepClock::new(at(0), 1));
+    assert!(rt; open(&rt, rt.alloc(), &mut client));
+    assert!(rt; run(&rt, rt.alloc(), &mut client, 1));
+    assert_eq!(rt;
+        SESSION.wait_any_terminated(
+            &rt,
+            &mut client,
+            numbers(rt.alloc(), &[1]),
+            Timeout::Seconds(3)
+        ),
+        Err(Refusal::Timeout)
     );
 }

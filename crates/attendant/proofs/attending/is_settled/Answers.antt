@@ -1,4 +1,4 @@
-use Rattle.attendant.proofs.Desks.{still-look}
+use Rattle.attendant.proofs.Desks.{still-learnt, still-look}
 use Rattle.attendant.proofs.attending.is_settled.Goals as goal
 
 pub returns-in-Settled-true-clause-launcher : goal.returns-in-Settled-true-clause-launcher
@@ -8,3 +8,7 @@ returns-in-Settled-true-clause-launcher g c = still-look _ c.hand_over.new.to _ 
 pub returns-in_default-clause-launcher : goal.returns-in_default-clause-launcher
 returns-in_default-clause-launcher g c = still-look _ c.hand_over.new.to _ _ _ _ c.look.ensures.shared c.look.ensures.client c.hand_over.ensures.number c.look.ensures.number c.hand_over.ensures.mine
     c.hand_over.ensures.from_old c.look.ensures.own c.look.ensures.legal c.look.ensures.answer
+
+pub returns-then-not-idle-clause-launcher : goal.returns-then-not-idle-clause-launcher
+returns-then-not-idle-clause-launcher g c = still-learnt _ c.hand_over.new.to c.hand_over.ensures.to c.hand_over.ensures.number c.hand_over.ensures.mine c.hand_over.ensures.own
+    c.hand_over.ensures.from_old c.hand_over.ensures.legal

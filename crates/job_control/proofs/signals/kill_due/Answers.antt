@@ -18,12 +18,12 @@ pub returns-then-is_killed : goal.returns-then-is_killed
 returns-then-is_killed c =
     let test = is_killed c.args.at (plan_of c.args.book.now) in
     ap (λ (o : Order). Some o) c.kill_order.ensures
-    ∙ sym (ap (option_map kill_order) (ap (find test) (sym c.deref-row-items.ensures.value) ∙ c.loop-row.invariant
+    ∙ sym (ap (option_map kill_order) (ap (find test) (sym (c.deref-row-items.ensures.value ∙ c.rows.ensures)) ∙ c.loop-row.invariant
     ∙ find-here test c.deref-row-items.result.now c.loop-row.row-index c.row-item.result (omega arith) (ap test (sym c.row-item.is) ∙ sym c.is_killed.ensures ∙ c.if-is_killed.true)
     ∙ ap (λ (r : Row). Some r) (sym c.row-item.is)))
 
 pub returns : goal.returns
 returns c =
     let test = is_killed c.args.at (plan_of c.args.book.now) in
-    sym (ap (option_map kill_order) (ap (find test) (sym c.deref-row-items.ensures.value) ∙ c.loop-row.invariant
+    sym (ap (option_map kill_order) (ap (find test) (sym (c.deref-row-items.ensures.value ∙ c.rows.ensures)) ∙ c.loop-row.invariant
     ∙ find-over test c.deref-row-items.result.now c.loop-row.row-index c.loop-row-test.false))

@@ -17,11 +17,11 @@ loop-row-preserved c =
 pub returns-then-is_permitted : goal.returns-then-is_permitted
 returns-then-is_permitted c =
     let test : Row → Bool = λ (row : Row). is_meant c.args.target.now row && may_act c.args.act (row_then c.args.at (plan_of c.args.book.now) row).course.state in
-    sym (sym (any-then c.args.target.now c.args.at (plan_of c.args.book.now) c.args.act) ∙ ap (list_any test) (sym c.deref-row-items.ensures.value) ∙ c.loop-row.invariant
+    sym (sym (any-then c.args.target.now c.args.at (plan_of c.args.book.now) c.args.act) ∙ ap (list_any test) (sym (c.deref-row-items.ensures.value ∙ c.rows.ensures)) ∙ c.loop-row.invariant
     ∙ any-here test c.deref-row-items.result.now c.loop-row.row-index c.row-item.result (omega arith) (ap test (sym c.row-item.is) ∙ sym c.is_permitted.ensures ∙ c.if-is_permitted.true))
 
 pub returns : goal.returns
 returns c =
     let test : Row → Bool = λ (row : Row). is_meant c.args.target.now row && may_act c.args.act (row_then c.args.at (plan_of c.args.book.now) row).course.state in
-    sym (sym (any-then c.args.target.now c.args.at (plan_of c.args.book.now) c.args.act) ∙ ap (list_any test) (sym c.deref-row-items.ensures.value) ∙ c.loop-row.invariant
+    sym (sym (any-then c.args.target.now c.args.at (plan_of c.args.book.now) c.args.act) ∙ ap (list_any test) (sym (c.deref-row-items.ensures.value ∙ c.rows.ensures)) ∙ c.loop-row.invariant
     ∙ any-over test c.deref-row-items.result.now c.loop-row.row-index c.loop-row-test.false)

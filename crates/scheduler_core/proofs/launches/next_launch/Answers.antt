@@ -1,7 +1,7 @@
-use Rattle.std.proofs.Common.{◌≡◌, ℕ, filter, Some, None, sym, ap, subst, arith}
+use Rattle.std.proofs.Common.{◌≡◌, ℕ, filter, Some, None, sym, subst, arith}
 use Rattle.drmaa_model.specs.declared.rows.Row.{Row}
 use Rattle.drmaa_model.specs.FitLaws.{advance-fit}
-use Rattle.drmaa_model.specs.Order.{first_in_order, held, is_ready, slots_for}
+use Rattle.drmaa_model.specs.Order.{first_in_order, is_ready, slots_for}
 use Rattle.drmaa_model.specs.Time.{advance_plan, lasts}
 use Rattle.drmaa_model.specs.TimeLaws.{timed-only, weight-advance}
 use Rattle.plan_book.specs.Book.{plan_of}
@@ -9,9 +9,6 @@ use Rattle.scheduler_core.specs.Launches.{seen, seen_row, IsLaunchOf}
 use Rattle.scheduler_core.proofs.LaunchSteps.{look-at, none-next, launch-next, NextFacts, next-facts}
 use Rattle.scheduler_core.proofs.launches.next_launch.Goals as goal
 use Rattle.scheduler_core.proofs.launches.next_launch.Goals.{In-Some}
-
-pub held-used-requires : goal.held-used-requires
-held-used-requires c = (let within = c.requires.kept.fit.within in let same = ap held c.rows.ensures in omega arith)
 
 pub returns-in-None-clause-next : goal.returns-in-None-clause-next
 returns-in-None-clause-next c =

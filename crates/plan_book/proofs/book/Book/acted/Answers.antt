@@ -1,4 +1,5 @@
 use Rattle.std.proofs.Common.{◌≡◌, ℕ, List, filter, length, sym, ◌∙◌, ap, arith}
+use Rattle.std.specs.Global.{Vec}
 use Rattle.drmaa_model.specs.declared.rows.Row.{Row}
 use Rattle.drmaa_model.specs.Controlling.{is_controlled}
 use Rattle.drmaa_model.specs.Fit.{IsFit}
@@ -18,7 +19,9 @@ value c =
     let t = c.args.target.now in
     let what = c.args.what in
     let count : ℕ → ℕ = λ m. length (filter (λ (row : Row). is_controlled t what (timed m (filter (lasts m) p.reservations) row)) p.rows) in
-    c.acted_then.ensures ∙ ap count c.moment_at.ensures
+    c.acted_then.ensures
+    ∙ ap (λ (v : Vec Row). length (filter (λ (row : Row). is_controlled t what (timed c.moment_at.result (filter (lasts c.moment_at.result) p.reservations) row)) v.items)) c.list.ensures
+    ∙ ap count c.moment_at.ensures
     ∙ sym (filter-map (is_controlled t what) (timed q.moment q.reservations) p.rows)
     ∙ ap (λ (rows : List Row). length (filter (is_controlled t what) rows)) (map-twice (called_in q.moment q.reservations) (lapsed q.moment q.reservations) p.rows)
 

@@ -1,10 +1,13 @@
-use Rattle.std.proofs.Common.{List, map, ap, ◌∙◌, arith}
+use Rattle.std.proofs.Common.{List, ◌++◌, map, length, ap, ◌∙◌, arith}
+use Rattle.std.specs.Global.{Vec}
+use Rattle.std.specs.List.{flat_map}
 use Rattle.drmaa_types.specs.declared.changes.Change.{Change}
 use Rattle.drmaa_model.specs.declared.courses.Order.{Order}
 use Rattle.drmaa_model.specs.declared.rows.Row.{Row}
-use Rattle.drmaa_model.specs.Controlling.{control, control_step}
+use Rattle.drmaa_model.specs.Controlling.{control, control_step, asked_orders}
 use Rattle.drmaa_model.specs.Plan.{Plan}
 use Rattle.plan_book.specs.Book.{plan_of, owed, askable}
+use Rattle.plan_book.specs.Sweeps.{noted}
 use Rattle.plan_book.proofs.SweepLaws.{control-owed, control-askable}
 use Rattle.plan_book.proofs.book.Book.control_now.Goals as goal
 
@@ -12,13 +15,15 @@ pub note_controls-requires : goal.note_controls-requires
 note_controls-requires c =
     let s = c.args.self.now in
     let sum = control-owed c.args.entry s.moment c.args.target.now c.args.what s.rows.items in
-    omega (arith, sum, c.requires.room.changes, c.requires.changes)
+    let notes = ap (λ (v : Vec Row). length (flat_map (noted c.args.entry s.moment c.args.target.now c.args.what) v.items)) c.list.ensures in
+    omega (arith, sum, notes, c.requires.room.changes, c.requires.changes)
 
 pub ask_controls-requires : goal.ask_controls-requires
 ask_controls-requires c =
     let s = c.args.self.now in
     let sum = control-askable s.moment c.args.target.now c.args.what s.rows.items in
-    omega (arith, sum, c.requires.room.orders, c.requires.orders)
+    let orders = ap (λ (v : Vec Row). length (flat_map (asked_orders c.args.target.now c.args.what) v.items)) c.list-2.ensures in
+    omega (arith, sum, orders, c.requires.room.orders, c.requires.orders)
 
 pub returns-clause-plan : goal.returns-clause-plan
 returns-clause-plan c =
@@ -26,21 +31,25 @@ returns-clause-plan c =
     let p = plan_of s in
     let f = control_step s.moment c.args.target.now c.args.what in
     ap (λ (rs : List Row). let q : Plan = record p { rows = rs; orders = c.ask_controls.new.orders.items; changes = c.note_controls.new.changes.items } in q) c.control_rows.ensures
-    ∙ ap (λ (os : List Order). let q : Plan = record p { rows = map f p.rows; orders = os; changes = c.note_controls.new.changes.items } in q) c.ask_controls.ensures.items
-    ∙ ap (λ (cs : List Change). let q : Plan = record ((control c.args.target.now c.args.what).effect c.args.entry p) { changes = cs } in q) c.note_controls.ensures.items
+    ∙ ap (λ (os : List Order). let q : Plan = record p { rows = map f p.rows; orders = os; changes = c.note_controls.new.changes.items } in q) (c.ask_controls.ensures.items ∙ ap (λ (v : Vec Row). s.orders.items ++ flat_map (asked_orders c.args.target.now c.args.what) v.items) c.list-2.ensures)
+    ∙ ap (λ (cs : List Change). let q : Plan = record ((control c.args.target.now c.args.what).effect c.args.entry p) { changes = cs } in q)
+    (c.note_controls.ensures.items ∙ ap (λ (v : Vec Row). s.changes.items ++ flat_map (noted c.args.entry s.moment c.args.target.now c.args.what) v.items) c.list.ensures)
 
 pub returns-clause-room : goal.returns-clause-room
 returns-clause-room c =
     let s = c.args.self.now in
     let sum = control-owed c.args.entry s.moment c.args.target.now c.args.what s.rows.items in
     let asks = control-askable s.moment c.args.target.now c.args.what s.rows.items in
+    let notes = ap (λ (v : Vec Row). length (flat_map (noted c.args.entry s.moment c.args.target.now c.args.what) v.items)) c.list.ensures in
+    let orders = ap (λ (v : Vec Row). length (flat_map (asked_orders c.args.target.now c.args.what) v.items)) c.list-2.ensures in
     record {
-      changes = omega (arith, ap owed c.control_rows.ensures, sum, c.requires.room.changes, c.requires.changes, c.note_controls.ensures.len, c.note_controls.ensures.capacity);
-      orders = omega (arith, ap askable c.control_rows.ensures, asks, c.requires.room.orders, c.requires.orders, c.ask_controls.ensures.len, c.ask_controls.ensures.capacity);
+      changes = omega (arith, notes, ap owed c.control_rows.ensures, sum, c.requires.room.changes, c.requires.changes, c.note_controls.ensures.len, c.note_controls.ensures.capacity);
+      orders = omega (arith, orders, ap askable c.control_rows.ensures, asks, c.requires.room.orders, c.requires.orders, c.ask_controls.ensures.len, c.ask_controls.ensures.capacity);
     }
 
 pub returns-clause-spare : goal.returns-clause-spare
 returns-clause-spare c =
     let s = c.args.self.now in
     let sum = control-owed c.args.entry s.moment c.args.target.now c.args.what s.rows.items in
-    omega (arith, ap owed c.control_rows.ensures, sum, c.requires.room.changes, c.requires.changes, c.note_controls.ensures.len, c.note_controls.ensures.capacity)
+    let notes = ap (λ (v : Vec Row). length (flat_map (noted c.args.entry s.moment c.args.target.now c.args.what) v.items)) c.list.ensures in
+    omega (arith, notes, ap owed c.control_rows.ensures, sum, c.requires.room.changes, c.requires.changes, c.note_controls.ensures.len, c.note_controls.ensures.capacity)

@@ -25,7 +25,7 @@ abbrev left : (c : After-drop_done) → Plan
 left c = (reap c.args.target.now).effect c.args.entry (advance_plan c.args.entry c.args.at (plan_of c.args.self.now))
 
 abbrev after : (c : After-drop_done) → Plan
-after c = record (plan_of c.advance.new.self) { rows = c.drop_done.new.rows.items }
+after c = record (plan_of c.advance.new.self) { rows = c.drop_done.new.self.items }
 
 plan : (c : After-drop_done) → after c ≡ left c
 plan c =

@@ -17,12 +17,12 @@ use Rattle.plan_book.proofs.ArrivalLaws.{forgot-owed, forgot-askable, tied-forgo
 use Rattle.plan_book.proofs.book.Book.forget_home.Goals as goal
 use Rattle.plan_book.proofs.book.Book.forget_home.Goals.{After-leave_reservations}
 
-rows : (c : After-leave_reservations) → c.leave_rows.new.rows.items
+rows : (c : After-leave_reservations) → c.leave_rows.new.self.items
     ≡ map (λ (row : Row). record row { home = left_by c.args.home row.home }) (filter (λ (row : Row). not (is_forgotten c.args.home row)) c.advance.new.self.rows.items)
 rows c = c.leave_rows.ensures ∙ ap (map (λ (row : Row). record row { home = left_by c.args.home row.home })) c.drop_forgotten.ensures
 
 abbrev after : (c : After-leave_reservations) → Plan
-after c = record (plan_of c.advance.new.self) { rows = c.leave_rows.new.rows.items; reservations = c.leave_reservations.new.rs.items }
+after c = record (plan_of c.advance.new.self) { rows = c.leave_rows.new.self.items; reservations = c.leave_reservations.new.rs.items }
 
 plan : (c : After-leave_reservations) → after c ≡ forget_home c.args.home (advance_plan c.args.entry c.args.at (plan_of c.args.self.now))
 plan c =

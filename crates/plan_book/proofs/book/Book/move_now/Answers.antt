@@ -21,7 +21,7 @@ pub returns-clause-plan : goal.returns-clause-plan
 returns-clause-plan c =
     let p = plan_of c.args.self.now in
     let changes = c.push_change.ensures.items ∙ sym (moved-changes c.args.entry p c.args.m.now c.requires.fit c.requires.move_is) in
-    ap (λ (cs : List Change). let q : Plan = record p { rows = c.put_course.new.rows.items; orders = c.edit_orders.new.orders.items; changes = cs } in q) changes
+    ap (λ (cs : List Change). let q : Plan = record p { rows = c.put_course.new.self.items; orders = c.edit_orders.new.orders.items; changes = cs } in q) changes
     ∙ ap (λ (rs : List Row). let q : Plan = record (moved c.args.entry c.args.m.now p) { rows = rs; orders = c.edit_orders.new.orders.items } in q) c.put_course.ensures
     ∙ ap (λ (os : List Order). let q : Plan = record (moved c.args.entry c.args.m.now p) { orders = os } in q) c.edit_orders.ensures.items
 

@@ -1,13 +1,12 @@
 //! A start that is held until a callback hears that its job is running.
 ghost use Rattle.std.specs.Prelude.{None};
 
-use crate::commands::run;
-use crate::outcomes::Outcome;
-use crate::tests::flags::Flags;
-use crate::tests::held::HeldSpawner;
-use crate::tests::{StillClocks, is_legal, sink, source, times, words};
+use crate::flags::Flags;
+use crate::held::HeldSpawner;
+use crate::settings::{StillClocks, is_legal, sink, source, times, words};
 use byte_streams::{MemorySink, MemorySource};
 use call_history::Bell;
+use drmaa_script::{Outcome, run};
 use drmaa_types::{JobState, Notification};
 use notify_hub::{Callback, Callbacks};
 use std::alloc::Global;

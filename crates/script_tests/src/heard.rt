@@ -1,10 +1,9 @@
 //! What callbacks hear of a play on one thread, and of a run in threads.
-use crate::commands::run;
-use crate::outcomes::Outcome;
-use crate::tests::{StillClocks, sink, source, words};
+use crate::settings::{StillClocks, sink, source, words};
 use byte_streams::{MemorySink, MemorySource};
 use call_history::Bell;
 use child_spawner::{FateList, MemorySpawner};
+use drmaa_script::{Outcome, run};
 use drmaa_types::{JobState, PlaceList};
 use notify_hub::{Callback, Callbacks, MemoryCallback};
 use std::alloc::{AllocError, Global};

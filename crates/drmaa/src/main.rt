@@ -5,33 +5,14 @@
 use byte_streams::{StdSink, StdSource};
 use call_history::Bell;
 use child_spawner::LocalSpawner;
+use drmaa_script::{Outcome, Status, SystemClocks, printed_callbacks, run};
 use drmaa_types::{Text, TextList};
-use printed::printed_callbacks;
 use std::alloc::{AllocError, Global};
 use std::process::ExitCode;
 use std::sync::Wait;
 use std::thread::Threads;
 use std::time::Clock as Pause;
 use std::{env, io};
-
-mod checks;
-mod clocks;
-mod commands;
-mod inputs;
-mod outcomes;
-mod plays;
-mod printed;
-mod registers;
-mod status;
-#[cfg(test)]
-mod tests;
-mod threads;
-
-pub use clocks::{SystemClock, SystemClocks};
-pub use commands::{Command, run};
-pub use outcomes::Outcome;
-pub use printed::PrintedCallback;
-pub use status::Status;
 
 /// The words behind the program's name.
 fn words(rt: &HostRuntime) -> Result<TextList, io::Error> {

@@ -3,13 +3,12 @@ ghost use Rattle.std.specs.Prelude.{None};
 ghost use Rattle.drmaa_types.specs.Readings.{step_reading};
 ghost use Rattle.child_spawner.specs.Spawners.{plain_fate};
 
-use crate::commands::run;
-use crate::outcomes::Outcome;
-use crate::tests::flags::Flags;
-use crate::tests::{is_legal, sink, source, times, words};
+use crate::flags::Flags;
+use crate::settings::{is_legal, sink, source, times, words};
 use byte_streams::{MemorySink, MemorySource};
 use call_history::Bell;
 use child_spawner::{Child, Spawner};
+use drmaa_script::{Outcome, run};
 use drmaa_types::{
     CallerId, Clock, Clocks, Exit, Failed, JobId, Moment, SignalKind, StepClock, TextList,
 };

@@ -1,25 +1,15 @@
 //! Runs on sources and sinks in memory whose calls fail one after the other, and what a status carries.
-use crate::commands::run;
-use crate::outcomes::Outcome;
-use crate::status::Status;
+use crate::settings::{is_legal, number, outcome, places, sink, source, times};
 use byte_streams::{MemorySink, MemorySource};
-use call_history::Bell;
 use child_spawner::{FateList, MemorySpawner};
 use drmaa_model::Reply;
-use drmaa_types::{
-    Bytes, CallerId, Clocks, JobState, Moment, PlaceList, Refusal, StepClock, Text, TextList,
-};
-use notify_hub::{Callbacks, MemoryCallback};
+use drmaa_script::{Outcome, Status};
+use drmaa_types::{JobState, PlaceList, Refusal};
 use std::alloc::Global;
 use std::sync::Wait;
 use std::test::Fail;
 use std::thread::Threads;
 use std::time::Clock as Pause;
-
-mod beside;
-mod flags;
-mod heard;
-mod held;
 
 const SCRIPT: &str =
     "machine 4 \"node1\" suspend\ntemplate t\ncommand \"true\"\nend\nclient\ncreate-jobs s \"s\"\nrun j s t\nlaunch\nexit j 0\nstate s j\nend\n";
@@ -43,66 +33,6 @@ const COMMANDS: [(&str, &str, &str); 4] = [
     ("check", JOURNAL, "legal 5\n"),
 ];
 
-/// The words between spaces; none of an empty line.
-fn words(alloc: Global, line: &str) -> Result<TextList, Fail> {
-    let mut words = Vec::new(alloc);
-    for word in line.split(' ') {
-        if !word.is_empty() {
-            words.push(Text::from_string(String::from_str(alloc, word)?))?;
-        }
-    }
-    Ok(TextList::from_vec(words))
-}
-
-fn places(alloc: Global, numbers: &[u64]) -> Result<PlaceList, Fail> {
-    Ok(PlaceList::from_vec(Vec::from_slice(alloc, numbers)?))
-}
-
-/// A source of this text, which fails at these reads.
-fn source(alloc: Global, text: &str, failing: &[u64]) -> Result<MemorySource, Fail> {
-    let bytes = Bytes::from_vec(Vec::from_slice(alloc, text.as_bytes())?);
-    Ok(MemorySource::new(bytes, places(alloc, failing)?))
-}
-
-/// A sink for so many bytes, which fails at these writes.
-fn sink(alloc: Global, room: usize, failing: &[u64]) -> Result<MemorySink, Fail> {
-    Ok(MemorySink::new(alloc, room, places(alloc, failing)?, false)?)
-}
-
-/// Clocks that stand at 0.
-struct StillClocks {}
-
-impl Clocks for StillClocks {
-    type One = StepClock;
-
-    fn clock(&self, caller: CallerId) -> StepClock {
-        StepClock::new(Moment::new(0).unwrap_or(Moment::greatest()), 0)
-    }
-}
-
-/// What a run of these words leaves that nobody hears.
-fn outcome<E: Threads + Wait + Pause + Sync>(
-    rt: &E,
-    alloc: Global,
-    line: &str,
-    source: &mut MemorySource,
-    sink: &mut MemorySink,
-    spawner: &mut MemorySpawner,
-) -> Result<Outcome<StepClock, MemoryCallback>, Fail> {
-    let words = words(alloc, line)?;
-    Ok(run(
-        rt,
-        alloc,
-        &words,
-        source,
-        sink,
-        &StillClocks {},
-        spawner,
-        &Bell::new(),
-        Callbacks::new(alloc),
-    ))
-}
-
 /// A run: its words, its text and the reads that fail, how many bytes can be written, the writes that fail, and whether finishing
 /// fails.
 #[derive(Clone, Copy)]
@@ -125,19 +55,6 @@ fn plain<'a>(line: &'a str, text: &'a str) -> Setting<'a> {
         writes: &[],
         finish_fails: false,
     }
-}
-
-/// The number of the status with which a run ends.
-fn number<E: Threads + Wait + Pause + Sync>(
-    rt: &E,
-    alloc: Global,
-    line: &str,
-    source: &mut MemorySource,
-    sink: &mut MemorySink,
-) -> Result<u8, Fail> {
-    let mut spawner = MemorySpawner::new(alloc, FateList::new(alloc), PlaceList::new(alloc));
-    let Outcome { status, .. } = outcome(rt, alloc, line, source, sink, &mut spawner)?;
-    Ok(status.number())
 }
 
 /// The same, and what is written.
@@ -405,14 +322,6 @@ fn a_fault_has_the_reply_given_and_the_machine_s(rt: HostRuntime) -> Result<(), 
 const NIGHTLY: &str =
     "machine 4 \"node1\" suspend\ntemplate t\ncommand \"sh\"\narg \"-c\"\narg \"exit 0\"\ndirectory \"/tmp\"\noutput \"out.txt\"\nenv \"A\" \"b\"\nminslots 1\nlimit WALLCLOCK_TIME 3600\nend\nsetup\ncreate-jobs z \"nightly\"\nend\nclient\nopen-jobs s \"nightly\"\nrun j s t\nwait-terminated s infinite j\ninfo s j\nreap s j\nend\nclient\nopen-jobs s \"nightly\"\nrun j s t\nwait-terminated s infinite j\ninfo s j\nreap s j\nend\n";
 
-/// How often the bytes have this text.
-fn times(bytes: &[u8], text: &str) -> usize {
-    bytes
-        .windows(text.len().max(1))
-        .filter(|part| *part == text.as_bytes())
-        .count()
-}
-
 /// What is compared of a run of clients in threads: its status, how many clocks it gives back, how many starts were asked for, and
 /// the journal.
 struct Ran {
@@ -461,21 +370,4 @@ fn clients_in_threads_leave_a_legal_journal(rt: HostRuntime) -> Result<(), Fail>
     assert_eq!(rt; times(journal.as_slice(), " state DONE "), 1);
     assert_eq!(rt; times(journal.as_slice(), "note startFailed"), 1);
     is_legal(&rt, rt.alloc(), journal.as_slice())
-}
-
-/// Checks a journal.
-fn is_legal<E: Threads + Wait + Pause + Sync>(
-    rt: &E,
-    alloc: Global,
-    journal: &[u8],
-) -> Result<(), Fail> {
-    let bytes = Bytes::from_vec(Vec::from_slice(alloc, journal)?);
-    let mut source = MemorySource::new(bytes, places(alloc, &[])?);
-    let mut sink = sink(alloc, 1000, &[])?;
-    let number = number(rt, alloc, "check", &mut source, &mut sink)?;
-    if number == 0 {
-        Ok(())
-    } else {
-        Err(Fail::new("the journal is not legal"))
-    }
 }

@@ -1,0 +1,20 @@
+//! The commands of the program `drmaa`: scripts of clients are played, and the journal of what they were answered or the listing
+//! of their jobs is written; and journals are checked.
+#![tactic(auto)]
+
+mod checks;
+mod clocks;
+mod commands;
+mod inputs;
+mod outcomes;
+mod plays;
+mod printed;
+mod registers;
+mod status;
+mod threads;
+
+pub use clocks::{SystemClock, SystemClocks};
+pub use commands::{Command, run};
+pub use outcomes::Outcome;
+pub use printed::{PrintedCallback, printed_callbacks};
+pub use status::Status;

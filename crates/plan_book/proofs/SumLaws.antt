@@ -1,0 +1,126 @@
+-- What rows come to as rows come in and go on.
+use Rattle.std.proofs.Common.{◌≡◌, ℕ, suc, ◌+◌, ◌*◌, ◌<◌, ◌≤◌, ◌^◌, ◌&&◌, Bool, true, false, cond, List, [], ◌∷◌, ◌++◌, map, length, sum_by, Some, sym, ◌∙◌, ap, subst, arith}
+use Rattle.std.specs.List.{AllByRecursion}
+use Rattle.std.proofs.lemmas.List.Sums.{sum_by-cons, sum_by-append, sum_by_push}
+use Rattle.drmaa_types.specs.States.{is_waiting, is_started}
+use Rattle.drmaa_types.specs.declared.identifiers.JobId.{JobId}
+use Rattle.drmaa_types.specs.declared.moments.End.{End}
+use Rattle.drmaa_model.specs.declared.courses.Course.{Course}
+use Rattle.drmaa_model.specs.declared.courses.Phase.{Phase}
+use Rattle.drmaa_model.specs.declared.courses.Phase.TheVariants.{Idle, Launching, Alive}
+use Rattle.drmaa_model.specs.declared.rows.Row.{Row}
+use Rattle.drmaa_model.specs.Courses.{is_unasked, lesser_end}
+use Rattle.drmaa_model.specs.Fit.{IsRising, number_of}
+use Rattle.drmaa_model.specs.Rows.{row_of, with_course}
+use Rattle.drmaa_model.specs.RowLaws.{all-implied, all-push, all_with_course, sum_with_course, sum-found}
+use Rattle.drmaa_model.specs.Size.{phase_room, room_of}
+use Rattle.plan_book.specs.declared.sums.Sums.{Sums}
+use Rattle.plan_book.specs.Owed.{owes, may_ask}
+use Rattle.plan_book.specs.Quiet.{IsLeftUntil}
+use Rattle.plan_book.specs.Sums.{acts_at, AreSums, AreFew, AreParts, with_job, with_others, without_job}
+use Rattle.plan_book.proofs.QuietLaws.{left-first, left-second, acts-left}
+
+-- ---- the sums of few rows are small
+
+sum-most : (f : Row → ℕ) (most : ℕ) (rows : List Row) → AllByRecursion (λ row. f row ≤ most) rows → sum_by f rows ≤ length rows * most
+sum-most f most [] all = omega arith
+sum-most f most (row ∷ rows) all =
+    let rest = sum-most f most rows all.1 in
+    let cons = sum_by-cons f row rows in
+    subst (λ n. n ≤ suc (length rows) * most) (sym cons) (omega (arith, rest, all.0))
+
+all-are : (P : Row → Type 0) → ((row : Row) → P row) → (rows : List Row) → AllByRecursion P rows
+all-are P each [] = tt
+all-are P each (row ∷ rows) = (each row, all-are P each rows)
+
+phase-most : (waits : Bool) (phase : Phase) → cond waits 1 (phase_room phase) ≤ 4
+phase-most true phase = omega arith
+phase-most false Idle = omega arith
+phase-most false Launching = omega arith
+phase-most false Alive = omega arith
+
+owes-most : (waits starts : Bool) → cond {A = ℕ} waits 1 (cond starts 2 0) ≤ 2
+owes-most true starts = omega arith
+owes-most false true = omega arith
+owes-most false false = omega arith
+
+asks-most : (asks : Bool) → cond {A = ℕ} asks 1 0 ≤ 1
+asks-most true = omega arith
+asks-most false = omega arith
+
+pub sums-few : (rows : List Row) (sums : Sums) → length rows < 2 ^ 63 → AreSums rows sums → AreFew sums
+sums-few rows sums few are =
+    let room = sum-most (λ (row : Row). room_of row.course) 4 rows (all-are (λ row. room_of row.course ≤ 4) (λ row. phase-most (is_waiting row.course.state) row.course.phase) rows) in
+    let changes = sum-most (λ (row : Row). owes row.course) 2 rows (all-are (λ row. owes row.course ≤ 2) (λ row. owes-most (is_waiting row.course.state) (is_started row.course.state)) rows) in
+    let orders = sum-most (λ (row : Row). may_ask row.course) 1 rows (all-are (λ row. may_ask row.course ≤ 1) (λ row. asks-most (is_started row.course.state && is_unasked row.course.kill)) rows) in
+    let slots = sum-most (λ (row : Row). row.course.held) 4294967296 rows (all-implied (λ row. row.course.held < 2 ^ 32) (λ row. row.course.held ≤ 4294967296) (λ row less. omega (arith, less)) rows are.small) in
+    record {
+      promised = omega (arith, few, room, are.promised);
+      owed = omega (arith, few, changes, are.owed);
+      askable = omega (arith, few, orders, are.askable);
+      held = omega (arith, few, slots, are.held);
+    }
+
+-- ---- rows come in
+
+sooner : (soonest other : End) (rows : List Row) → AllByRecursion (IsLeftUntil soonest) rows → AllByRecursion (IsLeftUntil (lesser_end soonest other)) rows
+sooner soonest other rows all = all-implied (IsLeftUntil soonest) (IsLeftUntil (lesser_end soonest other)) (λ r left. left-first soonest other r left) rows all
+
+sooner-other : (soonest other : End) (rows : List Row) → AllByRecursion (IsLeftUntil other) rows → AllByRecursion (IsLeftUntil (lesser_end soonest other)) rows
+sooner-other soonest other rows all = all-implied (IsLeftUntil other) (IsLeftUntil (lesser_end soonest other)) (λ r left. left-second soonest other r left) rows all
+
+pub sums-push : (rows : List Row) (row : Row) (sums : Sums) → row.course.held < 2 ^ 32 → AreSums rows sums → AreSums (rows ++ row ∷ []) (with_job sums row.wants row.course)
+sums-push rows row sums small are = record {
+  promised = ap (λ n. n + room_of row.course) are.promised ∙ sym (sum_by_push (λ (r : Row). room_of r.course) rows row);
+  owed = ap (λ n. n + owes row.course) are.owed ∙ sym (sum_by_push (λ (r : Row). owes r.course) rows row);
+  askable = ap (λ n. n + may_ask row.course) are.askable ∙ sym (sum_by_push (λ (r : Row). may_ask r.course) rows row);
+  held = ap (λ n. n + row.course.held) are.held ∙ sym (sum_by_push (λ (r : Row). r.course.held) rows row);
+  small = all-push (λ r. r.course.held < 2 ^ 32) rows row are.small small;
+  soonest = all-push (IsLeftUntil (lesser_end sums.soonest (acts_at row.wants row.course))) rows row
+      (sooner sums.soonest (acts_at row.wants row.course) rows are.soonest)
+      (left-second sums.soonest (acts_at row.wants row.course) row (acts-left row));
+}
+
+all-append : (P : Row → Type 0) (rows more : List Row) → AllByRecursion P rows → AllByRecursion P more → AllByRecursion P (rows ++ more)
+all-append P [] more all others = others
+all-append P (row ∷ rows) more all others = (all.0, all-append P rows more all.1 others)
+
+pub sums-append : (rows more : List Row) (sums added : Sums) → AreSums rows sums → AreSums more added → AreSums (rows ++ more) (with_others sums added)
+sums-append rows more sums added are others = record {
+  promised = omega (arith, are.promised, others.promised, sum_by-append (λ (r : Row). room_of r.course) rows more);
+  owed = omega (arith, are.owed, others.owed, sum_by-append (λ (r : Row). owes r.course) rows more);
+  askable = omega (arith, are.askable, others.askable, sum_by-append (λ (r : Row). may_ask r.course) rows more);
+  held = omega (arith, are.held, others.held, sum_by-append (λ (r : Row). r.course.held) rows more);
+  small = all-append (λ r. r.course.held < 2 ^ 32) rows more are.small others.small;
+  soonest = all-append (IsLeftUntil (lesser_end sums.soonest added.soonest)) rows more
+      (sooner sums.soonest added.soonest rows are.soonest) (sooner-other sums.soonest added.soonest more others.soonest);
+}
+
+-- ---- one job goes on
+
+module _ (job : JobId) (course : Course) (rows : List Row) (row : Row) (sums : Sums) (rising : IsRising number_of rows) (found : row_of job rows ≡ Some row) (are : AreSums rows sums) where
+  part : (f : Course → ℕ) → f row.course ≤ sum_by (λ (r : Row). f r.course) rows
+  part f = sum-found (λ (r : Row). f r.course) job rows row found
+
+  sum-then : (f : Course → ℕ) → sum_by (λ (r : Row). f r.course) (map (with_course job course) rows) + f row.course ≡ sum_by (λ (r : Row). f r.course) rows + f course
+  sum-then f = sum_with_course job course (λ (r : Row). f r.course) rows row rising found
+
+  pub sums-parts : AreParts row.course sums
+  sums-parts = record {
+    promised = omega (arith, part room_of, are.promised);
+    owed = omega (arith, part owes, are.owed);
+    askable = omega (arith, part may_ask, are.askable);
+    held = omega (arith, part (λ c. c.held), are.held);
+  }
+
+  pub sums-change : course.held < 2 ^ 32 → AreSums (map (with_course job course) rows) (with_job (without_job row.course sums) row.wants course)
+  sums-change small = record {
+    promised = omega (arith, part room_of, sum-then room_of, are.promised);
+    owed = omega (arith, part owes, sum-then owes, are.owed);
+    askable = omega (arith, part may_ask, sum-then may_ask, are.askable);
+    held = omega (arith, part (λ c. c.held), sum-then (λ c. c.held), are.held);
+    small = all_with_course job course (λ r. r.course.held < 2 ^ 32) rows row rising found are.small small;
+    soonest = all_with_course job course (IsLeftUntil (lesser_end sums.soonest (acts_at row.wants course))) rows row rising found
+        (sooner sums.soonest (acts_at row.wants course) rows are.soonest)
+        (left-second sums.soonest (acts_at row.wants course) (record row { course = course }) (acts-left (record row { course = course })));
+  }

@@ -1,0 +1,20 @@
+-- What jobs may still add with no memory: our profile.
+use Rattle.std.specs.Prelude.{ℕ, ◌&&◌, List, sum_by, if◌then◌else◌}
+use Rattle.drmaa_types.specs.States.{is_waiting, is_started}
+use Rattle.drmaa_model.specs.declared.courses.Course.{Course}
+use Rattle.drmaa_model.specs.declared.rows.Row.{Row}
+use Rattle.drmaa_model.specs.Courses.{is_unasked}
+
+-- The changes that a job may still make with no memory: to its end, or to the queue and then to its end.
+abbrev pub owes : Course → ℕ
+owes course = if is_waiting course.state then 1 else if is_started course.state then 2 else 0
+
+-- the order that time may ask
+abbrev pub may_ask : Course → ℕ
+may_ask course = if is_started course.state && is_unasked course.kill then 1 else 0
+
+abbrev pub owed : List Row → ℕ
+owed rows = sum_by (λ (row : Row). owes row.course) rows
+
+abbrev pub askable : List Row → ℕ
+askable rows = sum_by (λ (row : Row). may_ask row.course) rows

@@ -1,0 +1,15 @@
+//! Tests of the commands of the program.
+#![tactic(auto)]
+
+#[cfg(test)]
+mod beside;
+#[cfg(test)]
+mod flags;
+#[cfg(test)]
+mod heard;
+#[cfg(test)]
+mod held;
+#[cfg(test)]
+mod runs;
+#[cfg(test)]
+mod settings;
