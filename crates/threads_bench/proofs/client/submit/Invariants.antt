@@ -1,5 +1,0 @@
-use Rattle.turn_lock.specs.Tokens.{IsFree}
-use Rattle.threads_bench.proofs.client.submit.Given as goal
-
-abbrev pub invariant-loop-number : goal.invariant-loop-number
-invariant-loop-number g l = IsFree l.desk.shared.now l.desk.client
