@@ -1,9 +1,18 @@
-//! Tests of the plain data: moments, clocks, texts, filters, capabilities and batches of changes.
+//! Tests of what the machine is built of, by calls that no program makes: clocks, templates, slots, queue, streams and
+//! children.
 #![tactic(auto)]
 
 #[cfg(test)]
-mod changes;
+mod children;
 #[cfg(test)]
-mod filters;
+mod pool;
 #[cfg(test)]
-mod moments;
+mod processes;
+#[cfg(test)]
+mod queue;
+#[cfg(test)]
+mod streams;
+#[cfg(test)]
+mod templates;
+#[cfg(test)]
+mod values;
