@@ -22,81 +22,6 @@ fn heard(job: u64, state: JobState) -> Option<Notification> {
     })
 }
 
-/// What is heard of all changes.
-const WHOLE: [(u64, JobState); 5] = [
-    (1, JobState::QueuedHeld),
-    (1, JobState::Queued),
-    (1, JobState::Running),
-    (1, JobState::Failed),
-    (2, JobState::Failed),
-];
-
-/// What is heard from the second place on.
-const LATER: [(u64, JobState); 3] = [
-    (1, JobState::Running),
-    (1, JobState::Failed),
-    (2, JobState::Failed),
-];
-
-/// The item of a list with this number, counted from 1.
-fn item(list: &[(u64, JobState)], n: u64) -> Option<Notification> {
-    match list.get(n.checked_sub(1)? as usize) {
-        Some((job, state)) => heard(*job, *state),
-        None => None,
-    }
-}
-
-/// Whether the callback has heard this and nothing else.
-fn has_heard(callback: &MemoryCallback, list: &[(u64, JobState)]) -> bool {
-    for n in 0..=6 {
-        if callback.heard(n) != item(list, n) {
-            return false;
-        }
-    }
-    callback.calls() == list.len() as u64
-}
-
-/// One callback is there from the start. The second one is placed after job 1 was held and released; then
-/// job 1 is launched and fails to start, and job 2 is terminated while it is queued.
-#[test]
-fn the_second_callback_hears_from_its_place_on(rt: HostRuntime) -> Result<(), Fail> {
-    let alloc = rt.alloc();
-    let mut both = Vec::new(alloc);
-    both.push(MemoryCallback::new(alloc)?)?;
-    both.push(MemoryCallback::new(alloc)?)?;
-    let Ok(mut ears) = Ears::new(alloc, Callbacks::from_vec(both)) else {
-        assert!(rt; false, "there is memory");
-        return Ok(());
-    };
-
-    assert!(rt; !ears.listens());
-    ears.place(1, 0);
-    assert!(rt; ears.listens());
-    let mut batch = ChangeBatch::new();
-    batch.push(change(3, 1, JobState::Queued, JobState::QueuedHeld));
-    batch.push(change(4, 1, JobState::QueuedHeld, JobState::Queued));
-    assert!(rt; ears.hand(0, &batch) == 2);
-
-    ears.place(2, 2);
-    // A number without a callback hears nothing.
-    ears.place(64, 2);
-    let mut batch = ChangeBatch::new();
-    batch.push(change(6, 1, JobState::Queued, JobState::Running));
-    batch.push(change(7, 1, JobState::Running, JobState::Failed));
-    batch.push(change(9, 2, JobState::Queued, JobState::Failed));
-    assert!(rt; ears.hand(2, &batch) == 6);
-
-    let both = ears.take_back();
-    match both.as_slice() {
-        [first, second] => {
-            assert!(rt; has_heard(first, &WHOLE));
-            assert!(rt; has_heard(second, &LATER));
-        }
-        _ => assert!(rt; false, "two callbacks come back"),
-    }
-    Ok(())
-}
-
 /// Tells that this job was launched.
 fn tell(callback: &mut MemoryCallback, job: u64) {
     let told = Notification::of(&change(job, job, JobState::Queued, JobState::Running));
@@ -132,7 +57,11 @@ fn closures_are_called_with_each_notification(rt: HostRuntime) -> Result<(), Fai
         assert!(rt; false, "there is memory");
         return Ok(());
     };
+    assert!(rt; !ears.listens());
     ears.place(2, 0);
+    assert!(rt; ears.listens());
+    // A number without a callback hears nothing.
+    ears.place(64, 0);
     let mut batch = ChangeBatch::new();
     batch.push(change(2, 1, JobState::Queued, JobState::Failed));
     batch.push(change(4, 7, JobState::Queued, JobState::Failed));

@@ -1,7 +1,49 @@
-//! Tests of the lock and of callbacks.
+//! Tests of what many share: the lock, callbacks, the machine of many clients, and their typed calls and waits.
 #![tactic(auto)]
 
 #[cfg(test)]
+mod answers;
+#[cfg(test)]
+mod calls;
+#[cfg(test)]
+mod clocks;
+#[cfg(test)]
+mod controlling;
+#[cfg(test)]
 mod ears;
 #[cfg(test)]
+mod histories;
+#[cfg(test)]
+mod hub_calls;
+#[cfg(test)]
+mod hub_steps;
+#[cfg(test)]
+mod hubs;
+#[cfg(test)]
+mod infos;
+#[cfg(test)]
+mod jobs;
+#[cfg(test)]
+mod machines;
+#[cfg(test)]
+mod managing;
+#[cfg(test)]
+mod monitoring;
+#[cfg(test)]
+mod reporting;
+#[cfg(test)]
+mod reserving;
+#[cfg(test)]
+mod steps;
+#[cfg(test)]
+mod stories;
+#[cfg(test)]
+mod submitting;
+#[cfg(test)]
+mod threads;
+#[cfg(test)]
+mod tries;
+#[cfg(test)]
 mod turns;
+#[cfg(test)]
+mod waiting;

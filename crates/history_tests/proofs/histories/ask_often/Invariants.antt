@@ -1,5 +1,0 @@
-use Rattle.turn_lock.specs.Tokens.{IsFree}
-use Rattle.history_tests.proofs.histories.ask_often.Given as goal
-
-abbrev pub invariant-loop : goal.invariant-loop
-invariant-loop g l = IsFree l.shared l.client
