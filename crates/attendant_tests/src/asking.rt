@@ -2,15 +2,13 @@
 use call_history::{Call, NoEntry, Reply};
 use drmaa_model::{Entry, Target};
 use drmaa_types::{
-    AttributeList, Control, Exit, JobId, JobState, ListOf, Refusal, SessionId, SignalKind, Text,
-    TextList,
+    AttributeList, Control, Exit, JobId, JobState, ListOf, SessionId, SignalKind, Text, TextList,
 };
 use job_template::JobTemplate;
 use std::alloc::Global;
-use std::test::Fail;
 
 /// A call of the client. Its session is the first one.
-#[derive(Clone, Copy, Debug)]
+#[derive(Clone, Copy)]
 pub enum Ask {
     Create,
     /// Submits a job, which may be rerunnable.
@@ -24,20 +22,20 @@ pub enum Ask {
 }
 
 /// What a reply says.
-#[derive(Clone, Copy, Debug, PartialEq, Eq)]
+#[derive(Clone, Copy, PartialEq, Eq)]
 pub enum Said {
     Unit,
     Session(u64),
     Job(u64),
     State(JobState),
     Launch(u64, u32),
-    Refused(Refusal),
+    Refused,
     Other,
     NoEntry,
 }
 
 /// What an entry of the launcher or the reaper says, with the job and its attempt.
-#[derive(Clone, Copy, Debug, PartialEq, Eq)]
+#[derive(Clone, Copy, PartialEq, Eq)]
 pub enum Told {
     Launch(u64, u32),
     Started(u64, u32),
@@ -50,14 +48,18 @@ pub enum Told {
     Other,
 }
 
-pub fn text(alloc: Global, characters: &str) -> Result<Text, Fail> {
-    Ok(Text::from_string(String::from_str(alloc, characters)?))
+/// A text. Where memory is wanting it is empty, and then no test passes.
+pub fn text(alloc: Global, characters: &str) -> Text {
+    match String::from_str(alloc, characters) {
+        Ok(whole) => Text::from_string(whole),
+        Err(_) => Text::from_string(String::new(alloc)),
+    }
 }
 
 /// A template whose command is `true`.
-fn template(alloc: Global, rerunnable: bool) -> Result<JobTemplate, Fail> {
-    Ok(JobTemplate {
-        remote_command: text(alloc, "true")?,
+fn template(alloc: Global, rerunnable: bool) -> JobTemplate {
+    JobTemplate {
+        remote_command: text(alloc, "true"),
         args: TextList::new(alloc),
         submit_as_hold: false,
         rerunnable,
@@ -77,7 +79,7 @@ fn template(alloc: Global, rerunnable: bool) -> Result<JobTemplate, Fail> {
         deadline_time: None,
         resource_limits: ListOf::new(alloc),
         others: AttributeList::new(alloc),
-    })
+    }
 }
 
 const SESSION: SessionId = SessionId(1);
@@ -107,17 +109,17 @@ pub fn plain_call(ask: Ask) -> Call {
     }
 }
 
-pub fn call_of(alloc: Global, ask: Ask) -> Result<Call, Fail> {
-    Ok(match ask {
+pub fn call_of(alloc: Global, ask: Ask) -> Call {
+    match ask {
         Ask::Create => Call::CreateJobSession {
-            name: Some(text(alloc, "s")?),
+            name: Some(text(alloc, "s")),
         },
         Ask::Run { rerunnable } => Call::RunJob {
             session: SESSION,
-            template: template(alloc, rerunnable)?,
+            template: template(alloc, rerunnable),
         },
         _ => plain_call(ask),
-    })
+    }
 }
 
 pub fn said_of(answer: &Result<Reply, NoEntry>) -> Said {
@@ -127,7 +129,7 @@ pub fn said_of(answer: &Result<Reply, NoEntry>) -> Said {
         Ok(Reply::Job(job)) => Said::Job(job.0),
         Ok(Reply::State(state)) => Said::State(*state),
         Ok(Reply::Launch(launch)) => Said::Launch(launch.job.0, launch.attempt),
-        Ok(Reply::Refused(why)) => Said::Refused(*why),
+        Ok(Reply::Refused(_)) => Said::Refused,
         Ok(_) => Said::Other,
         Err(_) => Said::NoEntry,
     }

@@ -1,130 +1,109 @@
 //! A journal that is full. Its size is the number of entries and of changes, and 1 for a job that waits, 4 for one that is
 //! handed out, 3 for one whose process is alive.
-use crate::asking::Told;
-use crate::playing::{Play, Step, run_play};
-use crate::wording::{CREATE, control, fate, full, is_in, run};
+use crate::asking::{Ask, Said, Told};
+use crate::playing::{Fails, Play, Step, run_play};
+use crate::wording::{CREATE, RUN};
 use drmaa_types::{Control, Exit, JobState, SignalKind};
-use std::test::Fail;
 
 const LAUNCHED: [Told; 2] = [Told::Launch(1, 1), Told::Started(1, 1)];
 
 /// The journal has the size 10 once job 1 is started. A second launch would make it 15; after the end of job 1 it is 9, and
 /// then the launch fits.
-#[test]
-fn a_launch_waits_for_room(rt: HostRuntime) -> Result<(), Fail> {
-    run_play(
-        &rt,
-        rt.alloc(),
-        &Play {
-            journal: 14,
-            fates: &[],
-            failing: &[],
-            steps: &[
-                CREATE,
-                run(1),
-                run(2),
-                Step::Launches(1),
-                Step::CannotLaunch(full(15)),
-                Step::Reaps(1),
-                Step::Launches(2),
-            ],
-            launcher: &[
-                Told::Launch(1, 1),
-                Told::Started(1, 1),
-                Told::Launch(2, 1),
-                Told::Started(2, 1),
-            ],
-            reaper: &[Told::Exited(1, 1, Exit::Code(0))],
-        },
-    )?;
-    Ok(())
-}
+const A_LAUNCH_WAITS_FOR_ROOM: Play = Play {
+    about: "a launch waits for room",
+    journal: 14,
+    courses: &[],
+    failing: &[],
+    steps: &[
+        CREATE,
+        Step::Client(RUN, Said::Job(1)),
+        Step::Client(RUN, Said::Job(2)),
+        Step::Launches(1),
+        Step::CannotLaunch(15),
+        Step::Reaps(1),
+        Step::Launches(2),
+    ],
+    launcher: &[
+        Told::Launch(1, 1),
+        Told::Started(1, 1),
+        Told::Launch(2, 1),
+        Told::Started(2, 1),
+    ],
+    reaper: &[Told::Exited(1, 1, Exit::Code(0))],
+};
 
 /// The journal has the size 9 once the kill is asked for, and taking the order would make it 10. The end is reported all the
 /// same, and the round is refused for the order.
-#[test]
-fn an_order_is_not_taken_without_room(rt: HostRuntime) -> Result<(), Fail> {
-    run_play(
-        &rt,
-        rt.alloc(),
-        &Play {
-            journal: 9,
-            fates: &[fate(1, Exit::Code(0))],
-            failing: &[],
-            steps: &[
-                CREATE,
-                run(1),
-                Step::Launches(1),
-                control(1, Control::Terminate),
-                Step::CannotReap(full(10)),
-                Step::CannotReap(full(10)),
-                is_in(1, JobState::Failed),
-                Step::Reaps(0),
-            ],
-            launcher: &LAUNCHED,
-            reaper: &[Told::Exited(1, 1, Exit::Code(0))],
-        },
-    )?;
-    Ok(())
-}
+const AN_ORDER_IS_NOT_TAKEN_WITHOUT_ROOM: Play = Play {
+    about: "an order is not taken without room",
+    journal: 9,
+    courses: &[(1, Exit::Code(0), Fails::Never)],
+    failing: &[],
+    steps: &[
+        CREATE,
+        Step::Client(RUN, Said::Job(1)),
+        Step::Launches(1),
+        Step::Client(Ask::Control(1, Control::Terminate), Said::Unit),
+        Step::CannotReap(10),
+        Step::CannotReap(10),
+        Step::Client(Ask::State(1), Said::State(JobState::Failed)),
+        Step::Reaps(0),
+    ],
+    launcher: &LAUNCHED,
+    reaper: &[Told::Exited(1, 1, Exit::Code(0))],
+};
 
 /// The order is taken, and the report of its delivery would make the size 11. The child ends by the kill, and with the report of
 /// its end the order is dropped.
-#[test]
-fn a_delivery_is_not_reported_without_room(rt: HostRuntime) -> Result<(), Fail> {
-    run_play(
-        &rt,
-        rt.alloc(),
-        &Play {
-            journal: 10,
-            fates: &[fate(5, Exit::Code(0))],
-            failing: &[],
-            steps: &[
-                CREATE,
-                run(1),
-                Step::Launches(1),
-                control(1, Control::Terminate),
-                Step::CannotReap(full(11)),
-                Step::Reaps(0),
-                is_in(1, JobState::Failed),
-            ],
-            launcher: &LAUNCHED,
-            reaper: &[
-                Told::Signal(1, 1, SignalKind::Kill),
-                Told::Exited(1, 1, Exit::Signal(9)),
-            ],
-        },
-    )?;
-    Ok(())
-}
+const A_DELIVERY_IS_NOT_REPORTED_WITHOUT_ROOM: Play = Play {
+    about: "a delivery is not reported without room",
+    journal: 10,
+    courses: &[(5, Exit::Code(0), Fails::Never)],
+    failing: &[],
+    steps: &[
+        CREATE,
+        Step::Client(RUN, Said::Job(1)),
+        Step::Launches(1),
+        Step::Client(Ask::Control(1, Control::Terminate), Said::Unit),
+        Step::CannotReap(11),
+        Step::Reaps(0),
+        Step::Client(Ask::State(1), Said::State(JobState::Failed)),
+    ],
+    launcher: &LAUNCHED,
+    reaper: &[
+        Told::Signal(1, 1, SignalKind::Kill),
+        Told::Exited(1, 1, Exit::Signal(9)),
+    ],
+};
 
 /// A stop that was delivered is kept with that, and each round tries to report it, until the child has ended.
+const A_DELIVERY_IS_KEPT_UNTIL_THE_END: Play = Play {
+    about: "a delivery is kept until the end",
+    journal: 11,
+    courses: &[(2, Exit::Code(0), Fails::Never)],
+    failing: &[],
+    steps: &[
+        CREATE,
+        Step::Client(RUN, Said::Job(1)),
+        Step::Launches(1),
+        Step::Client(Ask::Control(1, Control::Suspend), Said::Unit),
+        Step::CannotReap(12),
+        Step::CannotReap(12),
+        Step::CannotReap(12),
+        Step::Reaps(0),
+        Step::Client(Ask::State(1), Said::State(JobState::Done)),
+    ],
+    launcher: &LAUNCHED,
+    reaper: &[
+        Told::Signal(1, 1, SignalKind::Stop),
+        Told::Exited(1, 1, Exit::Code(0)),
+    ],
+};
+
 #[test]
-fn a_delivery_is_kept_until_the_end(rt: HostRuntime) -> Result<(), Fail> {
-    run_play(
-        &rt,
-        rt.alloc(),
-        &Play {
-            journal: 11,
-            fates: &[fate(2, Exit::Code(0))],
-            failing: &[],
-            steps: &[
-                CREATE,
-                run(1),
-                Step::Launches(1),
-                control(1, Control::Suspend),
-                Step::CannotReap(full(12)),
-                Step::CannotReap(full(12)),
-                Step::CannotReap(full(12)),
-                Step::Reaps(0),
-                is_in(1, JobState::Done),
-            ],
-            launcher: &LAUNCHED,
-            reaper: &[
-                Told::Signal(1, 1, SignalKind::Stop),
-                Told::Exited(1, 1, Exit::Code(0)),
-            ],
-        },
-    )?;
-    Ok(())
+fn a_full_journal_keeps_its_promises(rt: HostRuntime) {
+    run_play(&rt, rt.alloc(), &A_LAUNCH_WAITS_FOR_ROOM);
+    run_play(&rt, rt.alloc(), &AN_ORDER_IS_NOT_TAKEN_WITHOUT_ROOM);
+    run_play(&rt, rt.alloc(), &A_DELIVERY_IS_NOT_REPORTED_WITHOUT_ROOM);
+    run_play(&rt, rt.alloc(), &A_DELIVERY_IS_KEPT_UNTIL_THE_END);
 }

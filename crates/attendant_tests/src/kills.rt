@@ -5,18 +5,15 @@ ghost use Rattle.call_history.specs.Clients.{retired_of};
 ghost use Rattle.child_spawner.specs.Spawners.{plain_fate};
 
 use crate::asking::{Ask, Said, call_of, plain_call, said_of};
-use crate::playing::{desk_of, open_machine};
-use crate::wording::fate;
+use crate::playing::{Fails, desk_of, fate_of, open_machine};
+use crate::wording::RUN;
 use attendant::{Launched, Reaper, launch_once, reap_once};
 use call_history::{Bell, Call, Desk, MachineOpener, SharedMachine};
 use child_spawner::{FateList, MemoryChild, MemorySpawner, Spawner};
-use drmaa_types::{
-    Control, Exit, Failed, JobId, JobState, PlaceList, Refusal, StepClock, TextList,
-};
+use drmaa_types::{Control, Exit, Failed, JobId, JobState, PlaceList, StepClock, TextList};
 use std::alloc::Global;
 use std::marker::Model;
 use std::sync::Wait;
-use std::test::Fail;
 
 /// A client that asks between the calls of others.
 #[derive(Drop)]
@@ -68,56 +65,58 @@ impl Spawner for KillingSpawner<'_> {
     }
 }
 
-/// What is seen of the play, in its order.
-#[derive(Clone, Copy, Debug, PartialEq, Eq)]
-struct Seen {
-    launched: Result<Launched, Refusal>,
-    killed: Option<Said>,
-    running: Said,
-    reported: Result<u32, Refusal>,
-    failed: Said,
-    settled: Result<u32, Refusal>,
+/// The client makes a session and runs a job. Whether it is told their numbers.
+fn submit(alloc: Global, asker: &mut Asker) -> [bool; 2] {
+    [
+        asker.ask(call_of(alloc, Ask::Create)) == Said::Session(1),
+        asker.ask(call_of(alloc, RUN)) == Said::Job(1),
+    ]
 }
 
-/// The client makes a session and runs a job.
-fn submit(alloc: Global, asker: &mut Asker) -> Result<[Said; 2], Fail> {
-    let create = call_of(alloc, Ask::Create)?;
-    let run = call_of(alloc, Ask::Run { rerunnable: false })?;
-    Ok([asker.ask(create), asker.ask(run)])
+/// Whether the job is in this state.
+fn is_in(asker: &mut Asker, state: JobState) -> bool {
+    asker.ask(plain_call(Ask::State(1))) == Said::State(state)
 }
 
-/// The job is launched, and killed meanwhile.
+/// The job is launched, and killed meanwhile. Whether the kill is served, the job runs, both order and end are reported then, the job
+/// has failed, and nothing is left.
 fn launch_and_reap<R: Wait>(
     rt: &R,
     launcher: &mut Desk<StepClock>,
     reaping: &mut Desk<StepClock>,
     spawner: &mut KillingSpawner,
     reaper: &mut Reaper<MemoryChild>,
-) -> Seen
+) -> [bool; 6]
     requires launcher { IsFree launcher.old.shared.now launcher.old.client }
     requires reaping { IsFree reaping.old.shared.now reaping.old.client }
 {
-    Seen {
-        launched: launch_once(rt, launcher, spawner, reaper),
-        killed: spawner.said,
-        running: spawner.asker.ask(plain_call(Ask::State(1))),
-        reported: reap_once(rt, reaping, reaper),
-        failed: spawner.asker.ask(plain_call(Ask::State(1))),
-        settled: reap_once(rt, reaping, reaper),
-    }
+    [
+        launch_once(rt, launcher, spawner, reaper) == Ok(Launched::Began(JobId(1))),
+        spawner.said == Some(Said::Unit),
+        is_in(&mut spawner.asker, JobState::Running),
+        reap_once(rt, reaping, reaper) == Ok(2),
+        is_in(&mut spawner.asker, JobState::Failed),
+        reap_once(rt, reaping, reaper) == Ok(0),
+    ]
 }
 
-/// What the client is told first, and what is seen then.
+/// One child, that would run for a thousand polls.
+fn one_child(alloc: Global) -> MemorySpawner {
+    let mut fates = Vec::new(alloc);
+    let _ = fates.push(fate_of((1_000, Exit::Code(0), Fails::Never)));
+    MemorySpawner::new(alloc, FateList::from_vec(fates), PlaceList::new(alloc))
+}
+
+/// Whether the client is told what it is to be told first, and whether what comes then is as it is to be.
 fn play_kill<R: Wait>(
     rt: &R,
     alloc: Global,
     shared: &SharedMachine,
     opener: &mut MachineOpener,
-) -> Result<([Said; 2], Seen), Fail>
+) -> ([bool; 2], [bool; 6])
     requires opener { BelongsTo shared.now opener.old }
     requires retired { retired_of opener.old ≡ [] }
 {
-    let fates = FateList::from_vec(vec![in alloc; fate(1_000, Exit::Code(0))]?);
     let bell = Bell::silent();
     let client = shared.open_client(opener);
     let launcher = shared.open_client(opener);
@@ -125,35 +124,22 @@ fn play_kill<R: Wait>(
     let mut launcher = desk_of(shared, launcher, &bell);
     let mut reaping = desk_of(shared, reaping, &bell);
     let mut spawner = KillingSpawner {
-        spawner: MemorySpawner::new(alloc, fates, PlaceList::from_vec(Vec::new(alloc))),
+        spawner: one_child(alloc),
         asker: Asker {
             desk: desk_of(shared, client, &bell),
         },
         said: None,
     };
     let mut reaper = Reaper::new(alloc);
-    let first = submit(alloc, &mut spawner.asker)?;
-    let seen = launch_and_reap(rt, &mut launcher, &mut reaping, &mut spawner, &mut reaper);
-    Ok((first, seen))
+    let first = submit(alloc, &mut spawner.asker);
+    let then = launch_and_reap(rt, &mut launcher, &mut reaping, &mut spawner, &mut reaper);
+    (first, then)
 }
 
 /// The client's kill is served before the start is reported. The order is handed out once that is reported, and the child ends by it.
 #[test]
-fn a_kill_before_the_start_is_reported(rt: HostRuntime) -> Result<(), Fail> {
-    let alloc = rt.alloc();
-    let (shared, mut opener) = open_machine(alloc, 4_000_000)?;
-    let (first, seen) = play_kill(&rt, alloc, &shared, &mut opener)?;
-    assert_eq!(rt; first, [Said::Session(1), Said::Job(1)]);
-    assert_eq!(rt;
-        seen,
-        Seen {
-            launched: Ok(Launched::Began(JobId(1))),
-            killed: Some(Said::Unit),
-            running: Said::State(JobState::Running),
-            reported: Ok(2),
-            failed: Said::State(JobState::Failed),
-            settled: Ok(0),
-        }
-    );
-    Ok(())
+fn a_kill_before_the_start_is_reported(rt: HostRuntime) {
+    let (shared, mut opener) = open_machine(&rt, rt.alloc(), 4_000_000);
+    let told = play_kill(&rt, rt.alloc(), &shared, &mut opener);
+    assert_eq!(rt; told, ([true; 2], [true; 6]));
 }

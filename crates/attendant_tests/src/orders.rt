@@ -1,280 +1,234 @@
 //! Orders: signals that are sent, that fail, and that wait for a child.
 use crate::asking::{Ask, Said, Told};
-use crate::playing::{Play, Step, run_play};
-use crate::wording::{CREATE, control, fate, is_in, run};
-use child_spawner::Fate;
+use crate::playing::{Fails, Play, Step, run_play};
+use crate::wording::{CREATE, RUN};
 use drmaa_types::{Control, Exit, JobState, SignalKind};
-use std::test::Fail;
 
 const LAUNCHED: [Told; 2] = [Told::Launch(1, 1), Told::Started(1, 1)];
 
 /// A child that would end by itself in this round is sent its kill first, and one that would run on ends by it.
-#[test]
-fn a_kill_comes_before_the_end(rt: HostRuntime) -> Result<(), Fail> {
-    for polls in [0, u32::MAX] {
-        run_play(
-            &rt,
-            rt.alloc(),
-            &Play {
-                journal: 4_000_000,
-                fates: &[fate(polls, Exit::Code(0))],
-                failing: &[],
-                steps: &[
-                    CREATE,
-                    run(1),
-                    Step::Launches(1),
-                    control(1, Control::Terminate),
-                    is_in(1, JobState::Running),
-                    Step::Reaps(2),
-                    is_in(1, JobState::Failed),
-                    Step::Reaps(0),
-                ],
-                launcher: &LAUNCHED,
-                reaper: &[
-                    Told::Signal(1, 1, SignalKind::Kill),
-                    Told::SignalDone(1, 1, SignalKind::Kill),
-                    Told::Exited(1, 1, Exit::Signal(9)),
-                ],
-            },
-        )?;
-    }
-    Ok(())
-}
+const A_KILL_COMES_BEFORE_THE_END: Play = Play {
+    about: "a kill comes before the end",
+    journal: 4_000_000,
+    courses: &[(0, Exit::Code(0), Fails::Never)],
+    failing: &[],
+    steps: &[
+        CREATE,
+        Step::Client(RUN, Said::Job(1)),
+        Step::Launches(1),
+        Step::Client(Ask::Control(1, Control::Terminate), Said::Unit),
+        Step::Client(Ask::State(1), Said::State(JobState::Running)),
+        Step::Reaps(2),
+        Step::Client(Ask::State(1), Said::State(JobState::Failed)),
+        Step::Reaps(0),
+    ],
+    launcher: &LAUNCHED,
+    reaper: &[
+        Told::Signal(1, 1, SignalKind::Kill),
+        Told::SignalDone(1, 1, SignalKind::Kill),
+        Told::Exited(1, 1, Exit::Signal(9)),
+    ],
+};
 
 /// A kill that can't be delivered is reported as such. The child ends by itself, and its job has failed.
-#[test]
-fn a_kill_that_fails_is_reported(rt: HostRuntime) -> Result<(), Fail> {
-    run_play(
-        &rt,
-        rt.alloc(),
-        &Play {
-            journal: 4_000_000,
-            fates: &[Fate {
-                failing_signal: Some(1),
-                ..fate(1_000, Exit::Code(0))
-            }],
-            failing: &[],
-            steps: &[
-                CREATE,
-                run(1),
-                Step::Launches(1),
-                control(1, Control::Terminate),
-                Step::Reaps(1),
-                is_in(1, JobState::Running),
-                Step::Finishes,
-                is_in(1, JobState::Failed),
-            ],
-            launcher: &LAUNCHED,
-            reaper: &[
-                Told::Signal(1, 1, SignalKind::Kill),
-                Told::SignalFailed(1, 1, SignalKind::Kill),
-                Told::Exited(1, 1, Exit::Code(0)),
-            ],
-        },
-    )?;
-    Ok(())
-}
+const A_KILL_THAT_FAILS_IS_REPORTED: Play = Play {
+    about: "a kill that fails is reported",
+    journal: 4_000_000,
+    courses: &[(1_000, Exit::Code(0), Fails::Signal)],
+    failing: &[],
+    steps: &[
+        CREATE,
+        Step::Client(RUN, Said::Job(1)),
+        Step::Launches(1),
+        Step::Client(Ask::Control(1, Control::Terminate), Said::Unit),
+        Step::Reaps(1),
+        Step::Client(Ask::State(1), Said::State(JobState::Running)),
+        Step::Finishes,
+        Step::Client(Ask::State(1), Said::State(JobState::Failed)),
+    ],
+    launcher: &LAUNCHED,
+    reaper: &[
+        Told::Signal(1, 1, SignalKind::Kill),
+        Told::SignalFailed(1, 1, SignalKind::Kill),
+        Told::Exited(1, 1, Exit::Code(0)),
+    ],
+};
 
 /// After a kill that failed a second one may be asked for, and is delivered.
-#[test]
-fn a_second_kill_is_delivered(rt: HostRuntime) -> Result<(), Fail> {
-    run_play(
-        &rt,
-        rt.alloc(),
-        &Play {
-            journal: 4_000_000,
-            fates: &[Fate {
-                failing_signal: Some(1),
-                ..fate(1_000, Exit::Code(0))
-            }],
-            failing: &[],
-            steps: &[
-                CREATE,
-                run(1),
-                Step::Launches(1),
-                control(1, Control::Terminate),
-                Step::Reaps(1),
-                control(1, Control::Terminate),
-                Step::Reaps(2),
-                is_in(1, JobState::Failed),
-            ],
-            launcher: &LAUNCHED,
-            reaper: &[
-                Told::Signal(1, 1, SignalKind::Kill),
-                Told::SignalFailed(1, 1, SignalKind::Kill),
-                Told::Signal(1, 1, SignalKind::Kill),
-                Told::SignalDone(1, 1, SignalKind::Kill),
-                Told::Exited(1, 1, Exit::Signal(9)),
-            ],
-        },
-    )?;
-    Ok(())
-}
+const A_SECOND_KILL_IS_DELIVERED: Play = Play {
+    about: "a second kill is delivered",
+    journal: 4_000_000,
+    courses: &[(1_000, Exit::Code(0), Fails::Signal)],
+    failing: &[],
+    steps: &[
+        CREATE,
+        Step::Client(RUN, Said::Job(1)),
+        Step::Launches(1),
+        Step::Client(Ask::Control(1, Control::Terminate), Said::Unit),
+        Step::Reaps(1),
+        Step::Client(Ask::Control(1, Control::Terminate), Said::Unit),
+        Step::Reaps(2),
+        Step::Client(Ask::State(1), Said::State(JobState::Failed)),
+    ],
+    launcher: &LAUNCHED,
+    reaper: &[
+        Told::Signal(1, 1, SignalKind::Kill),
+        Told::SignalFailed(1, 1, SignalKind::Kill),
+        Told::Signal(1, 1, SignalKind::Kill),
+        Told::SignalDone(1, 1, SignalKind::Kill),
+        Told::Exited(1, 1, Exit::Signal(9)),
+    ],
+};
 
 /// Each order is taken and delivered once, one in a round, and the child ends as its fate says.
-#[test]
-fn a_stop_and_a_continue_are_delivered(rt: HostRuntime) -> Result<(), Fail> {
-    run_play(
-        &rt,
-        rt.alloc(),
-        &Play {
-            journal: 4_000_000,
-            fates: &[fate(3, Exit::Code(0))],
-            failing: &[],
-            steps: &[
-                CREATE,
-                run(1),
-                Step::Launches(1),
-                control(1, Control::Suspend),
-                control(1, Control::Resume),
-                Step::Reaps(1),
-                Step::Reaps(1),
-                Step::Reaps(0),
-                Step::Reaps(1),
-                is_in(1, JobState::Done),
-            ],
-            launcher: &LAUNCHED,
-            reaper: &[
-                Told::Signal(1, 1, SignalKind::Stop),
-                Told::SignalDone(1, 1, SignalKind::Stop),
-                Told::Signal(1, 1, SignalKind::Cont),
-                Told::SignalDone(1, 1, SignalKind::Cont),
-                Told::Exited(1, 1, Exit::Code(0)),
-            ],
-        },
-    )?;
-    Ok(())
-}
+const A_STOP_AND_A_CONTINUE_ARE_DELIVERED: Play = Play {
+    about: "a stop and a continue are delivered",
+    journal: 4_000_000,
+    courses: &[(3, Exit::Code(0), Fails::Never)],
+    failing: &[],
+    steps: &[
+        CREATE,
+        Step::Client(RUN, Said::Job(1)),
+        Step::Launches(1),
+        Step::Client(Ask::Control(1, Control::Suspend), Said::Unit),
+        Step::Client(Ask::Control(1, Control::Resume), Said::Unit),
+        Step::Reaps(1),
+        Step::Reaps(1),
+        Step::Reaps(0),
+        Step::Reaps(1),
+        Step::Client(Ask::State(1), Said::State(JobState::Done)),
+    ],
+    launcher: &LAUNCHED,
+    reaper: &[
+        Told::Signal(1, 1, SignalKind::Stop),
+        Told::SignalDone(1, 1, SignalKind::Stop),
+        Told::Signal(1, 1, SignalKind::Cont),
+        Told::SignalDone(1, 1, SignalKind::Cont),
+        Told::Exited(1, 1, Exit::Code(0)),
+    ],
+};
 
 /// Another caller launched job 1, so its child is not in the list: its order is kept, and no other is taken meanwhile.
-#[test]
-fn an_order_without_a_child_is_kept(rt: HostRuntime) -> Result<(), Fail> {
-    run_play(
-        &rt,
-        rt.alloc(),
-        &Play {
-            journal: 4_000_000,
-            fates: &[fate(2, Exit::Code(0))],
-            failing: &[],
-            steps: &[
-                CREATE,
-                run(1),
-                run(2),
-                Step::Client(Ask::TakeLaunch, Said::Launch(1, 1)),
-                Step::Client(Ask::Started(1), Said::Unit),
-                Step::Launches(2),
-                control(1, Control::Terminate),
-                control(2, Control::Terminate),
-                Step::Reaps(0),
-                Step::Reaps(0),
-                Step::Reaps(1),
-                is_in(2, JobState::Failed),
-                Step::Reaps(0),
-            ],
-            launcher: &[Told::Launch(2, 1), Told::Started(2, 1)],
-            reaper: &[
-                Told::Signal(1, 1, SignalKind::Kill),
-                Told::Exited(2, 1, Exit::Code(0)),
-            ],
-        },
-    )?;
-    Ok(())
-}
+const AN_ORDER_WITHOUT_A_CHILD_IS_KEPT: Play = Play {
+    about: "an order without a child is kept",
+    journal: 4_000_000,
+    courses: &[(2, Exit::Code(0), Fails::Never)],
+    failing: &[],
+    steps: &[
+        CREATE,
+        Step::Client(RUN, Said::Job(1)),
+        Step::Client(RUN, Said::Job(2)),
+        Step::Client(Ask::TakeLaunch, Said::Launch(1, 1)),
+        Step::Client(Ask::Started(1), Said::Unit),
+        Step::Launches(2),
+        Step::Client(Ask::Control(1, Control::Terminate), Said::Unit),
+        Step::Client(Ask::Control(2, Control::Terminate), Said::Unit),
+        Step::Reaps(0),
+        Step::Reaps(0),
+        Step::Reaps(1),
+        Step::Client(Ask::State(2), Said::State(JobState::Failed)),
+        Step::Reaps(0),
+    ],
+    launcher: &[Told::Launch(2, 1), Told::Started(2, 1)],
+    reaper: &[
+        Told::Signal(1, 1, SignalKind::Kill),
+        Told::Exited(2, 1, Exit::Code(0)),
+    ],
+};
 
 /// Another caller launched job 1 and has not reported its start: a kill that is asked for is not handed out before that report.
-#[test]
-fn a_kill_waits_for_the_start(rt: HostRuntime) -> Result<(), Fail> {
-    run_play(
-        &rt,
-        rt.alloc(),
-        &Play {
-            journal: 4_000_000,
-            fates: &[],
-            failing: &[],
-            steps: &[
-                CREATE,
-                run(1),
-                Step::Client(Ask::TakeLaunch, Said::Launch(1, 1)),
-                control(1, Control::Terminate),
-                is_in(1, JobState::Running),
-                Step::Reaps(0),
-                Step::Client(Ask::Started(1), Said::Unit),
-                Step::Reaps(0),
-                is_in(1, JobState::Running),
-            ],
-            launcher: &[],
-            reaper: &[Told::Signal(1, 1, SignalKind::Kill)],
-        },
-    )?;
-    Ok(())
-}
+const A_KILL_WAITS_FOR_THE_START: Play = Play {
+    about: "a kill waits for the start",
+    journal: 4_000_000,
+    courses: &[],
+    failing: &[],
+    steps: &[
+        CREATE,
+        Step::Client(RUN, Said::Job(1)),
+        Step::Client(Ask::TakeLaunch, Said::Launch(1, 1)),
+        Step::Client(Ask::Control(1, Control::Terminate), Said::Unit),
+        Step::Client(Ask::State(1), Said::State(JobState::Running)),
+        Step::Reaps(0),
+        Step::Client(Ask::Started(1), Said::Unit),
+        Step::Reaps(0),
+        Step::Client(Ask::State(1), Said::State(JobState::Running)),
+    ],
+    launcher: &[],
+    reaper: &[Told::Signal(1, 1, SignalKind::Kill)],
+};
 
 /// A child that has ended and was not polled since is sent its stop. The end is reported behind that.
-#[test]
-fn a_stop_reaches_a_child_that_has_just_ended(rt: HostRuntime) -> Result<(), Fail> {
-    run_play(
-        &rt,
-        rt.alloc(),
-        &Play {
-            journal: 4_000_000,
-            fates: &[fate(0, Exit::Code(0))],
-            failing: &[],
-            steps: &[
-                CREATE,
-                run(1),
-                Step::Launches(1),
-                control(1, Control::Suspend),
-                is_in(1, JobState::Suspended),
-                Step::Reaps(2),
-                is_in(1, JobState::Done),
-                Step::Reaps(0),
-            ],
-            launcher: &LAUNCHED,
-            reaper: &[
-                Told::Signal(1, 1, SignalKind::Stop),
-                Told::SignalDone(1, 1, SignalKind::Stop),
-                Told::Exited(1, 1, Exit::Code(0)),
-            ],
-        },
-    )?;
-    Ok(())
-}
+const A_STOP_REACHES_A_CHILD_THAT_HAS_JUST_ENDED: Play = Play {
+    about: "a stop reaches a child that has just ended",
+    journal: 4_000_000,
+    courses: &[(0, Exit::Code(0), Fails::Never)],
+    failing: &[],
+    steps: &[
+        CREATE,
+        Step::Client(RUN, Said::Job(1)),
+        Step::Launches(1),
+        Step::Client(Ask::Control(1, Control::Suspend), Said::Unit),
+        Step::Client(Ask::State(1), Said::State(JobState::Suspended)),
+        Step::Reaps(2),
+        Step::Client(Ask::State(1), Said::State(JobState::Done)),
+        Step::Reaps(0),
+    ],
+    launcher: &LAUNCHED,
+    reaper: &[
+        Told::Signal(1, 1, SignalKind::Stop),
+        Told::SignalDone(1, 1, SignalKind::Stop),
+        Told::Exited(1, 1, Exit::Code(0)),
+    ],
+};
 
 /// The end of job 1 is reported by another caller before its stop is taken, which removes the order. Its child is not signalled.
+const AN_END_REMOVES_THE_ORDER: Play = Play {
+    about: "an end removes the order",
+    journal: 4_000_000,
+    courses: &[
+        (1, Exit::Code(0), Fails::Never),
+        (0, Exit::Code(0), Fails::Never),
+    ],
+    failing: &[],
+    steps: &[
+        CREATE,
+        Step::Client(RUN, Said::Job(1)),
+        Step::Client(RUN, Said::Job(2)),
+        Step::Launches(1),
+        Step::Launches(2),
+        Step::Client(Ask::Control(1, Control::Suspend), Said::Unit),
+        Step::Client(Ask::Exited(1, Exit::Code(0)), Said::Unit),
+        Step::Client(Ask::State(1), Said::State(JobState::Done)),
+        Step::Reaps(1),
+        Step::Client(Ask::State(2), Said::State(JobState::Done)),
+        Step::Reaps(1),
+        Step::Reaps(0),
+    ],
+    launcher: &[
+        Told::Launch(1, 1),
+        Told::Started(1, 1),
+        Told::Launch(2, 1),
+        Told::Started(2, 1),
+    ],
+    reaper: &[
+        Told::Exited(2, 1, Exit::Code(0)),
+        Told::Exited(1, 1, Exit::Code(0)),
+    ],
+};
+
 #[test]
-fn an_end_removes_the_order(rt: HostRuntime) -> Result<(), Fail> {
-    run_play(
-        &rt,
-        rt.alloc(),
-        &Play {
-            journal: 4_000_000,
-            fates: &[fate(1, Exit::Code(0)), fate(0, Exit::Code(0))],
-            failing: &[],
-            steps: &[
-                CREATE,
-                run(1),
-                run(2),
-                Step::Launches(1),
-                Step::Launches(2),
-                control(1, Control::Suspend),
-                Step::Client(Ask::Exited(1, Exit::Code(0)), Said::Unit),
-                is_in(1, JobState::Done),
-                Step::Reaps(1),
-                is_in(2, JobState::Done),
-                Step::Reaps(1),
-                Step::Reaps(0),
-            ],
-            launcher: &[
-                Told::Launch(1, 1),
-                Told::Started(1, 1),
-                Told::Launch(2, 1),
-                Told::Started(2, 1),
-            ],
-            reaper: &[
-                Told::Exited(2, 1, Exit::Code(0)),
-                Told::Exited(1, 1, Exit::Code(0)),
-            ],
-        },
-    )?;
-    Ok(())
+fn orders_are_delivered_to_their_children(rt: HostRuntime) {
+    run_play(&rt, rt.alloc(), &A_KILL_COMES_BEFORE_THE_END);
+    let endless = Play {
+        courses: &[(u32::MAX, Exit::Code(0), Fails::Never)],
+        ..A_KILL_COMES_BEFORE_THE_END
+    };
+    run_play(&rt, rt.alloc(), &endless);
+    run_play(&rt, rt.alloc(), &A_KILL_THAT_FAILS_IS_REPORTED);
+    run_play(&rt, rt.alloc(), &A_SECOND_KILL_IS_DELIVERED);
+    run_play(&rt, rt.alloc(), &A_STOP_AND_A_CONTINUE_ARE_DELIVERED);
+    run_play(&rt, rt.alloc(), &AN_ORDER_WITHOUT_A_CHILD_IS_KEPT);
+    run_play(&rt, rt.alloc(), &A_KILL_WAITS_FOR_THE_START);
+    run_play(&rt, rt.alloc(), &A_STOP_REACHES_A_CHILD_THAT_HAS_JUST_ENDED);
+    run_play(&rt, rt.alloc(), &AN_END_REMOVES_THE_ORDER);
 }

@@ -1,5 +1,5 @@
 //! Plays: steps of a client, the launcher and the reaper over one machine, and what stands in its history afterwards.
-ghost use Rattle.std.specs.Prelude.{◌≡◌, [], ◌∷◌, None, IfOk};
+ghost use Rattle.std.specs.Prelude.{◌≡◌, [], ◌∷◌, None};
 ghost use Rattle.turn_lock.specs.Tokens.{BelongsTo};
 ghost use Rattle.call_history.specs.Clients.{retired_of};
 ghost use Rattle.attendant_tests.specs.Stages.{IsSet, SitsAt, HasPlayed};
@@ -10,37 +10,49 @@ use attendant::{Done, Launched, Reaper, finish, launch_once, reap_once, run_atte
 use call_history::{Bell, Client, Config, Desk, MachineOpener, SharedMachine};
 use child_spawner::{Fate, FateList, MemoryChild, MemorySpawner};
 use drmaa_machine::Machine;
-use drmaa_types::{JobId, Moment, PlaceList, Refusal, StepClock};
+use drmaa_types::{Exit, JobId, Limit, Moment, PlaceList, Refusal, StepClock};
 use std::alloc::Global;
 use std::process::Abort;
 use std::sync::Wait;
-use std::test::Fail;
 use std::time::Clock as Pause;
 
 /// What one of the three does, and what comes of it.
-#[derive(Clone, Copy, Debug)]
+#[derive(Clone, Copy)]
 pub enum Step {
     /// The client asks.
     Client(Ask, Said),
-    /// A round of the launcher: no launch, a child that began, or a start that failed.
+    /// A round of the launcher: no launch, a child that began, a start that failed, or a journal that would have this size.
     LaunchesNone,
     Launches(u64),
     FailsToStart(u64),
-    CannotLaunch(Refusal),
-    /// A round of the reaper, with its number of reports.
+    CannotLaunch(u64),
+    /// A round of the reaper, with its number of reports, or with the size that the journal would have.
     Reaps(u32),
-    CannotReap(Refusal),
+    CannotReap(u64),
     /// Rounds of both until the machine is settled: once the clients are over, or at once.
     Attends,
     Finishes,
 }
 
+/// Which call of a child fails: none, its first poll, or its first signal.
+#[derive(Clone, Copy)]
+pub enum Fails {
+    Never,
+    Poll,
+    Signal,
+}
+
+/// How many polls a child runs for, how it ends, and which call fails.
+pub type Course = (u32, Exit, Fails);
+
 /// What a machine and a spawner are like, and what is played on them.
-#[derive(Drop)]
+#[derive(Clone, Copy)]
 pub struct Play<'a> {
+    /// What it shows.
+    pub about: &'a str,
     pub journal: u64,
-    /// The fates of the children, in order, and the starts that fail, counted from 1.
-    pub fates: &'a [Fate],
+    /// What the children do, in order, and the starts that fail, counted from 1.
+    pub courses: &'a [Course],
     pub failing: &'a [u64],
     pub steps: &'a [Step],
     /// The entries of the launcher, and those of the reaper.
@@ -48,16 +60,15 @@ pub struct Play<'a> {
     pub reaper: &'a [Told],
 }
 
-fn ask<R: Abort + Wait>(rt: &R, alloc: Global, stage: &mut Stage, ask: Ask) -> Result<Said, Fail>
+fn ask<R: Wait>(rt: &R, alloc: Global, stage: &mut Stage, ask: Ask) -> Said
     requires { IsSet stage.old.client.shared.now stage.old }
     ensures lock { stage.new.client.shared.now ≡ stage.old.client.shared.now }
     ensures set { IsSet stage.old.client.shared.now stage.new }
 {
-    let call = call_of(alloc, ask)?;
-    Ok(said_of(&stage.client.call(rt, call)))
+    said_of(&stage.client.call(rt, call_of(alloc, ask)))
 }
 
-fn launch<R: Abort + Wait>(rt: &R, stage: &mut Stage) -> Result<Launched, Refusal>
+fn launch<R: Wait>(rt: &R, stage: &mut Stage) -> Result<Launched, Refusal>
     requires { IsSet stage.old.client.shared.now stage.old }
     ensures lock { stage.new.client.shared.now ≡ stage.old.client.shared.now }
     ensures set { IsSet stage.old.client.shared.now stage.new }
@@ -70,7 +81,7 @@ fn launch<R: Abort + Wait>(rt: &R, stage: &mut Stage) -> Result<Launched, Refusa
     )
 }
 
-fn reap<R: Abort + Wait>(rt: &R, stage: &mut Stage) -> Result<u32, Refusal>
+fn reap<R: Wait>(rt: &R, stage: &mut Stage) -> Result<u32, Refusal>
     requires { IsSet stage.old.client.shared.now stage.old }
     ensures lock { stage.new.client.shared.now ≡ stage.old.client.shared.now }
     ensures set { IsSet stage.old.client.shared.now stage.new }
@@ -78,111 +89,128 @@ fn reap<R: Abort + Wait>(rt: &R, stage: &mut Stage) -> Result<u32, Refusal>
     reap_once(rt, &mut stage.reaping, &mut stage.reaper)
 }
 
+/// Rounds of both until the machine is settled, once the clients are over.
+fn attend<R: Wait + Pause>(rt: &R, stage: &mut Stage) -> bool
+    requires { IsSet stage.old.client.shared.now stage.old }
+    ensures lock { stage.new.client.shared.now ≡ stage.old.client.shared.now }
+    ensures set { IsSet stage.old.client.shared.now stage.new }
+{
+    let done = Done::new(1);
+    done.client_ended(rt);
+    let (launcher, reaping) = (&mut stage.launcher, &mut stage.reaping);
+    let (spawner, reaper) = (&mut stage.spawner, &mut stage.reaper);
+    run_attendant(rt, launcher, reaping, spawner, reaper, &done).is_ok()
+}
+
 /// Rounds of both until the machine is settled.
-fn settle<R: Abort + Wait + Pause>(rt: &R, stage: &mut Stage, done: Option<Done>) -> bool
+fn settle<R: Wait + Pause>(rt: &R, stage: &mut Stage) -> bool
     requires { IsSet stage.old.client.shared.now stage.old }
     ensures lock { stage.new.client.shared.now ≡ stage.old.client.shared.now }
     ensures set { IsSet stage.old.client.shared.now stage.new }
 {
     let (launcher, reaping) = (&mut stage.launcher, &mut stage.reaping);
     let (spawner, reaper) = (&mut stage.spawner, &mut stage.reaper);
-    match done {
-        Some(done) => run_attendant(rt, launcher, reaping, spawner, reaper, &done).is_ok(),
-        None => finish(rt, launcher, reaping, spawner, reaper).is_ok(),
-    }
+    finish(rt, launcher, reaping, spawner, reaper).is_ok()
 }
 
-/// One client, who is over.
-fn one_over<R: Wait>(rt: &R) -> Done {
-    let done = Done::new(1);
-    done.client_ended(rt);
-    done
+/// The journal would have this size.
+fn full(size: u64) -> Refusal {
+    Refusal::OutOfResource(Limit::Journal { size })
 }
 
-fn take_step<R: Abort + Wait + Pause>(
-    rt: &R,
-    alloc: Global,
-    stage: &mut Stage,
-    step: Step,
-) -> Result<(), Fail>
+/// Takes a step. Whether it comes to what it says.
+fn take_step<R: Wait + Pause>(rt: &R, alloc: Global, stage: &mut Stage, step: Step) -> bool
     requires { IsSet stage.old.client.shared.now stage.old }
     ensures lock { stage.new.client.shared.now ≡ stage.old.client.shared.now }
     ensures set { IsSet stage.old.client.shared.now stage.new }
 {
     match step {
-        Step::Client(asked, said) => {
-            let found = ask(rt, alloc, stage, asked)?;
-            assert_eq!(rt; found, said, "{asked:?}");
-        }
-        Step::LaunchesNone => assert_eq!(rt; launch(rt, stage), Ok(Launched::Nothing)),
-        Step::Launches(job) => {
-            assert_eq!(rt; launch(rt, stage), Ok(Launched::Began(JobId(job))));
-        }
-        Step::FailsToStart(job) => {
-            assert_eq!(rt; launch(rt, stage), Ok(Launched::StartFailed(JobId(job))));
-        }
-        Step::CannotLaunch(why) => assert_eq!(rt; launch(rt, stage), Err(why)),
-        Step::Reaps(reports) => assert_eq!(rt; reap(rt, stage), Ok(reports)),
-        Step::CannotReap(why) => assert_eq!(rt; reap(rt, stage), Err(why)),
-        Step::Attends => {
-            let done = one_over(rt);
-            assert!(rt; done.clients_over(rt));
-            assert!(rt; settle(rt, stage, Some(done)));
-        }
-        Step::Finishes => assert!(rt; settle(rt, stage, None)),
+        Step::Client(asked, said) => ask(rt, alloc, stage, asked) == said,
+        Step::LaunchesNone => launch(rt, stage) == Ok(Launched::Nothing),
+        Step::Launches(job) => launch(rt, stage) == Ok(Launched::Began(JobId(job))),
+        Step::FailsToStart(job) => launch(rt, stage) == Ok(Launched::StartFailed(JobId(job))),
+        Step::CannotLaunch(size) => launch(rt, stage) == Err(full(size)),
+        Step::Reaps(reports) => reap(rt, stage) == Ok(reports),
+        Step::CannotReap(size) => reap(rt, stage) == Err(full(size)),
+        Step::Attends => attend(rt, stage),
+        Step::Finishes => settle(rt, stage),
     }
-    Ok(())
 }
 
-fn take_steps<R: Abort + Wait + Pause>(
-    rt: &R,
-    alloc: Global,
-    stage: &mut Stage,
-    steps: &[Step],
-) -> Result<(), Fail>
+/// Takes steps in order, up to the first that comes to something else. How many were taken before that.
+fn take_steps<R: Wait + Pause>(rt: &R, alloc: Global, stage: &mut Stage, steps: &[Step]) -> usize
     requires { IsSet stage.old.client.shared.now stage.old }
     ensures lock { stage.new.client.shared.now ≡ stage.old.client.shared.now }
     ensures set { IsSet stage.old.client.shared.now stage.new }
 {
+    let mut taken: usize = 0;
     for step in steps {
-        take_step(rt, alloc, stage, *step)?;
+        if !take_step(rt, alloc, stage, *step) {
+            return taken;
+        }
+        taken = taken.saturating_add(1);
     }
-    Ok(())
+    taken
 }
 
-/// The entries of a caller are these.
-fn compare<R: Abort>(rt: &R, machine: &Machine, caller: u32, told: &[Told]) {
-    let mut found = 0;
+/// Whether the entries of a caller are these.
+fn has_told(machine: &Machine, caller: u32, told: &[Told]) -> bool {
+    let mut found: usize = 0;
     for entry in machine.entries() {
         if entry.caller.0 == caller {
-            assert_eq!(rt; told.get(found).copied(), Some(told_of(entry)));
-            found += 1;
+            if told.get(found).copied() != Some(told_of(entry)) {
+                return false;
+            }
+            found = found.saturating_add(1);
         }
     }
-    assert_eq!(rt; found, told.len());
+    found == told.len()
 }
 
 /// A machine with four slots that nobody has called, and who opens it.
-pub fn open_machine(alloc: Global, journal: u64) -> Result<(SharedMachine, MachineOpener), Fail>
-    ensures opener { IfOk result (λ made. BelongsTo made.0 made.1) }
-    ensures retired { IfOk result (λ made. retired_of made.1 ≡ []) }
+pub fn open_machine(rt: &impl Abort, alloc: Global, journal: u64) -> (SharedMachine, MachineOpener)
+    ensures opener { BelongsTo result.0 result.1 }
+    ensures retired { retired_of result.1 ≡ [] }
 {
     let config = Config {
         slots: 4,
-        name: text(alloc, "node1")?,
+        name: text(alloc, "node1"),
         suspend: true,
         journal: journal.clamp(1, 4_000_000),
     };
     match SharedMachine::new(alloc, config) {
-        Ok(made) => Ok(made),
-        Err(_) => Err(Fail::from("no machine")),
+        Ok(made) => made,
+        Err(_) => panic!(rt; "there is memory"),
     }
 }
 
-fn spawner_of(alloc: Global, play: &Play) -> Result<MemorySpawner, Fail> {
-    let fates = FateList::from_vec(play.fates.to_vec(alloc)?);
-    let failing = PlaceList::from_vec(play.failing.to_vec(alloc)?);
-    Ok(MemorySpawner::new(alloc, fates, failing))
+/// The fate of a child.
+pub fn fate_of(course: Course) -> Fate {
+    let (polls, exit, fails) = course;
+    let (failing_poll, failing_signal) = match fails {
+        Fails::Never => (None, None),
+        Fails::Poll => (Some(1), None),
+        Fails::Signal => (None, Some(1)),
+    };
+    Fate {
+        polls,
+        exit,
+        failing_poll,
+        failing_signal,
+    }
+}
+
+/// Where memory is wanting fates are left out, or no start fails, and then no test passes.
+fn spawner_of(alloc: Global, play: &Play) -> MemorySpawner {
+    let mut fates = Vec::new(alloc);
+    for course in play.courses {
+        let _ = fates.push(fate_of(*course));
+    }
+    let failing = match play.failing.to_vec(alloc) {
+        Ok(failing) => PlaceList::from_vec(failing),
+        Err(_) => PlaceList::new(alloc),
+    };
+    MemorySpawner::new(alloc, FateList::from_vec(fates), failing)
 }
 
 /// A desk with a clock that stands at 0.
@@ -227,29 +255,29 @@ fn stage_of<'a>(
 }
 
 /// Plays at a machine that nobody has called.
-fn play_at<R: Abort + Wait + Pause>(
+fn play_at<R: Wait + Pause>(
     rt: &R,
     alloc: Global,
     shared: &SharedMachine,
     opener: &mut MachineOpener,
     play: &Play,
-) -> Result<Played, Fail>
+) -> Played
     requires opener { BelongsTo shared.now opener.old }
     requires retired { retired_of opener.old ≡ [] }
     ensures opener { BelongsTo shared.now opener.new }
-    ensures retired { IfOk result (λ played. retired_of opener.new ≡ None ∷ None ∷ None ∷ []) }
-    ensures played { IfOk result (HasPlayed shared.now) }
+    ensures retired { retired_of opener.new ≡ None ∷ None ∷ None ∷ [] }
+    ensures played { HasPlayed shared.now result }
 {
-    let spawner = spawner_of(alloc, play)?;
     let bell = Bell::silent();
-    let mut stage = stage_of(alloc, shared, &bell, opener, spawner);
-    take_steps(rt, alloc, &mut stage, play.steps)?;
-    Ok(Played {
+    let mut stage = stage_of(alloc, shared, &bell, opener, spawner_of(alloc, play));
+    let taken = take_steps(rt, alloc, &mut stage, play.steps);
+    Played {
         client: stage.client.client,
         launcher: stage.launcher.client,
         reaping: stage.reaping.client,
         spawner: stage.spawner,
-    })
+        taken,
+    }
 }
 
 /// The machine, once all three are back.
@@ -273,21 +301,43 @@ fn close(
     shared.close(opener)
 }
 
-/// Plays, and compares what was answered and what stands in the history. Answers the spawner.
-pub fn run_play<R: Abort + Wait + Pause>(
-    rt: &R,
-    alloc: Global,
-    play: &Play,
-) -> Result<MemorySpawner, Fail> {
-    let (shared, mut opener) = open_machine(alloc, play.journal)?;
+/// What is compared of a play: how many steps were taken, whether launcher and reaper told what they are to tell, and the spawner.
+#[derive(Drop)]
+struct Ended {
+    taken: usize,
+    launched: bool,
+    reaped: bool,
+    spawner: MemorySpawner,
+}
+
+fn ended<R: Abort + Wait + Pause>(rt: &R, alloc: Global, play: &Play) -> Ended {
+    let (shared, mut opener) = open_machine(rt, alloc, play.journal);
     let Played {
         client,
         launcher,
         reaping,
         spawner,
-    } = play_at(rt, alloc, &shared, &mut opener, play)?;
+        taken,
+    } = play_at(rt, alloc, &shared, &mut opener, play);
     let machine = close(shared, opener, client, launcher, reaping);
-    compare(rt, &machine, 1, play.launcher);
-    compare(rt, &machine, 2, play.reaper);
-    Ok(spawner)
+    Ended {
+        taken,
+        launched: has_told(&machine, 1, play.launcher),
+        reaped: has_told(&machine, 2, play.reaper),
+        spawner,
+    }
+}
+
+/// Asserts that a play came to what it says.
+fn compare(rt: &impl Abort, play: &Play, ended: &Ended) {
+    let about = play.about;
+    assert_eq!(rt; ended.taken, play.steps.len(), "{about}: the steps taken");
+    assert_eq!(rt; (ended.launched, ended.reaped), (true, true), "{about}");
+}
+
+/// Plays, and compares what was answered and what stands in the history. Answers the spawner.
+pub fn run_play<R: Abort + Wait + Pause>(rt: &R, alloc: Global, play: &Play) -> MemorySpawner {
+    let ended = ended(rt, alloc, play);
+    compare(rt, play, &ended);
+    ended.spawner
 }

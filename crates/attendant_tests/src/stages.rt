@@ -14,11 +14,12 @@ pub struct Stage<'a> {
     pub reaper: Reaper<MemoryChild>,
 }
 
-/// The three clients, and the spawner.
+/// The three clients, the spawner, and how many steps were taken that came to what they say.
 #[derive(Drop)]
 pub struct Played {
     pub client: Client,
     pub launcher: Client,
     pub reaping: Client,
     pub spawner: MemorySpawner,
+    pub taken: usize,
 }
