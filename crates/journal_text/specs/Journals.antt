@@ -1,5 +1,5 @@
 -- Journals: the machine, a line for each entry of its history, and their count. Our profile.
-use Rattle.std.specs.Prelude.{◌≡◌, ℕ, ◌+◌, ◌<◌, ◌^◌, ◌&&◌, nat_le, Bool, true, false, List, [], ◌∷◌, ◌++◌, length, Some, codes}
+use Rattle.std.specs.Prelude.{◌≡◌, ℕ, ◌+◌, ◌<◌, ◌^◌, ◌&&◌, nat_le, Bool, true, false, List, [], ◌∷◌, ◌++◌, length, Option, Some, codes}
 use Rattle.std.specs.List.{AllByRecursion}
 use Rattle.drmaa_types.specs.declared.identifiers.CallerId.{CallerId}
 use Rattle.drmaa_model.specs.declared.configs.Config.{Config}
@@ -7,7 +7,7 @@ use Rattle.drmaa_model.specs.declared.entries.Entry.{Entry}
 use Rattle.drmaa_model.specs.declared.calls.Call.{Call}
 use Rattle.drmaa_model.specs.declared.replies.Reply.{Reply}
 use Rattle.drmaa_model.specs.KeptCalls.{kept}
-use Rattle.text_codec.specs.Formats.{Format, ◌>>=◌, number, moment, pair, mapped, behind, checked, one_of}
+use Rattle.text_codec.specs.Formats.{Format, ◌>>=◌, strip, number, moment, pair, mapped, behind, checked, one_of}
 use Rattle.text_codec.specs.Fields.{Fields, joined}
 use Rattle.text_codec.specs.Quotes.{text}
 use Rattle.text_words.specs.Numbers.{caller_id}
@@ -56,6 +56,10 @@ stamp = pair (number (2 ^ 64)) (pair caller_id moment)
 
 unfoldable pub answered : Fields Call → Format (Call × Reply)
 answered C = joined (codes " = ") C replies
+
+-- what is read behind a call: its reply
+abbrev pub with_reply : {A : Type 0} → A → List ℕ → Option ((A × Reply) × List ℕ)
+with_reply call bs = strip (codes " = ") bs >>= λ rest. replies.read rest >>= λ q. Some ((call, q.0), q.1)
 
 abbrev pub make_entry : (ℕ × (CallerId × ℕ)) × (Call × Reply) → ℕ × Entry
 make_entry p = (p.0.0, record { caller = p.0.1.0; at = p.0.1.1; call = p.1.0; reply = p.1.1 })

@@ -15,7 +15,7 @@ use Rattle.text_codec.specs.Fields.{field, flag, repeated, in_braces, joined}
 use Rattle.text_codec.specs.Sums.{sum_of}
 use Rattle.text_codec.specs.Words.{capitals}
 use Rattle.text_words.specs.TemplateParts.{resource_limit}
-use Rattle.text_forms.specs.Templates.{any_template, template, any_frame, frame, early_fields, path_fields, placed_fields, late_fields, early_parts, path_parts, placed_parts, late_parts}
+use Rattle.text_forms.specs.Templates.{any_template, template, any_frame, frame, Early, Paths, Placed, Late, early_fields, path_fields, placed_fields, late_fields, early_parts, path_parts, placed_parts, late_parts}
 use Rattle.text_lines.specs.Lines.{ended}
 use Rattle.journal_forms.specs.Calls.{call_form, calls_with, calls, running, bulk, requested, has_others}
 use Rattle.journal_forms.specs.Replies.{reply_form, reply_sum, replies, may_answer}
@@ -145,9 +145,35 @@ unfolding resource_limit mapped pair capitals
 limits_kept [] v = refl
 limits_kept (l ∷ ls) v = rw (v.0.0, limits_kept ls v.1) refl
 
+-- what a template's fields have to be, group by group, down to its limits
+early_is_valid : (p : Early) → early_fields.body.valid p → path_fields.body.valid p.1.1.1.1
+unfolding early_fields flag repeated
+early_is_valid p v = v.1.1
+
+paths_are_valid : (p : Paths) → path_fields.body.valid p → placed_fields.body.valid p.1.1.1.1.1
+unfolding path_fields field
+paths_are_valid p v = v.1.1.1.1.1
+
+placed_is_valid : (p : Placed) → placed_fields.body.valid p → late_fields.body.valid p.1.1.1.1.1
+unfolding placed_fields field flag
+placed_is_valid p v = v.1.1.1.1
+
+limits_are_valid : (p : Late) → late_fields.body.valid p → AllByRecursion resource_limit.valid p.1.1.1.0
+unfolding late_fields field repeated
+limits_are_valid p v = v.1.1.1.0
+
+any_is_valid : (t : JobTemplate) → template.valid t → early_fields.body.valid (early_parts t)
+unfolding template checked any_template mapped in_braces
+any_is_valid t v = v.0.1
+
 template_kept : (t : JobTemplate) → template.valid t → kept_template t ≡ t
-unfolding template checked any_template mapped in_braces early_fields path_fields placed_fields late_fields early_parts path_parts placed_parts late_parts field flag repeated
-template_kept t v = ap (λ ls. record t { resource_limits = ls }) (limits_kept t.resource_limits v.0.1.1.1.1.1.1.1.1.1.1.1.1.1.1.1.0)
+unfolding early_parts path_parts placed_parts late_parts
+template_kept t v =
+    let early = any_is_valid t v in
+    let paths = early_is_valid (early_parts t) early in
+    let placed = paths_are_valid (path_parts t) paths in
+    let late = placed_is_valid (placed_parts t) placed in
+    ap (λ ls. record t { resource_limits = ls }) (limits_kept t.resource_limits (limits_are_valid (late_parts t) late))
 
 call_kept : (c : Call) → (call_form template frame c).valid → kept c ≡ c
 unfolding running bulk pair

@@ -4,6 +4,7 @@ ghost use Rattle.text_codec.specs.declared.unread.Unread.{Unread};
 ghost use Rattle.std.specs.List.{AllByRecursion};
 ghost use Rattle.drmaa_model.specs.KeptCalls.{kept};
 ghost use Rattle.text_codec.specs.Formats.{Answers, Says, number, read_line};
+ghost use Rattle.text_codec.specs.Formats as form;
 ghost use Rattle.text_forms.specs.Templates.{any_template, any_frame};
 ghost use Rattle.text_lines.specs.Lines.{ended};
 ghost use Rattle.journal_forms.specs.Calls.{calls, call_form};
@@ -32,15 +33,22 @@ fn stamp_at(cursor: &mut Cursor) -> Result<(u64, (CallerId, Moment)), Unread>
     Ok((number, (caller, at)))
 }
 
+/// Reads the reply that stands behind what was read before it.
+fn with_reply<T: Drop>(cursor: &mut Cursor, first: T) -> Result<(T, Reply), Unread>
+    ensures { Answers (journals.with_reply first) cursor.old result cursor.new }
+{
+    cursor.expect(b" = ")?;
+    let reply = read_reply(cursor)?;
+    Ok((first, reply))
+}
+
 /// Reads a call and its reply.
 #[tactic(auto, unfolding(crate::specs::Journals::answered, text_codec::specs::Fields::joined))]
 fn answered_at(cursor: &mut Cursor) -> Result<(Call, Reply), Unread>
     ensures { Answers (journals.answered calls).read cursor.old result cursor.new }
 {
     let call = read_call(cursor)?;
-    cursor.expect(b" = ")?;
-    let reply = read_reply(cursor)?;
-    Ok((call, reply))
+    with_reply(cursor, call)
 }
 
 /// Reads an entry with its number.
@@ -60,14 +68,21 @@ fn entry_at(cursor: &mut Cursor) -> Result<(u64, Entry), Unread>
     Ok((number, entry))
 }
 
+/// What was read, where nothing follows it.
+fn alone<T: Drop>(cursor: &Cursor, value: T) -> Result<T, Unread>
+    ensures { Says (form.whole value cursor.now) result }
+{
+    cursor.end()?;
+    Ok(value)
+}
+
 /// The entry that a line says, with its number.
 pub(crate) fn entry_of(alloc: Global, line: &[u8]) -> Result<(u64, Entry), Unread>
     ensures { Says (read_line journals.entry line.now) result }
 {
     let mut cursor = Cursor::new(alloc, line);
     let entry = entry_at(&mut cursor)?;
-    cursor.end()?;
-    Ok(entry)
+    alone(&cursor, entry)
 }
 
 /// The number that stands alone in what is left of a line.

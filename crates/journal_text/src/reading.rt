@@ -1,5 +1,5 @@
 //! Reads a journal, line by line.
-ghost use Rattle.std.specs.Prelude.{◌≡◌, ◌≤◌, ◌⊎◌, ℕ, length, IfOk, IfErr, IsSome, Ok, Err, codes};
+ghost use Rattle.std.specs.Prelude.{◌≡◌, ◌≤◌, ◌⊎◌, ℕ, ◌++◌, ◌∷◌, [], length, Some, None, IfOk, IfErr, IsSome, Ok, Err, codes, if◌then◌else◌};
 ghost use Rattle.text_codec.specs.Formats.{Says, strip};
 ghost use Rattle.text_codec.specs.declared.unread.Unread.{Unread};
 ghost use Rattle.text_lines.specs.Lines.{IsFirstBad};
@@ -46,7 +46,19 @@ fn closed(config: Config, entries: EntryList, count: u64) -> Result<JournalReade
     }
 }
 
-/// What is read with the line of one entry more, which has this number.
+/// The list with one value more, where that may stand.
+fn longer_where<T: Drop>(may_stand: bool, list: ListOf<T>, value: T) -> Result<ListOf<T>, Unread>
+    ensures { Says (if may_stand then Some (list ++ value ∷ []) else None) result }
+{
+    if !may_stand {
+        return Err(Unread::Unspelled);
+    }
+    let mut list = list.into_vec();
+    push_last(&mut list, value)?;
+    Ok(ListOf::from_vec(list))
+}
+
+/// What is read with the line of one entry more, which has the next number.
 fn longer(
     alloc: Global,
     config: Config,
@@ -57,14 +69,8 @@ fn longer(
 {
     let count = entries.as_slice().len() as u64;
     let (number, entry) = entry_of(alloc, line)?;
-    if number == count + 1 {
-        let mut entries = entries.into_vec();
-        push_last(&mut entries, entry)?;
-        let entries = ListOf::from_vec(entries);
-        Ok(JournalReader::Going { config, entries })
-    } else {
-        Err(Unread::Unspelled)
-    }
+    let entries = longer_where(number == count + 1, entries, entry)?;
+    Ok(JournalReader::Going { config, entries })
 }
 
 /// What is read with a line more, behind the first line.
