@@ -89,17 +89,25 @@ fn reap<R: Wait>(rt: &R, stage: &mut Stage) -> Result<u32, Refusal>
     reap_once(rt, &mut stage.reaping, &mut stage.reaper)
 }
 
+/// One client, who is over.
+fn one_over<R: Wait>(rt: &R) -> Done {
+    let done = Done::new(1);
+    done.client_ended(rt);
+    done
+}
+
 /// Rounds of both until the machine is settled, once the clients are over.
 fn attend<R: Wait + Pause>(rt: &R, stage: &mut Stage) -> bool
     requires { IsSet stage.old.client.shared.now stage.old }
     ensures lock { stage.new.client.shared.now ≡ stage.old.client.shared.now }
     ensures set { IsSet stage.old.client.shared.now stage.new }
 {
-    let done = Done::new(1);
-    done.client_ended(rt);
+    let done = one_over(rt);
+    let over = done.clients_over(rt);
     let (launcher, reaping) = (&mut stage.launcher, &mut stage.reaping);
     let (spawner, reaper) = (&mut stage.spawner, &mut stage.reaper);
-    run_attendant(rt, launcher, reaping, spawner, reaper, &done).is_ok()
+    let settled = run_attendant(rt, launcher, reaping, spawner, reaper, &done).is_ok();
+    over && settled
 }
 
 /// Rounds of both until the machine is settled.
@@ -310,7 +318,7 @@ struct Ended {
     spawner: MemorySpawner,
 }
 
-fn ended<R: Abort + Wait + Pause>(rt: &R, alloc: Global, play: &Play) -> Ended {
+fn play_out<R: Abort + Wait + Pause>(rt: &R, alloc: Global, play: &Play) -> Ended {
     let (shared, mut opener) = open_machine(rt, alloc, play.journal);
     let Played {
         client,
@@ -330,14 +338,14 @@ fn ended<R: Abort + Wait + Pause>(rt: &R, alloc: Global, play: &Play) -> Ended {
 
 /// Asserts that a play came to what it says.
 fn compare(rt: &impl Abort, play: &Play, ended: &Ended) {
-    let about = play.about;
-    assert_eq!(rt; ended.taken, play.steps.len(), "{about}: the steps taken");
-    assert_eq!(rt; (ended.launched, ended.reaped), (true, true), "{about}");
+    let (about, taken) = (play.about, ended.taken);
+    let holds = taken == play.steps.len() && ended.launched && ended.reaped;
+    assert!(rt; holds, "{about}: after {taken} steps");
 }
 
 /// Plays, and compares what was answered and what stands in the history. Answers the spawner.
 pub fn run_play<R: Abort + Wait + Pause>(rt: &R, alloc: Global, play: &Play) -> MemorySpawner {
-    let ended = ended(rt, alloc, play);
+    let ended = play_out(rt, alloc, play);
     compare(rt, play, &ended);
     ended.spawner
 }

@@ -1,23 +1,22 @@
 //! Launches of new attempts, starts that fail, and ends.
 use crate::asking::{Ask, Said, Told};
-use crate::playing::{Course, Fails, Play, Step, run_play};
+use crate::playing::{Fails, Play, Step, run_play};
 use crate::wording::{CREATE, RUN, RUN_AGAIN};
 use child_spawner::MemorySpawner;
 use drmaa_types::{Exit, JobState};
-use std::alloc::Global;
 use std::process::Abort;
 
 /// The words of a job with the command `true` and nothing else.
-const WORDS: [&str; 7] = ["", "", "", "", "apart", "0", "true"];
+const WORDS: &[&str] = &["", "", "", "", "apart", "0", "true"];
 
 /// One start was asked for, of the first attempt of job 1, with these words.
 fn compare_asked<R: Abort>(rt: &R, spawner: &MemorySpawner) {
     assert!(rt; spawner.told());
-    assert_eq!(rt; spawner.asked().len(), 1);
+    assert!(rt; spawner.asked().len() == 1);
     for asked in spawner.asked() {
-        assert_eq!(rt; (asked.job.0, asked.attempt, asked.began), (1, 1, true));
+        assert!(rt; asked.job.0 == 1 && asked.attempt == 1 && asked.began);
         let words = asked.words.as_slice();
-        assert_eq!(rt; words.len(), WORDS.len());
+        assert!(rt; words.len() == WORDS.len());
         for (word, expected) in words.iter().zip(WORDS.iter()) {
             assert!(rt; word.as_str() == *expected);
         }
@@ -217,93 +216,129 @@ fn children_are_started_and_reaped(rt: HostRuntime) {
     run_play(&rt, rt.alloc(), &THE_LOOPS_END_ONCE_ALL_IS_SETTLED);
 }
 
-/// Ten jobs, with the polls that their children run for, and their ends. Child 1 ends at its first poll, and 2, 3 and 4 each a round
-/// later. Each other child is started once the fourth before it has ended, and so ends in a round of its own.
-const TEN: [Course; 10] = [
-    (0, Exit::Code(0), Fails::Never),
-    (1, Exit::Code(2), Fails::Never),
-    (2, Exit::Signal(15), Fails::Never),
-    (3, Exit::Code(0), Fails::Never),
-    (3, Exit::Code(99), Fails::Never),
-    (3, Exit::Code(0), Fails::Never),
-    (3, Exit::Code(0), Fails::Never),
-    (3, Exit::Code(0), Fails::Never),
-    (3, Exit::Code(0), Fails::Never),
-    (3, Exit::Code(1), Fails::Never),
-];
-
-/// Four children are started, and no fifth. In each round after that one ends, and the next is started in its place. Where memory is
-/// wanting steps are left out, and then no test passes.
-fn ten_steps(alloc: Global) -> Vec<Step> {
-    let mut steps = Vec::new(alloc);
-    let _ = steps.push(CREATE);
-    for job in 1..=10 {
-        let _ = steps.push(Step::Client(RUN, Said::Job(job)));
-    }
-    for job in 1..=4 {
-        let _ = steps.push(Step::Launches(job));
-    }
-    let _ = steps.push(Step::LaunchesNone);
-    for job in 5..=10 {
-        let _ = steps.push(Step::Client(Ask::State(job), Said::State(JobState::Queued)));
-        let _ = steps.push(Step::Reaps(1));
-        let _ = steps.push(Step::Launches(job));
-        let _ = steps.push(Step::LaunchesNone);
-    }
-    for reports in [1, 1, 1, 1, 0] {
-        let _ = steps.push(Step::Reaps(reports));
-    }
-    for job in [1, 4, 6, 7, 8, 9] {
-        let _ = steps.push(Step::Client(Ask::State(job), Said::State(JobState::Done)));
-    }
-    for job in [2, 3, 5, 10] {
-        let _ = steps.push(Step::Client(Ask::State(job), Said::State(JobState::Failed)));
-    }
-    steps
-}
-
-/// What the launcher tells of ten jobs.
-fn ten_starts(alloc: Global) -> Vec<Told> {
-    let mut starts = Vec::new(alloc);
-    for job in 1..=10 {
-        let _ = starts.push(Told::Launch(job, 1));
-        let _ = starts.push(Told::Started(job, 1));
-    }
-    starts
-}
-
-/// What the reaper tells of them.
-fn ten_ends(alloc: Global) -> Vec<Told> {
-    let mut ends = Vec::new(alloc);
-    for ((_, exit, _), job) in TEN.iter().zip(1..=10) {
-        let _ = ends.push(Told::Exited(job, 1, *exit));
-    }
-    ends
-}
+/// Ten jobs on four slots. Child 1 ends at its first poll, and 2, 3 and 4 each a round later. Each other child is started once the
+/// fourth before it has ended, and so ends in a round of its own: four children are started, and no fifth; in each round after that
+/// one ends, and the next is started in its place. Each is started and reaped once, in order.
+const TEN_JOBS_SHARE_FOUR_SLOTS: Play = Play {
+    about: "ten jobs share four slots",
+    journal: 4_000_000,
+    courses: &[
+        (0, Exit::Code(0), Fails::Never),
+        (1, Exit::Code(2), Fails::Never),
+        (2, Exit::Signal(15), Fails::Never),
+        (3, Exit::Code(0), Fails::Never),
+        (3, Exit::Code(99), Fails::Never),
+        (3, Exit::Code(0), Fails::Never),
+        (3, Exit::Code(0), Fails::Never),
+        (3, Exit::Code(0), Fails::Never),
+        (3, Exit::Code(0), Fails::Never),
+        (3, Exit::Code(1), Fails::Never),
+    ],
+    failing: &[],
+    steps: &[
+        CREATE,
+        Step::Client(RUN, Said::Job(1)),
+        Step::Client(RUN, Said::Job(2)),
+        Step::Client(RUN, Said::Job(3)),
+        Step::Client(RUN, Said::Job(4)),
+        Step::Client(RUN, Said::Job(5)),
+        Step::Client(RUN, Said::Job(6)),
+        Step::Client(RUN, Said::Job(7)),
+        Step::Client(RUN, Said::Job(8)),
+        Step::Client(RUN, Said::Job(9)),
+        Step::Client(RUN, Said::Job(10)),
+        Step::Launches(1),
+        Step::Launches(2),
+        Step::Launches(3),
+        Step::Launches(4),
+        Step::LaunchesNone,
+        Step::Client(Ask::State(5), Said::State(JobState::Queued)),
+        Step::Reaps(1),
+        Step::Launches(5),
+        Step::LaunchesNone,
+        Step::Client(Ask::State(6), Said::State(JobState::Queued)),
+        Step::Reaps(1),
+        Step::Launches(6),
+        Step::LaunchesNone,
+        Step::Client(Ask::State(7), Said::State(JobState::Queued)),
+        Step::Reaps(1),
+        Step::Launches(7),
+        Step::LaunchesNone,
+        Step::Client(Ask::State(8), Said::State(JobState::Queued)),
+        Step::Reaps(1),
+        Step::Launches(8),
+        Step::LaunchesNone,
+        Step::Client(Ask::State(9), Said::State(JobState::Queued)),
+        Step::Reaps(1),
+        Step::Launches(9),
+        Step::LaunchesNone,
+        Step::Client(Ask::State(10), Said::State(JobState::Queued)),
+        Step::Reaps(1),
+        Step::Launches(10),
+        Step::LaunchesNone,
+        Step::Reaps(1),
+        Step::Reaps(1),
+        Step::Reaps(1),
+        Step::Reaps(1),
+        Step::Reaps(0),
+        Step::Client(Ask::State(1), Said::State(JobState::Done)),
+        Step::Client(Ask::State(4), Said::State(JobState::Done)),
+        Step::Client(Ask::State(6), Said::State(JobState::Done)),
+        Step::Client(Ask::State(7), Said::State(JobState::Done)),
+        Step::Client(Ask::State(8), Said::State(JobState::Done)),
+        Step::Client(Ask::State(9), Said::State(JobState::Done)),
+        Step::Client(Ask::State(2), Said::State(JobState::Failed)),
+        Step::Client(Ask::State(3), Said::State(JobState::Failed)),
+        Step::Client(Ask::State(5), Said::State(JobState::Failed)),
+        Step::Client(Ask::State(10), Said::State(JobState::Failed)),
+    ],
+    launcher: &[
+        Told::Launch(1, 1),
+        Told::Started(1, 1),
+        Told::Launch(2, 1),
+        Told::Started(2, 1),
+        Told::Launch(3, 1),
+        Told::Started(3, 1),
+        Told::Launch(4, 1),
+        Told::Started(4, 1),
+        Told::Launch(5, 1),
+        Told::Started(5, 1),
+        Told::Launch(6, 1),
+        Told::Started(6, 1),
+        Told::Launch(7, 1),
+        Told::Started(7, 1),
+        Told::Launch(8, 1),
+        Told::Started(8, 1),
+        Told::Launch(9, 1),
+        Told::Started(9, 1),
+        Told::Launch(10, 1),
+        Told::Started(10, 1),
+    ],
+    reaper: &[
+        Told::Exited(1, 1, Exit::Code(0)),
+        Told::Exited(2, 1, Exit::Code(2)),
+        Told::Exited(3, 1, Exit::Signal(15)),
+        Told::Exited(4, 1, Exit::Code(0)),
+        Told::Exited(5, 1, Exit::Code(99)),
+        Told::Exited(6, 1, Exit::Code(0)),
+        Told::Exited(7, 1, Exit::Code(0)),
+        Told::Exited(8, 1, Exit::Code(0)),
+        Told::Exited(9, 1, Exit::Code(0)),
+        Told::Exited(10, 1, Exit::Code(1)),
+    ],
+};
 
 /// Each of the ten was started once, in order.
 fn compare_ten(rt: &impl Abort, spawner: &MemorySpawner) {
     assert!(rt; spawner.told());
-    assert_eq!(rt; spawner.asked().len(), 10);
+    assert!(rt; spawner.asked().len() == 10);
     for (asked, job) in spawner.asked().iter().zip(1..=10) {
-        assert_eq!(rt; (asked.job.0, asked.attempt, asked.began), (job, 1, true));
+        assert!(rt; asked.job.0 == job && asked.attempt == 1 && asked.began);
     }
 }
 
-/// Ten jobs on four slots: each is started and reaped once, in order.
 #[test]
 fn ten_jobs_share_four_slots(rt: HostRuntime) {
-    let alloc = rt.alloc();
-    let (steps, starts, ends) = (ten_steps(alloc), ten_starts(alloc), ten_ends(alloc));
-    assert_eq!(rt; (steps.len(), starts.len(), ends.len()), (55, 20, 10));
-    let play = Play {
-        about: "ten jobs share four slots",
-        journal: 4_000_000,
-        courses: &TEN,
-        failing: &[],
-        steps: steps.as_slice(),
-        launcher: starts.as_slice(),
-        reaper: ends.as_slice(),
-    };
-    compare_ten(&rt, &run_play(&rt, alloc, &play));
+    let spawner = run_play(&rt, rt.alloc(), &TEN_JOBS_SHARE_FOUR_SLOTS);
+    compare_ten(&rt, &spawner);
 }
