@@ -1,9 +1,9 @@
 //! What calls are answered, as the tables of steps compare it.
 use client_sessions::{Job, JobArray, JobSession, MonitoringSession, ReservationSession};
-use drmaa_types::{IdList, JobId, JobState, Refusal, TextList};
+use drmaa_types::{IdList, JobId, JobState, Limit, Refusal, TextList, Which};
 
 /// What a call is answered.
-#[derive(Clone, Copy, Debug, PartialEq, Eq)]
+#[derive(Clone, Copy, PartialEq, Eq)]
 pub enum Said {
     /// It is served, and tells nothing.
     Done,
@@ -24,14 +24,34 @@ pub enum Said {
     Nothing,
     /// The journal would have this size.
     Full(u64),
-    Refused(Refusal),
+    /// A number, a name or a list is not accepted; a session is not valid; a job is in this state; there is no more of something;
+    /// a time is over.
+    Wrong(Which),
+    NotValid,
+    NotIn(JobState),
+    Beyond(Limit),
+    Timeout,
+    /// It is refused for another reason.
+    Refused,
+}
+
+/// What a refusal says.
+pub fn refused(why: Refusal) -> Said {
+    match why {
+        Refusal::InvalidArgument(which) => Said::Wrong(which),
+        Refusal::InvalidSession => Said::NotValid,
+        Refusal::InvalidState(state) => Said::NotIn(state),
+        Refusal::OutOfResource(limit) => Said::Beyond(limit),
+        Refusal::Timeout => Said::Timeout,
+        _ => Said::Refused,
+    }
 }
 
 /// A call that tells nothing.
 pub fn done(told: Result<(), Refusal>) -> Said {
     match told {
         Ok(()) => Said::Done,
-        Err(why) => Said::Refused(why),
+        Err(why) => refused(why),
     }
 }
 
@@ -39,7 +59,7 @@ pub fn done(told: Result<(), Refusal>) -> Said {
 pub fn state(told: Result<JobState, Refusal>) -> Said {
     match told {
         Ok(state) => Said::State(state),
-        Err(why) => Said::Refused(why),
+        Err(why) => refused(why),
     }
 }
 
@@ -47,7 +67,7 @@ pub fn state(told: Result<JobState, Refusal>) -> Said {
 pub fn reached(told: Result<JobId, Refusal>) -> Said {
     match told {
         Ok(job) => Said::Job(job.0),
-        Err(why) => Said::Refused(why),
+        Err(why) => refused(why),
     }
 }
 
@@ -56,7 +76,7 @@ pub fn job(told: Result<Job, Refusal>) -> Said {
     match told {
         Ok(job) if job.session.0 == 1 => Said::Job(job.job.0),
         Ok(_) => Said::Else,
-        Err(why) => Said::Refused(why),
+        Err(why) => refused(why),
     }
 }
 
@@ -67,28 +87,28 @@ pub fn array(told: Result<JobArray, Refusal>) -> Said {
             Said::Array(made.count)
         }
         Ok(_) => Said::Else,
-        Err(why) => Said::Refused(why),
+        Err(why) => refused(why),
     }
 }
 
 pub fn for_jobs(told: Result<JobSession, Refusal>) -> Said {
     match told {
         Ok(made) => Said::Session(made.session.0),
-        Err(why) => Said::Refused(why),
+        Err(why) => refused(why),
     }
 }
 
 pub fn for_reservations(told: Result<ReservationSession, Refusal>) -> Said {
     match told {
         Ok(made) => Said::Session(made.session.0),
-        Err(why) => Said::Refused(why),
+        Err(why) => refused(why),
     }
 }
 
 pub fn for_monitoring(told: Result<MonitoringSession, Refusal>) -> Said {
     match told {
         Ok(made) => Said::Session(made.session.0),
-        Err(why) => Said::Refused(why),
+        Err(why) => refused(why),
     }
 }
 
@@ -101,7 +121,7 @@ pub fn as_asked(holds: bool) -> Said {
 pub fn numbered(told: Result<IdList, Refusal>, wanted: &[u64]) -> Said {
     match told {
         Ok(list) => as_asked(list.as_slice() == wanted),
-        Err(why) => Said::Refused(why),
+        Err(why) => refused(why),
     }
 }
 
@@ -117,6 +137,6 @@ fn has_alone(list: &TextList, wanted: &str) -> bool {
 pub fn named(told: Result<TextList, Refusal>, wanted: &str) -> Said {
     match told {
         Ok(list) => as_asked(has_alone(&list, wanted)),
-        Err(why) => Said::Refused(why),
+        Err(why) => refused(why),
     }
 }

@@ -4,7 +4,7 @@ ghost use Rattle.turn_lock.specs.Tokens.{BelongsTo, IsFree};
 ghost use Rattle.call_history.specs.Clients.{retired_of};
 
 use crate::jobs::{SESSION, open, run};
-use crate::machines::{MOST, at, closed, desk, machine, numbers, stopped};
+use crate::machines::{at, closed, desk, machine, numbers, stopped};
 use call_history::{Bell, Call, Desk, Entry, Machine, MachineOpener, Reply, SharedMachine};
 use drmaa_types::{Clock, JobId, ListClock, MomentList, Refusal, StepClock, Timeout, WaitKind};
 use std::alloc::Global;
@@ -82,14 +82,14 @@ fn waited<R: Abort + Wait + Pause, C: Clock + Drop>(
     clock: C,
     seconds: u64,
 ) -> ((bool, Told), Option<(u64, u64)>) {
-    let (shared, mut opener) = machine(rt, alloc, MOST);
+    let (shared, mut opener) = machine(rt, alloc, 4_000_000);
     let told = told_by(rt, alloc, &shared, &mut opener, clock, seconds);
     let machine = closed(rt, shared, opener);
     (told, last_wait(&machine))
 }
 
 /// The first reading of a clock, its step, for how many seconds a wait is, and when it is over.
-const STEPS: [(u64, u64, u64, u64); 3] = [
+const STEPS: &[(u64, u64, u64, u64)] = &[
     (10, 1, 2, 12),
     (0, 10, 10, 10),
     (99_999_999_999, 1, 50, 100_000_000_000),
@@ -98,10 +98,10 @@ const STEPS: [(u64, u64, u64, u64); 3] = [
 #[test]
 fn a_wait_is_over_when_its_time_is(rt: HostRuntime) {
     for (first, step, seconds, last) in STEPS {
-        let clock = StepClock::new(at(first), step);
-        assert_eq!(rt;
-            waited(&rt, rt.alloc(), clock, seconds),
-            ((true, Err(Refusal::Timeout)), Some((first, last)))
+        let clock = StepClock::new(at(*first), *step);
+        assert!(rt;
+            waited(&rt, rt.alloc(), clock, *seconds)
+                == ((true, Err(Refusal::Timeout)), Some((*first, *last)))
         );
     }
 }
@@ -119,8 +119,5 @@ fn list_clock(rt: &impl Abort, alloc: Global, readings: [u64; 3]) -> ListClock {
 #[test]
 fn a_wait_is_over_at_its_second_look(rt: HostRuntime) {
     let clock = list_clock(&rt, rt.alloc(), [3, 4, 9]);
-    assert_eq!(rt;
-        waited(&rt, rt.alloc(), clock, 5),
-        ((true, Err(Refusal::Timeout)), Some((3, 9)))
-    );
+    assert!(rt; waited(&rt, rt.alloc(), clock, 5) == ((true, Err(Refusal::Timeout)), Some((3, 9))));
 }

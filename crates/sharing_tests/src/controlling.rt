@@ -1,7 +1,7 @@
 //! Calls of a job and of an array.
 ghost use Rattle.turn_lock.specs.Tokens.{IsFree};
 
-use crate::answers::{Said, as_asked, done, state};
+use crate::answers::{Said, as_asked, done, refused, state};
 use crate::infos::{Known, is_info};
 use call_history::Desk;
 use client_sessions::{Job, JobArray};
@@ -37,6 +37,26 @@ const fn array_of(count: u32) -> JobArray {
     }
 }
 
+/// Controls a job.
+fn job_told<R: Wait, C: Clock>(
+    rt: &R,
+    desk: &mut Desk<C>,
+    job: Job,
+    asked: Controls,
+) -> Result<(), Refusal>
+    requires { IsFree desk.old.shared.now desk.old.client }
+    ensures { IsFree desk.new.shared.now desk.new.client }
+{
+    match asked {
+        Controls::Hold => job.hold(rt, desk),
+        Controls::Release => job.release(rt, desk),
+        Controls::Suspend => job.suspend(rt, desk),
+        Controls::Resume => job.resume(rt, desk),
+        Controls::Terminate => job.terminate(rt, desk),
+        Controls::Reap => job.reap(rt, desk),
+    }
+}
+
 pub fn control_job<R: Wait, C: Clock>(
     rt: &R,
     desk: &mut Desk<C>,
@@ -46,15 +66,27 @@ pub fn control_job<R: Wait, C: Clock>(
     requires { IsFree desk.old.shared.now desk.old.client }
     ensures { IsFree desk.new.shared.now desk.new.client }
 {
-    let job = job_of(number);
-    done(match asked {
-        Controls::Hold => job.hold(rt, desk),
-        Controls::Release => job.release(rt, desk),
-        Controls::Suspend => job.suspend(rt, desk),
-        Controls::Resume => job.resume(rt, desk),
-        Controls::Terminate => job.terminate(rt, desk),
-        Controls::Reap => job.reap(rt, desk),
-    })
+    done(job_told(rt, desk, job_of(number), asked))
+}
+
+/// Controls an array.
+fn array_told<R: Wait, C: Clock>(
+    rt: &R,
+    desk: &mut Desk<C>,
+    array: JobArray,
+    asked: Controls,
+) -> Result<(), Refusal>
+    requires { IsFree desk.old.shared.now desk.old.client }
+    ensures { IsFree desk.new.shared.now desk.new.client }
+{
+    match asked {
+        Controls::Hold => array.hold(rt, desk),
+        Controls::Release => array.release(rt, desk),
+        Controls::Suspend => array.suspend(rt, desk),
+        Controls::Resume => array.resume(rt, desk),
+        Controls::Terminate => array.terminate(rt, desk),
+        Controls::Reap => array.reap(rt, desk),
+    }
 }
 
 pub fn control_array<R: Wait, C: Clock>(
@@ -66,15 +98,7 @@ pub fn control_array<R: Wait, C: Clock>(
     requires { IsFree desk.old.shared.now desk.old.client }
     ensures { IsFree desk.new.shared.now desk.new.client }
 {
-    let array = array_of(count);
-    done(match asked {
-        Controls::Hold => array.hold(rt, desk),
-        Controls::Release => array.release(rt, desk),
-        Controls::Suspend => array.suspend(rt, desk),
-        Controls::Resume => array.resume(rt, desk),
-        Controls::Terminate => array.terminate(rt, desk),
-        Controls::Reap => array.reap(rt, desk),
-    })
+    done(array_told(rt, desk, array_of(count), asked))
 }
 
 /// What a job is asked for.
@@ -90,7 +114,7 @@ pub enum Reads {
 pub fn known(told: Result<JobInfo, Refusal>, wanted: &Known) -> Said {
     match told {
         Ok(info) => as_asked(is_info(&info, wanted)),
-        Err(why) => Said::Refused(why),
+        Err(why) => refused(why),
     }
 }
 

@@ -4,7 +4,7 @@ ghost use Rattle.turn_lock.specs.Tokens.{BelongsTo, IsFree};
 ghost use Rattle.call_history.specs.Clients.{retired_of};
 
 use crate::calls::{create, open, told};
-use crate::machines::{MOST, at, closed, machine};
+use crate::machines::{at, closed, machine};
 use call_history::{Call, Client, Entry, Machine, MachineOpener, Reply, SharedMachine};
 use drmaa_types::{CallerId, StepClock};
 use std::alloc::Global;
@@ -13,10 +13,10 @@ use std::sync::Wait;
 use std::thread::{Threads, join};
 
 /// The number of an entry, and what its reply tells.
-type Numbered = Option<(u64, u64)>;
+type Told = Option<(u64, u64)>;
 
 /// Makes a call at moment 0.
-fn numbered<R: Wait>(rt: &R, shared: &SharedMachine, client: &mut Client, call: Call) -> Numbered
+fn numbered<R: Wait>(rt: &R, shared: &SharedMachine, client: &mut Client, call: Call) -> Told
     requires { IsFree shared.now client.old }
     ensures { IsFree shared.now client.new }
 {
@@ -34,7 +34,7 @@ fn hand_over<R: Wait>(
     shared: &SharedMachine,
     first: &mut Client,
     second: &mut Client,
-) -> (Numbered, Numbered, Numbered)
+) -> (Told, Told, Told)
     requires first { IsFree shared.now first.old }
     requires second { IsFree shared.now second.old }
     ensures first { IsFree shared.now first.new }
@@ -68,8 +68,8 @@ fn is_whole(machine: &Machine) -> bool {
 }
 
 /// What is told while two clients hand over, and whether the history has it.
-fn handed_over<R: Abort + Wait>(rt: &R, alloc: Global) -> ((Numbered, Numbered, Numbered), bool) {
-    let (shared, mut opener) = machine(rt, alloc, MOST);
+fn handed_over<R: Abort + Wait>(rt: &R, alloc: Global) -> ((Told, Told, Told), bool) {
+    let (shared, mut opener) = machine(rt, alloc, 4_000_000);
     let mut first = shared.open_client(&mut opener);
     let mut second = shared.open_client(&mut opener);
     let told = hand_over(rt, alloc, &shared, &mut first, &mut second);
@@ -82,7 +82,7 @@ fn handed_over<R: Abort + Wait>(rt: &R, alloc: Global) -> ((Numbered, Numbered, 
 #[test]
 fn what_is_handed_over_is_seen(rt: HostRuntime) {
     let (told, whole) = handed_over(&rt, rt.alloc());
-    assert_eq!(rt; told, (Some((1, 1)), Some((2, 2)), Some((3, 1))));
+    assert!(rt; told == (Some((1, 1)), Some((2, 2)), Some((3, 1))));
     assert!(rt; whole);
 }
 
@@ -153,7 +153,7 @@ fn seconds_of(machine: &Machine, caller: u32) -> Option<u64> {
 
 /// The machine, after both have asked.
 fn asked_machine<R: Abort + Threads + Wait + Sync>(rt: &R, alloc: Global) -> Machine {
-    let (shared, mut opener) = machine(rt, alloc, MOST);
+    let (shared, mut opener) = machine(rt, alloc, 4_000_000);
     asked(rt, &shared, &mut opener);
     closed(rt, shared, opener)
 }
@@ -161,9 +161,6 @@ fn asked_machine<R: Abort + Threads + Wait + Sync>(rt: &R, alloc: Global) -> Mac
 #[test]
 fn the_history_has_the_calls_of_both_threads(rt: HostRuntime) {
     let machine = asked_machine(&rt, rt.alloc());
-    assert_eq!(rt; machine.entries().len() as u64, 2 * CALLS);
-    assert_eq!(rt;
-        (seconds_of(&machine, 0), seconds_of(&machine, 1)),
-        (Some(CALLS), Some(CALLS))
-    );
+    assert!(rt; machine.entries().len() as u64 == 2 * CALLS);
+    assert!(rt; (seconds_of(&machine, 0), seconds_of(&machine, 1)) == (Some(CALLS), Some(CALLS)));
 }

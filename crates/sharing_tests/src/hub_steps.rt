@@ -4,7 +4,7 @@ ghost use Rattle.turn_lock.specs.Tokens.{IsFree};
 ghost use Rattle.notify_hub.specs.Hubs.{IsNoteOf};
 
 use crate::hub_calls::{Ask, is_served};
-use crate::machines::{MOST, machine, stopped};
+use crate::machines::{machine, stopped};
 use call_history::{Client, SharedMachine};
 use drmaa_types::{Limit, Refusal};
 use notify_hub::{Callbacks, Hub, MemoryCallback};
@@ -102,7 +102,7 @@ pub fn played<R: Abort + Wait>(
     steps: &[Step],
 ) -> Result<Callbacks<MemoryCallback>, Fail> {
     let mut hub = hub(rt, alloc, count)?;
-    let (shared, mut opener) = machine(rt, alloc, MOST);
+    let (shared, mut opener) = machine(rt, alloc, 4_000_000);
     let mut client = shared.open_client(&mut opener);
     let mut other = shared.open_client(&mut opener);
     if take_steps(rt, alloc, &shared, &mut client, &mut other, &mut hub, steps) {

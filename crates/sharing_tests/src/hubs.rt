@@ -42,7 +42,7 @@ fn have_heard(callbacks: &Callbacks<MemoryCallback>, first: &[Heard], second: &[
 
 /// A job is run, held and released before the second callback is registered; then it is launched and fails to start, and a second
 /// job is terminated while it is queued.
-const TWICE: [Step; 13] = [
+const TWICE: &[Step] = &[
     Step::Registers(1),
     Step::Client(Ask::Create),
     Step::Client(Ask::Run),
@@ -59,7 +59,7 @@ const TWICE: [Step; 13] = [
 ];
 
 /// What is heard of all changes.
-const WHOLE: [Heard; 5] = [
+const WHOLE: &[Heard] = &[
     (1, JobState::QueuedHeld),
     (1, JobState::Queued),
     (1, JobState::Running),
@@ -68,14 +68,14 @@ const WHOLE: [Heard; 5] = [
 ];
 
 /// What is heard from the second place on.
-const LATER: [Heard; 3] = [
+const LATER: &[Heard] = &[
     (1, JobState::Running),
     (1, JobState::Failed),
     (2, JobState::Failed),
 ];
 
 /// Another client's Register takes a number, and its callback hears nothing from this hub. The changes are made by that client.
-const NUMBERS: [Step; 6] = [
+const NUMBERS: &[Step] = &[
     Step::Other(Ask::Register),
     Step::Registers(2),
     Step::Other(Ask::Create),
@@ -86,9 +86,9 @@ const NUMBERS: [Step; 6] = [
 
 #[test]
 fn callbacks_hear_from_their_places_on(rt: HostRuntime) -> Result<(), Fail> {
-    let both = played(&rt, rt.alloc(), 2, &TWICE)?;
-    assert!(rt; have_heard(&both, &WHOLE, &LATER));
-    let both = played(&rt, rt.alloc(), 2, &NUMBERS)?;
+    let both = played(&rt, rt.alloc(), 2, TWICE)?;
+    assert!(rt; have_heard(&both, WHOLE, LATER));
+    let both = played(&rt, rt.alloc(), 2, NUMBERS)?;
     assert!(rt; have_heard(&both, &[], &[(1, JobState::Running)]));
     Ok(())
 }
@@ -118,10 +118,8 @@ fn many_changes(alloc: Global) -> Vec<Step> {
 fn a_pump_hands_over_all_that_is_left(rt: HostRuntime) -> Result<(), Fail> {
     let steps = many_changes(rt.alloc());
     let only = played(&rt, rt.alloc(), 1, steps.as_slice())?;
-    assert_eq!(rt;
-        only.as_slice().first().map(|callback| callback.calls()),
-        Some(128)
-    );
+    let calls = only.as_slice().first().map(|callback| callback.calls());
+    assert!(rt; calls == Some(128));
     Ok(())
 }
 
@@ -140,7 +138,7 @@ fn registrations(alloc: Global) -> Vec<Step> {
 #[test]
 fn the_65th_is_refused(rt: HostRuntime) -> Result<(), Fail> {
     let steps = registrations(rt.alloc());
-    assert_eq!(rt; steps.len(), 130);
+    assert!(rt; steps.len() == 130);
     played(&rt, rt.alloc(), 0, steps.as_slice())?;
     Ok(())
 }

@@ -10,9 +10,6 @@ use job_template::JobTemplate;
 use std::alloc::Global;
 use std::process::Abort;
 
-/// The size that the journal of a machine has at most.
-pub const MOST: u64 = 4_000_000;
-
 /// The moment of so many seconds.
 pub fn at(seconds: u64) -> Moment {
     Moment::new(seconds).unwrap_or(Moment::greatest())

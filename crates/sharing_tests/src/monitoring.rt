@@ -1,7 +1,7 @@
 //! Calls of a monitoring session, and the listing of jobs.
 ghost use Rattle.turn_lock.specs.Tokens.{IsFree};
 
-use crate::answers::{Said, as_asked, done, named, state};
+use crate::answers::{Said, as_asked, done, named, refused, state};
 use crate::controlling::known;
 use crate::infos::{Known, is_info};
 use crate::reserving::listed;
@@ -41,7 +41,7 @@ fn is_alone(list: &InfoList, wanted: &Known) -> bool {
 fn alone(told: Result<InfoList, Refusal>, wanted: &Known) -> Said {
     match told {
         Ok(list) => as_asked(is_alone(&list, wanted)),
-        Err(why) => Said::Refused(why),
+        Err(why) => refused(why),
     }
 }
 
@@ -55,7 +55,7 @@ fn is_listed(alloc: Global, list: &InfoList, wanted: &str) -> bool {
 fn printed(alloc: Global, told: Result<InfoList, Refusal>, wanted: &str) -> Said {
     match told {
         Ok(list) => as_asked(is_listed(alloc, &list, wanted)),
-        Err(why) => Said::Refused(why),
+        Err(why) => refused(why),
     }
 }
 
@@ -101,7 +101,7 @@ fn is_machine(info: &MachineInfo, used: u32) -> bool {
 fn machine(told: Result<MachineInfo, Refusal>, used: u32) -> Said {
     match told {
         Ok(info) => as_asked(is_machine(&info, used)),
-        Err(why) => Said::Refused(why),
+        Err(why) => refused(why),
     }
 }
 

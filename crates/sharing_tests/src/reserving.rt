@@ -1,7 +1,7 @@
 //! Calls of a session for reservations, and of a reservation.
 ghost use Rattle.turn_lock.specs.Tokens.{IsFree};
 
-use crate::answers::{Said, as_asked, done, numbered};
+use crate::answers::{Said, as_asked, done, numbered, refused};
 use crate::machines::at;
 use call_history::Desk;
 use client_sessions::{Reservation, ReservationSession};
@@ -56,14 +56,14 @@ fn is_reservation(info: &ReservationInfo) -> bool {
 fn given(told: Result<Reserved, Refusal>) -> Said {
     match told {
         Ok(given) => as_asked(given == reserved()),
-        Err(why) => Said::Refused(why),
+        Err(why) => refused(why),
     }
 }
 
 fn told_alone(told: Result<ReservationInfo, Refusal>) -> Said {
     match told {
         Ok(info) => as_asked(is_reservation(&info)),
-        Err(why) => Said::Refused(why),
+        Err(why) => refused(why),
     }
 }
 
@@ -79,7 +79,7 @@ fn has_alone(list: &ReservationList) -> bool {
 pub fn listed(told: Result<ReservationList, Refusal>) -> Said {
     match told {
         Ok(list) => as_asked(has_alone(&list)),
-        Err(why) => Said::Refused(why),
+        Err(why) => refused(why),
     }
 }
 

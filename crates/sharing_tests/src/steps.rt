@@ -1,5 +1,4 @@
 //! Steps of one client at a machine of its own, and what it is answered.
-ghost use Rattle.std.specs.Prelude.{◌≤◌};
 ghost use Rattle.turn_lock.specs.Tokens.{IsFree};
 
 use crate::answers::Said;
@@ -60,29 +59,43 @@ fn answer<R: Wait + Pause>(rt: &R, alloc: Global, desk: &mut Desk<StepClock>, as
 /// A step: what is asked, and what is to be answered.
 pub type Step = (Ask, Said);
 
-/// Takes steps in order, and compares each answer.
-fn take_steps<R: Abort + Wait + Pause>(
+/// A machine whose journal has this size at most, and the steps of its client.
+#[derive(Clone, Copy)]
+pub struct Story<'a> {
+    pub journal: u64,
+    pub steps: &'a [Step],
+}
+
+/// Takes steps in order, up to the first that is answered otherwise. How many were taken before that.
+fn take_steps<R: Wait + Pause>(
     rt: &R,
     alloc: Global,
     desk: &mut Desk<StepClock>,
     steps: &[Step],
-)
+) -> usize
     requires { IsFree desk.old.shared.now desk.old.client }
 {
-    let mut number: u32 = 0;
+    let mut taken: usize = 0;
     for step in steps {
         let (asked, wanted) = step;
-        number = number.saturating_add(1);
-        assert_eq!(rt; answer(rt, alloc, desk, *asked), *wanted, "step {number}");
+        if answer(rt, alloc, desk, *asked) != *wanted {
+            return taken;
+        }
+        taken = taken.saturating_add(1);
     }
+    taken
 }
 
-/// Takes steps at a machine of its own, whose journal has this size at most, by a client whose clock stands at 0.
-pub fn play<R: Abort + Wait + Pause>(rt: &R, alloc: Global, journal: u64, steps: &[Step])
-    requires { 1 ≤ journal × journal ≤ 4000000 }
-{
-    let (shared, mut opener) = machine(rt, alloc, journal);
+/// Takes the steps at a machine of its own, by a client whose clock stands at 0.
+fn told<R: Abort + Wait + Pause>(rt: &R, alloc: Global, story: &Story) -> usize {
+    let (shared, mut opener) = machine(rt, alloc, story.journal.clamp(1, 4_000_000));
     let bell = Bell::silent();
     let mut desk = desk(&shared, &mut opener, &bell, stopped(0));
-    take_steps(rt, alloc, &mut desk, steps);
+    take_steps(rt, alloc, &mut desk, story.steps)
+}
+
+/// Asserts that each step is answered as it says.
+pub fn play<R: Abort + Wait + Pause>(rt: &R, alloc: Global, story: &Story) {
+    let taken = told(rt, alloc, story);
+    assert!(rt; taken == story.steps.len(), "after {taken} steps");
 }

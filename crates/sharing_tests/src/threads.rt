@@ -4,7 +4,7 @@ ghost use Rattle.turn_lock.specs.Tokens.{IsFree};
 
 use crate::controlling::job_of;
 use crate::jobs::{SESSION, end, launch, open, run};
-use crate::machines::{MOST, at, desk, machine, numbers, stopped};
+use crate::machines::{at, desk, machine, numbers, stopped};
 use attendant::{Reaper, finish};
 use call_history::{Bell, Desk};
 use child_spawner::{Fate, FateList, MemoryChild, MemorySpawner};
@@ -61,7 +61,7 @@ fn reported<R: Abort + Threads + Wait + Pause + Sync>(
     rt: &R,
     alloc: Global,
 ) -> (bool, bool, (Result<Job, Refusal>, bool)) {
-    let (shared, mut opener) = machine(rt, alloc, MOST);
+    let (shared, mut opener) = machine(rt, alloc, 4_000_000);
     let bell = Bell::new();
     let mut waiting = desk(&shared, &mut opener, &bell, stopped(0));
     let reporting = desk(&shared, &mut opener, &bell, stopped(0));
@@ -72,10 +72,7 @@ fn reported<R: Abort + Threads + Wait + Pause + Sync>(
 
 #[test]
 fn a_report_of_another_thread_answers_a_wait(rt: HostRuntime) {
-    assert_eq!(rt;
-        reported(&rt, rt.alloc()),
-        (true, true, (Ok(job_of(1)), true))
-    );
+    assert!(rt; reported(&rt, rt.alloc()) == (true, true, (Ok(job_of(1)), true)));
 }
 
 type Told = Result<JobState, Refusal>;
@@ -175,7 +172,7 @@ fn attended<R: Abort + Threads + Wait + Pause + Sync>(
     rt: &R,
     alloc: Global,
 ) -> ([bool; 3], (Result<(), Refusal>, (Told, Told))) {
-    let (shared, mut opener) = machine(rt, alloc, MOST);
+    let (shared, mut opener) = machine(rt, alloc, 4_000_000);
     let bell = Bell::new();
     let mut client = desk(&shared, &mut opener, &bell, stopped(0));
     let launcher = desk(&shared, &mut opener, &bell, stopped(0));
@@ -186,18 +183,18 @@ fn attended<R: Abort + Threads + Wait + Pause + Sync>(
 
 #[test]
 fn launcher_and_reaper_end_the_waits_of_a_client(rt: HostRuntime) {
-    assert_eq!(rt;
-        attended(&rt, rt.alloc()),
-        (
-            [true; 3],
-            (Ok(()), (Ok(JobState::Done), Ok(JobState::Failed)))
-        )
+    assert!(rt;
+        attended(&rt, rt.alloc())
+            == (
+                [true; 3],
+                (Ok(()), (Ok(JobState::Done), Ok(JobState::Failed)))
+            )
     );
 }
 
 /// Whether a job was run, and what a wait of three seconds for its end is told, by a clock that is a second later each time.
 fn unstruck<R: Abort + Wait + Pause>(rt: &R, alloc: Global) -> (bool, bool, Result<Job, Refusal>) {
-    let (shared, mut opener) = machine(rt, alloc, MOST);
+    let (shared, mut opener) = machine(rt, alloc, 4_000_000);
     let bell = Bell::new();
     let mut client = desk(&shared, &mut opener, &bell, StepClock::new(at(0), 1));
     let opened = open(rt, alloc, &mut client);
@@ -209,8 +206,5 @@ fn unstruck<R: Abort + Wait + Pause>(rt: &R, alloc: Global) -> (bool, bool, Resu
 
 #[test]
 fn a_wait_at_a_bell_that_nobody_strikes_ends_by_its_clock(rt: HostRuntime) {
-    assert_eq!(rt;
-        unstruck(&rt, rt.alloc()),
-        (true, true, Err(Refusal::Timeout))
-    );
+    assert!(rt; unstruck(&rt, rt.alloc()) == (true, true, Err(Refusal::Timeout)));
 }

@@ -3,7 +3,7 @@ ghost use Rattle.turn_lock.specs.Tokens.{IsFree};
 
 use crate::calls::{create, run, told};
 use crate::controlling::job_of;
-use crate::machines::{MOST, machine, stopped};
+use crate::machines::{machine, stopped};
 use call_history::{Answer, Bell, Busy, Call, Client, Desk, Question, SharedMachine, TryFault};
 use drmaa_types::{Clock, JobState, Moment, Refusal, StepClock};
 use std::alloc::Global;
@@ -98,8 +98,8 @@ fn beside<R: Wait>(
 }
 
 /// What is told while a session is made, while a job is run in it, and after that.
-fn tried<R: Abort + Wait>(rt: &R, alloc: Global) -> (Option<Tried>, Option<Tried>, Tried) {
-    let (shared, mut opener) = machine(rt, alloc, MOST);
+fn pried<R: Abort + Wait>(rt: &R, alloc: Global) -> (Option<Tried>, Option<Tried>, Tried) {
+    let (shared, mut opener) = machine(rt, alloc, 4_000_000);
     let mut client = shared.open_client(&mut opener);
     let bell = Bell::silent();
     let other = Desk {
@@ -117,8 +117,8 @@ fn tried<R: Abort + Wait>(rt: &R, alloc: Global) -> (Option<Tried>, Option<Tried
 
 #[test]
 fn tries_wait_for_nobody(rt: HostRuntime) {
-    let (first, second, after) = tried(&rt, rt.alloc());
-    assert_eq!(rt; first, Some(busy(0, 1)));
-    assert_eq!(rt; second, Some(busy(1, 2)));
-    assert_eq!(rt; after, (Ok(1), Ok(0), Ok(JobState::Queued)));
+    let (first, second, after) = pried(&rt, rt.alloc());
+    assert!(rt; first == Some(busy(0, 1)));
+    assert!(rt; second == Some(busy(1, 2)));
+    assert!(rt; after == (Ok(1), Ok(0), Ok(JobState::Queued)));
 }

@@ -233,7 +233,7 @@ fn a_note_is_learnt(rt: HostRuntime) -> Result<(), Fail> {
     let note = lock.note(&mut first);
     lock.learn(&mut second, note);
     assert!(rt; act(&rt, &lock, &mut second, 7));
-    assert_eq!(rt; opener.left(), 2);
+    assert!(rt; opener.left() == 2);
     opener.retire(&lock, first);
     opener.retire(&lock, second);
     assert!(rt; opener.left() == 0);
@@ -242,7 +242,7 @@ fn a_note_is_learnt(rt: HostRuntime) -> Result<(), Fail> {
         let entry = log.entries.get(place).expect(&rt, "an entry");
         assert!(rt; entry.caller.0 == number && entry.ask == ask && entry.answer == ask);
     }
-    assert_eq!(rt; log.entries.len(), 2);
+    assert!(rt; log.entries.len() == 2);
     Ok(())
 }
 
@@ -254,15 +254,14 @@ fn a_held_turn_is_busy(rt: HostRuntime) -> Result<(), Fail> {
     let mut first = opener.open_pass(&lock);
     let mut second = opener.open_pass(&lock);
     let turn = lock.enter(&rt, &mut first);
-    assert_eq!(rt; turn.value().entries.len(), 0);
+    assert!(rt; turn.value().entries.len() == 0);
     match lock.try_enter(&mut second) {
         Ok(turn) => {
             turn.leave(&lock, &mut second);
             panic!(rt; "the turn is held")
         }
-        Err(busy) => assert_eq!(rt;
-            busy,
-            Busy {
+        Err(busy) => assert!(rt;
+            busy == Busy {
                 served: 0,
                 drawn: 1
             }
@@ -276,7 +275,7 @@ fn a_held_turn_is_busy(rt: HostRuntime) -> Result<(), Fail> {
     opener.retire(&lock, first);
     opener.retire(&lock, second);
     assert!(rt; opener.left() == 0);
-    assert_eq!(rt; told(&lock.close(opener), 1), 1);
+    assert!(rt; told(&lock.close(opener), 1) == 1);
     Ok(())
 }
 
@@ -291,10 +290,7 @@ fn two_threads_act_a_thousand_times(rt: HostRuntime) -> Result<(), Fail> {
     opener.retire(&lock, second);
     assert!(rt; opener.left() == 0);
     let log = lock.close(opener);
-    assert_eq!(rt;
-        (log.entries.len(), told(&log, 0), told(&log, 1)),
-        (2_000, 1_000, 1_000)
-    );
+    assert!(rt; (log.entries.len(), told(&log, 0), told(&log, 1)) == (2_000, 1_000, 1_000));
     Ok(())
 }
 
@@ -312,9 +308,9 @@ fn eight_threads_note_learn_try_and_enter(rt: HostRuntime) -> Result<(), Fail> {
     retire_four(&lock, &mut opener, second);
     assert!(rt; opener.left() == 0);
     let log = lock.close(opener);
-    assert_eq!(rt; log.entries.len(), 800);
+    assert!(rt; log.entries.len() == 800);
     for number in 0..8 {
-        assert_eq!(rt; told(&log, number), 100);
+        assert!(rt; told(&log, number) == 100);
     }
     Ok(())
 }
