@@ -1,4 +1,4 @@
-//! A start that is held until a client reads its clock.
+//! A start that is held until a client has read its clock, and a callback has heard that the job is running.
 ghost use Rattle.std.specs.Prelude.{None};
 ghost use Rattle.drmaa_types.specs.Readings.{step_reading};
 ghost use Rattle.child_spawner.specs.Spawners.{plain_fate};
@@ -10,22 +10,22 @@ use call_history::Bell;
 use child_spawner::{Child, Spawner};
 use drmaa_script::{Outcome, run};
 use drmaa_types::{
-    CallerId, Clock, Clocks, Exit, Failed, JobId, Moment, SignalKind, StepClock, TextList,
+    CallerId, Clock, Clocks, Exit, Failed, JobId, JobState, Moment, Notification, SignalKind,
+    StepClock, TextList,
 };
-use notify_hub::{Callbacks, MemoryCallback};
+use notify_hub::{Callback, Callbacks};
 use std::alloc::Global;
 use std::sync::Wait;
-use std::test::Fail;
 use std::thread::Threads;
 use std::time::Clock as Pause;
 
-/// A client waits for a job of setup, for 5,000,000 seconds at most.
-const WAIT: &str =
-    "machine 4 \"node1\" suspend\ntemplate t\ncommand \"true\"\nend\nsetup\ncreate-jobs s \"s\"\nrun j s t\nend\nclient\nwait-terminated s 5000000 j\nend\n";
+/// Setup registers a callback and runs a job. A client waits for its end, for 5,000,000 seconds at most.
+const SCRIPT: &str =
+    "machine 4 \"node1\" suspend\ntemplate t\ncommand \"true\"\nend\nsetup\ncreate-jobs s \"s\"\nregister\nrun j s t\nend\nclient\nwait-terminated s 5000000 j\nend\n";
 
 /// A child that has ended with code 0.
 #[derive(Drop)]
-pub struct EndedChild;
+struct EndedChild;
 
 impl Child for EndedChild {
     ghost faults = { λ _. 0 };
@@ -41,17 +41,17 @@ impl Child for EndedChild {
     }
 }
 
-/// A spawner whose starts are held until its flags let them go on.
+/// A spawner whose starts are held until its flags are raised.
 #[derive(Drop)]
-pub struct HeldSpawner<'a> {
+struct HeldSpawner<'a> {
     flags: &'a Flags,
-    pub starts: u32,
-    pub freed: bool,
+    starts: u32,
+    freed: bool,
 }
 
 impl<'a> HeldSpawner<'a> {
     /// Nothing was started.
-    pub fn new(flags: &'a Flags) -> HeldSpawner<'a> {
+    fn new(flags: &'a Flags) -> HeldSpawner<'a> {
         HeldSpawner {
             flags,
             starts: 0,
@@ -81,14 +81,14 @@ impl Spawner for HeldSpawner<'_> {
     }
 }
 
-/// A clock that gives 0, 1 and so on. A client's one frees who is held at each reading.
+/// A clock that gives 0, 1 and so on. A client's one raises a flag at each reading.
 #[derive(Drop)]
-struct FreeingClock<'a> {
+struct RaisingClock<'a> {
     clock: StepClock,
     flags: Option<&'a Flags>,
 }
 
-impl Clock for FreeingClock<'_> {
+impl Clock for RaisingClock<'_> {
     ghost given = { λ _. None };
 
     ghost least = { λ c. step_reading c.clock.first c.clock.step c.clock.count };
@@ -96,7 +96,7 @@ impl Clock for FreeingClock<'_> {
     fn now(&mut self) -> Moment {
         let reading = self.clock.now();
         if let Some(flags) = self.flags {
-            flags.free();
+            flags.read();
         }
         reading
     }
@@ -104,52 +104,76 @@ impl Clock for FreeingClock<'_> {
 
 /// A clock for each caller, of which that of caller 1 is a client's.
 #[derive(Drop)]
-struct FreeingClocks<'a> {
+struct RaisingClocks<'a> {
     flags: &'a Flags,
 }
 
-impl<'a> Clocks for FreeingClocks<'a> {
-    type One = FreeingClock<'a>;
+impl<'a> Clocks for RaisingClocks<'a> {
+    type One = RaisingClock<'a>;
 
-    fn clock(&self, caller: CallerId) -> FreeingClock<'a> {
+    fn clock(&self, caller: CallerId) -> RaisingClock<'a> {
         let clock = StepClock::new(Moment::new(0).unwrap_or(Moment::greatest()), 1);
         let flags = if caller.0 == 1 {
             Some(self.flags)
         } else {
             None
         };
-        FreeingClock { clock, flags }
+        RaisingClock { clock, flags }
     }
 }
 
-/// The status of a run with these flags, how many clocks it gives back, and the journal; how often something was started, and
-/// whether the start was freed.
-fn held<E: Threads + Wait + Pause + Sync>(
-    rt: &E,
-    alloc: Global,
-    flags: &Flags,
-) -> Result<(u8, usize, Vec<u8>, u32, bool), Fail> {
-    let mut spawner = HeldSpawner::new(flags);
-    let mut source = source(alloc, WAIT, &[])?;
-    let mut sink = sink(alloc, 1000, &[])?;
-    let (status, clocks) = counted(rt, alloc, flags, &mut source, &mut sink, &mut spawner)?;
-    let journal = Vec::from_slice(alloc, sink.bytes())?;
-    Ok((status, clocks, journal, spawner.starts, spawner.freed))
+/// A callback that raises a flag once it hears that a job is running. It tells the number of calls alone.
+#[derive(Drop)]
+struct RaisingCallback<'a> {
+    flags: &'a Flags,
+    calls: u64,
 }
 
-/// The status of that run, and how many clocks it gives back.
-fn counted<E: Threads + Wait + Pause + Sync>(
+impl Callback for RaisingCallback<'_> {
+    ghost counted = { λ c. c.calls };
+
+    ghost told = { λ _. None };
+
+    fn notify(&mut self, n: &Notification) {
+        if n.state == JobState::Running {
+            self.flags.hear();
+        }
+        self.calls = self.calls.saturating_add(1);
+    }
+
+    fn calls(&self) -> u64 {
+        self.calls
+    }
+
+    fn heard(&self, _n: u64) -> Option<Notification> {
+        None
+    }
+}
+
+/// The callback alone, which has heard nothing. Where memory is wanting there is none, and then no test passes.
+fn callbacks(alloc: Global, flags: &Flags) -> Callbacks<RaisingCallback<'_>> {
+    let mut callbacks = Vec::new(alloc);
+    let _ = callbacks.push(RaisingCallback { flags, calls: 0 });
+    Callbacks::from_vec(callbacks)
+}
+
+/// The status of a run with these flags, how many clocks it gives back, and how many calls there were of its callback.
+fn held<E: Threads + Wait + Pause + Sync>(
     rt: &E,
     alloc: Global,
     flags: &Flags,
     source: &mut MemorySource,
     sink: &mut MemorySink,
     spawner: &mut HeldSpawner,
-) -> Result<(u8, usize), Fail> {
-    let words = words(alloc, "threads")?;
-    let clocks = FreeingClocks { flags };
-    let nobody: Callbacks<MemoryCallback> = Callbacks::new(alloc);
-    let Outcome { status, clocks, .. } = run(
+) -> (u8, usize, Option<u64>) {
+    let words = words(alloc, "threads");
+    let clocks = RaisingClocks { flags };
+    let bell = Bell::silent();
+    let Outcome {
+        status,
+        callbacks,
+        clocks,
+    } = run(
         rt,
         alloc,
         &words,
@@ -157,19 +181,29 @@ fn counted<E: Threads + Wait + Pause + Sync>(
         sink,
         &clocks,
         spawner,
-        &Bell::silent(),
-        nobody,
+        &bell,
+        callbacks(alloc, flags),
     );
-    Ok((status.number(), clocks.as_slice().len()))
+    let calls = callbacks
+        .as_slice()
+        .first()
+        .map(|callback| callback.calls());
+    (status.number(), clocks.as_slice().len(), calls)
 }
 
-/// The launcher is within a start while the client reads its clock.
+/// The launcher is within a start while the client reads its clock, and while the hub hands over that the job is running: without
+/// both the start is not freed.
 #[test]
-fn a_client_plays_while_a_start_is_held(rt: HostRuntime) -> Result<(), Fail> {
+fn others_go_on_while_a_start_is_held(rt: HostRuntime) {
+    let alloc = rt.alloc();
     let flags = Flags::new();
-    let (status, clocks, journal, starts, freed) = held(&rt, rt.alloc(), &flags)?;
-    assert_eq!(rt; (status, clocks, starts), (0, 5, 1));
-    assert!(rt; freed);
-    assert_eq!(rt; times(journal.as_slice(), " = reached 1\n"), 1);
-    is_legal(&rt, rt.alloc(), journal.as_slice())
+    let mut spawner = HeldSpawner::new(&flags);
+    let mut source = source(alloc, SCRIPT.as_bytes(), &[]);
+    let mut sink = sink(&rt, alloc, 1000, &[]);
+    let told = held(&rt, alloc, &flags, &mut source, &mut sink, &mut spawner);
+    let reached = times(sink.bytes(), " = reached 1\n");
+    let legal = is_legal(&rt, alloc, sink.bytes());
+    assert!(rt; told == (0, 5, Some(2)));
+    assert!(rt; (spawner.starts, spawner.freed) == (1, true));
+    assert!(rt; (reached, legal) == (1, true));
 }

@@ -2,13 +2,13 @@
 #![tactic(auto)]
 
 #[cfg(test)]
-mod beside;
-#[cfg(test)]
 mod flags;
 #[cfg(test)]
 mod heard;
 #[cfg(test)]
 mod held;
+#[cfg(test)]
+mod nights;
 #[cfg(test)]
 mod runs;
 #[cfg(test)]

@@ -6,50 +6,76 @@ use drmaa_script::{Outcome, run};
 use drmaa_types::{Bytes, CallerId, Clocks, Moment, PlaceList, StepClock, Text, TextList};
 use notify_hub::{Callbacks, MemoryCallback};
 use std::alloc::Global;
+use std::process::Abort;
 use std::sync::Wait;
-use std::test::Fail;
 use std::thread::Threads;
 use std::time::Clock as Pause;
 
+/// A text. Where memory is wanting it is empty, and then no test passes.
+fn text(alloc: Global, characters: &str) -> Text {
+    match String::from_str(alloc, characters) {
+        Ok(whole) => Text::from_string(whole),
+        Err(_) => Text::from_string(String::new(alloc)),
+    }
+}
+
 /// The words between spaces; none of an empty line.
-pub fn words(alloc: Global, line: &str) -> Result<TextList, Fail> {
+pub fn words(alloc: Global, line: &str) -> TextList {
     let mut words = Vec::new(alloc);
     for word in line.split(' ') {
         if !word.is_empty() {
-            words.push(Text::from_string(String::from_str(alloc, word)?))?;
+            let _ = words.push(text(alloc, word));
         }
     }
-    Ok(TextList::from_vec(words))
+    TextList::from_vec(words)
 }
 
-/// A list of these numbers.
-pub fn places(alloc: Global, numbers: &[u64]) -> Result<PlaceList, Fail> {
-    Ok(PlaceList::from_vec(Vec::from_slice(alloc, numbers)?))
+/// A list of these numbers. Where memory is wanting it is empty, and then no test passes.
+pub fn places(alloc: Global, numbers: &[u64]) -> PlaceList {
+    match Vec::from_slice(alloc, numbers) {
+        Ok(list) => PlaceList::from_vec(list),
+        Err(_) => PlaceList::new(alloc),
+    }
 }
 
-/// A source of this text, which fails at these reads.
-pub fn source(alloc: Global, text: &str, failing: &[u64]) -> Result<MemorySource, Fail> {
-    let bytes = Bytes::from_vec(Vec::from_slice(alloc, text.as_bytes())?);
-    Ok(MemorySource::new(bytes, places(alloc, failing)?))
+/// A source of these bytes, which fails at these reads.
+pub fn source(alloc: Global, bytes: &[u8], failing: &[u64]) -> MemorySource {
+    let bytes = match Vec::from_slice(alloc, bytes) {
+        Ok(bytes) => Bytes::from_vec(bytes),
+        Err(_) => Bytes::from_vec(Vec::new(alloc)),
+    };
+    MemorySource::new(bytes, places(alloc, failing))
 }
 
 /// A sink for so many bytes, which fails at these writes.
-pub fn sink(alloc: Global, room: usize, failing: &[u64]) -> Result<MemorySink, Fail> {
-    Ok(MemorySink::new(alloc, room, places(alloc, failing)?, false)?)
-}
-
-/// Clocks that stand at 0.
-pub struct StillClocks {}
-
-impl Clocks for StillClocks {
-    type One = StepClock;
-
-    fn clock(&self, caller: CallerId) -> StepClock {
-        StepClock::new(Moment::new(0).unwrap_or(Moment::greatest()), 0)
+pub fn sink(rt: &impl Abort, alloc: Global, room: usize, failing: &[u64]) -> MemorySink {
+    match MemorySink::new(alloc, room, places(alloc, failing), false) {
+        Ok(sink) => sink,
+        Err(_) => panic!(rt; "there is memory"),
     }
 }
 
-/// What a run of these words leaves that nobody hears.
+/// A spawner that fails at these starts, and whose other children end at once with code 0.
+pub fn spawner(alloc: Global, failing: &[u64]) -> MemorySpawner {
+    MemorySpawner::new(alloc, FateList::new(alloc), places(alloc, failing))
+}
+
+/// Clocks that stand at 0, but that of caller 1, which is a client's: it gives 10, 11 and so on.
+pub struct ClientClocks {}
+
+impl Clocks for ClientClocks {
+    type One = StepClock;
+
+    fn clock(&self, caller: CallerId) -> StepClock {
+        if caller.0 == 1 {
+            StepClock::new(Moment::new(10).unwrap_or(Moment::greatest()), 1)
+        } else {
+            StepClock::new(Moment::new(0).unwrap_or(Moment::greatest()), 0)
+        }
+    }
+}
+
+/// What a run of these words leaves.
 pub fn outcome<E: Threads + Wait + Pause + Sync>(
     rt: &E,
     alloc: Global,
@@ -57,32 +83,35 @@ pub fn outcome<E: Threads + Wait + Pause + Sync>(
     source: &mut MemorySource,
     sink: &mut MemorySink,
     spawner: &mut MemorySpawner,
-) -> Result<Outcome<StepClock, MemoryCallback>, Fail> {
-    let words = words(alloc, line)?;
-    Ok(run(
+    callbacks: Callbacks<MemoryCallback>,
+) -> Outcome<StepClock, MemoryCallback> {
+    let words = words(alloc, line);
+    let bell = Bell::new();
+    run(
         rt,
         alloc,
         &words,
         source,
         sink,
-        &StillClocks {},
+        &ClientClocks {},
         spawner,
-        &Bell::new(),
-        Callbacks::new(alloc),
-    ))
+        &bell,
+        callbacks,
+    )
 }
 
-/// The number of the status with which a run ends.
-pub fn number<E: Threads + Wait + Pause + Sync>(
+/// The number of the status with which a run ends that nobody hears, and how many clocks it gives back.
+pub fn numbers<E: Threads + Wait + Pause + Sync>(
     rt: &E,
     alloc: Global,
     line: &str,
     source: &mut MemorySource,
     sink: &mut MemorySink,
-) -> Result<u8, Fail> {
-    let mut spawner = MemorySpawner::new(alloc, FateList::new(alloc), PlaceList::new(alloc));
-    let Outcome { status, .. } = outcome(rt, alloc, line, source, sink, &mut spawner)?;
-    Ok(status.number())
+    spawner: &mut MemorySpawner,
+) -> (u8, usize) {
+    let nobody = Callbacks::new(alloc);
+    let Outcome { status, clocks, .. } = outcome(rt, alloc, line, source, sink, spawner, nobody);
+    (status.number(), clocks.as_slice().len())
 }
 
 /// How often the bytes have this text.
@@ -93,19 +122,14 @@ pub fn times(bytes: &[u8], text: &str) -> usize {
         .count()
 }
 
-/// Checks a journal.
-pub fn is_legal<E: Threads + Wait + Pause + Sync>(
+/// Whether a check finds the journal legal.
+pub fn is_legal<E: Abort + Threads + Wait + Pause + Sync>(
     rt: &E,
     alloc: Global,
     journal: &[u8],
-) -> Result<(), Fail> {
-    let bytes = Bytes::from_vec(Vec::from_slice(alloc, journal)?);
-    let mut source = MemorySource::new(bytes, places(alloc, &[])?);
-    let mut sink = sink(alloc, 1000, &[])?;
-    let number = number(rt, alloc, "check", &mut source, &mut sink)?;
-    if number == 0 {
-        Ok(())
-    } else {
-        Err(Fail::new("the journal is not legal"))
-    }
+) -> bool {
+    let mut source = source(alloc, journal, &[]);
+    let mut sink = sink(rt, alloc, 1000, &[]);
+    let mut spawner = spawner(alloc, &[]);
+    numbers(rt, alloc, "check", &mut source, &mut sink, &mut spawner) == (0, 0)
 }
