@@ -34,14 +34,14 @@ impl Flags {
     }
 
     /// A clock is read. It counts while a start is held.
-    pub fn read(&self) {
+    pub fn clock_read(&self) {
         if self.held.load(Ordering::SeqCst) {
             self.read.store(true, Ordering::SeqCst);
         }
     }
 
     /// A callback hears that the job runs, whose start is held or comes to be held.
-    pub fn hear(&self) {
+    pub fn callback_heard(&self) {
         self.heard.store(true, Ordering::SeqCst);
     }
 }

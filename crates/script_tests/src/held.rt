@@ -96,7 +96,7 @@ impl Clock for RaisingClock<'_> {
     fn now(&mut self) -> Moment {
         let reading = self.clock.now();
         if let Some(flags) = self.flags {
-            flags.read();
+            flags.clock_read();
         }
         reading
     }
@@ -136,7 +136,7 @@ impl Callback for RaisingCallback<'_> {
 
     fn notify(&mut self, n: &Notification) {
         if n.state == JobState::Running {
-            self.flags.hear();
+            self.flags.callback_heard();
         }
         self.calls = self.calls.saturating_add(1);
     }
