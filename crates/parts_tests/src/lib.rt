@@ -5,6 +5,8 @@
 #[cfg(test)]
 mod children;
 #[cfg(test)]
+mod messages;
+#[cfg(test)]
 mod pool;
 #[cfg(test)]
 mod processes;
