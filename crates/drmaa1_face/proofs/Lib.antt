@@ -1,0 +1,8 @@
+pub mod Making
+pub mod Standing
+pub mod Awaited
+pub mod Timely
+pub mod Lists
+pub mod Stopped
+pub mod Whole
+pub mod Ones

@@ -1,0 +1,4 @@
+pub mod Posts
+pub mod Steps
+pub mod FaceEntries
+pub mod Answers
