@@ -1,6 +1,7 @@
 pub mod Refs
 pub mod Shapes
 pub mod LineWords
+pub mod WordGroups
 pub mod Lines
 pub mod TemplateFields
 pub mod Templates

@@ -18,7 +18,7 @@ use Rattle.text_words.specs.WordLaws.{state_laws, kind_laws}
 use Rattle.script_lines.specs.Refs.{reference}
 use Rattle.script_lines.specs.RefLaws.{ref_laws}
 use Rattle.script_lines.specs.Lines.{line_barred}
-use Rattle.script_lines.specs.Shapes.{text_fields, name_fields, ref_fields, said_fields, create_fields, open_fields, two_fields, reserve_fields, exit_fields, kind_fields, make_timeout, timeout_part, timeout_form, wait_fields, run_fields, bound_form, index_fields, bulk_fields, sought_fields, filter_fields, jobs_fields}
+use Rattle.script_lines.specs.Shapes.{text_fields, name_fields, ref_fields, said_fields, create_fields, open_fields, two_fields, reserve_fields, exit_fields, kind_fields, make_timeout, timeout_part, timeout_form, wait_fields, ran_fields, run_fields, bound_form, index_fields, member_fields, bulk_fields, sought_fields, standing_fields, filter_fields, jobs_fields}
 
 pub text_behind : AreFields text_fields
 unfolding text_fields
@@ -86,7 +86,7 @@ wait_behind =
     repeated_laws (codes " ") reference _ ref_laws no_more_laws refl))
 
 pub run_behind : AreFields run_fields
-unfolding run_fields no_more
+unfolding run_fields ran_fields no_more
 run_behind =
     always_laws (codes " ") name _ refl name_laws (
     always_laws (codes " ") reference _ refl ref_laws (
@@ -107,7 +107,7 @@ index_laws =
     field_laws (codes " reserved ") reference _ ref_laws no_more_laws refl))))
 
 pub bulk_behind : AreFields bulk_fields
-unfolding bulk_fields
+unfolding bulk_fields member_fields
 bulk_behind =
     always_laws (codes " ") name _ refl name_laws (
     always_laws (codes " ") reference _ refl ref_laws (
@@ -124,7 +124,7 @@ sought_laws =
     refl) refl) refl) refl
 
 filter_laws : AreFields filter_fields
-unfolding filter_fields sought_fields field no_more
+unfolding filter_fields standing_fields sought_fields field no_more
 filter_laws =
     field_laws (codes " id=") reference _ ref_laws (
     field_laws (codes " name=") text _ text_laws (
@@ -182,13 +182,13 @@ unfolding wait_fields always repeated no_more
 wait_covered = refl
 
 pub run_covered : covers line_barred run_fields.barred ≡ true
-unfolding run_fields always field no_more
+unfolding run_fields ran_fields always field no_more
 run_covered = refl
 
 pub bulk_covered : covers line_barred bulk_fields.barred ≡ true
-unfolding bulk_fields index_fields always field no_more
+unfolding bulk_fields member_fields index_fields always field no_more
 bulk_covered = refl
 
 pub jobs_covered : covers line_barred jobs_fields.barred ≡ true
-unfolding jobs_fields filter_fields sought_fields always field no_more
+unfolding jobs_fields filter_fields standing_fields sought_fields always field no_more
 jobs_covered = refl

@@ -68,9 +68,13 @@ timeout_form = mapped make_timeout timeout_part (or_else (codes "infinite") (num
 unfoldable pub wait_fields : Fields (Ref × (Timeout × (List Ref × Unit {0})))
 wait_fields = always (codes " ") reference (always (codes " ") timeout_form (repeated (codes " ") reference no_more))
 
--- a name, a session, a template, and a reservation that may be left out
+-- a session, a template, and a reservation that may be left out
+unfoldable pub ran_fields : Fields (Ref × (List ℕ × (Option Ref × Unit {0})))
+ran_fields = always (codes " ") reference (always (codes " ") name (field (codes " reserved ") reference no_more))
+
+-- a name, and the same behind it
 unfoldable pub run_fields : Fields (List ℕ × (Ref × (List ℕ × (Option Ref × Unit {0}))))
-run_fields = always (codes " ") name (always (codes " ") reference (always (codes " ") name (field (codes " reserved ") reference no_more)))
+run_fields = always (codes " ") name ran_fields
 
 -- how many at once: a number, or - for any
 unfoldable pub bound_form : Format (Option ℕ)
@@ -85,10 +89,15 @@ index_fields =
     always (codes " ") bound_form (
     field (codes " reserved ") reference no_more))))
 
-unfoldable pub bulk_fields : Fields (List ℕ × (Ref × (List ℕ × (ℕ × (ℕ × (ℕ × (Option ℕ × (Option Ref × Unit {0}))))))))
-bulk_fields = always (codes " ") name (always (codes " ") reference (always (codes " ") name index_fields))
+-- a session, a template, and the indices
+unfoldable pub member_fields : Fields (Ref × (List ℕ × (ℕ × (ℕ × (ℕ × (Option ℕ × (Option Ref × Unit {0})))))))
+member_fields = always (codes " ") reference (always (codes " ") name index_fields)
 
--- the items of a filter, in two groups, the last one first
+-- a name, and the same behind it
+unfoldable pub bulk_fields : Fields (List ℕ × (Ref × (List ℕ × (ℕ × (ℕ × (ℕ × (Option ℕ × (Option Ref × Unit {0}))))))))
+bulk_fields = always (codes " ") name member_fields
+
+-- the items of a filter, in three groups, the last one first
 abbrev pub Sought : Type 0
 Sought = Option ℕ × (Option ℕ × (Option Said × (Option Said × (Option Said × Unit {0}))))
 
@@ -100,16 +109,20 @@ sought_fields =
     field (codes " dispatched=") said (
     field (codes " finished=") said no_more))))
 
-abbrev pub Filters : Type 0
-Filters = Option Ref × (Option (List ℕ) × (Option JobState × (Option ℕ × (Option (List ℕ) × Sought))))
+abbrev pub Standing : Type 0
+Standing = Option JobState × (Option ℕ × (Option (List ℕ) × Sought))
 
-unfoldable pub filter_fields : Fields Filters
-filter_fields =
-    field (codes " id=") reference (
-    field (codes " name=") text (
+unfoldable pub standing_fields : Fields Standing
+standing_fields =
     field (codes " state=") state_form (
     field (codes " slots=") (number (2 ^ 32)) (
-    field (codes " queue=") text sought_fields))))
+    field (codes " queue=") text sought_fields))
+
+abbrev pub Filters : Type 0
+Filters = Option Ref × (Option (List ℕ) × Standing)
+
+unfoldable pub filter_fields : Fields Filters
+filter_fields = field (codes " id=") reference (field (codes " name=") text standing_fields)
 
 abbrev pub make_filter : Filters → Filter
 make_filter p =

@@ -1,5 +1,5 @@
 //! Templates that are made field by field.
-ghost use Rattle.std.specs.Prelude.{◌≡◌, ◌++◌, ◌∷◌, [], IfOk, OnOk};
+ghost use Rattle.std.specs.Prelude.{◌≡◌, ◌++◌, ◌∷◌, [], IfOk, IsOk, OnOk};
 ghost use Rattle.script_lines.specs.Templates as templates;
 
 use crate::{Beginning, JobField, ReservationField};
@@ -110,13 +110,21 @@ pub fn is_set(draft: &Draft, field: &JobField) -> bool
     }
 }
 
+/// A value that was changed, where that was done.
+fn changed<T: Drop>(value: T, done: Result<(), AllocError>) -> Result<T, AllocError>
+    ensures { IfOk result (λ kept. (kept ≡ value) × IsOk done) }
+{
+    done?;
+    Ok(value)
+}
+
 /// What is made of a template by one line more.
 pub fn with_field(alloc: Global, draft: Draft, field: JobField) -> Result<Draft, AllocError>
     ensures { IfOk result (λ d. d ≡ templates.with_field draft field) }
 {
     let mut draft = draft;
-    set_field(alloc, &mut draft, field)?;
-    Ok(draft)
+    let done = set_field(alloc, &mut draft, field);
+    changed(draft, done)
 }
 
 /// Sets what one line more says.
@@ -185,8 +193,8 @@ pub fn with_reservation_field(
     ensures { IfOk result (λ t. t ≡ templates.with_reservation_field template field) }
 {
     let mut template = template;
-    set_reservation_field(alloc, &mut template, field)?;
-    Ok(template)
+    let done = set_reservation_field(alloc, &mut template, field);
+    changed(template, done)
 }
 
 /// Sets what one line more says.

@@ -1,10 +1,12 @@
 //! The lines of template blocks: what each says, its word, and how it is read.
-ghost use Rattle.std.specs.Prelude.{◌≡◌};
+ghost use Rattle.std.specs.Prelude.{◌≡◌, codes};
+ghost use Rattle.text_codec.specs.Fields.{always, no_more};
 ghost use Rattle.text_codec.specs.Formats.{Answers, Says, first_spelled};
 ghost use Rattle.script_lines.specs.TemplateFields as fields;
 ghost use Rattle.script_lines.specs.declared.fields.TheConstants.{JOB_FIELD_WORDS, RESERVATION_FIELD_WORDS};
 
-use crate::shapes::{said_behind, text_behind};
+use crate::reading::alone;
+use crate::shapes::one_behind;
 use drmaa_types::{Attribute, Text};
 use job_template::{Pair, ResourceLimit};
 use std::alloc::Global;
@@ -213,39 +215,13 @@ fn reservation_word_of(word: &[u8]) -> Option<ReservationFieldWord>
         .find(|field| spell_reservation_word(*field).as_bytes() == word)
 }
 
-#[tactic(auto, unfolding(crate::specs::TemplateFields::variable_fields, text_codec::specs::Fields::always, text_codec::specs::Fields::no_more))]
-fn variable_behind(cursor: &mut Cursor) -> Result<(Pair, ()), Unread>
-    ensures { Answers fields.variable_fields.body.read cursor.old result cursor.new }
+/// Reads a part of a template behind a space, and no more.
+#[tactic(auto, unfolding(text_codec::specs::Fields::always, text_codec::specs::Fields::no_more))]
+fn part_behind<A: ReadForm>(cursor: &mut Cursor) -> Result<(A, ()), Unread>
+    ensures { Answers (always (codes " ") A.form no_more).body.read cursor.old result cursor.new }
 {
     cursor.expect(b" ")?;
-    let value = Pair::read(cursor)?;
-    Ok((value, ()))
-}
-
-#[tactic(auto, unfolding(crate::specs::TemplateFields::count_fields, text_codec::specs::Fields::always, text_codec::specs::Fields::no_more))]
-fn count_behind(cursor: &mut Cursor) -> Result<(u32, ()), Unread>
-    ensures { Answers fields.count_fields.body.read cursor.old result cursor.new }
-{
-    cursor.expect(b" ")?;
-    let value = cursor.u32()?;
-    Ok((value, ()))
-}
-
-#[tactic(auto, unfolding(crate::specs::TemplateFields::integer_fields, text_codec::specs::Fields::always, text_codec::specs::Fields::no_more))]
-fn integer_behind(cursor: &mut Cursor) -> Result<(i32, ()), Unread>
-    ensures { Answers fields.integer_fields.body.read cursor.old result cursor.new }
-{
-    cursor.expect(b" ")?;
-    let value = <i32 as Form>::read(cursor)?;
-    Ok((value, ()))
-}
-
-#[tactic(auto, unfolding(crate::specs::TemplateFields::limit_fields, text_codec::specs::Fields::always, text_codec::specs::Fields::no_more))]
-fn limit_behind(cursor: &mut Cursor) -> Result<(ResourceLimit, ()), Unread>
-    ensures { Answers fields.limit_fields.body.read cursor.old result cursor.new }
-{
-    cursor.expect(b" ")?;
-    let value = ResourceLimit::read(cursor)?;
+    let value = A::read(cursor)?;
     Ok((value, ()))
 }
 
@@ -255,15 +231,6 @@ fn other_behind(cursor: &mut Cursor) -> Result<(Attribute, ()), Unread>
 {
     cursor.expect(b" ")?;
     let value = read_other(cursor)?;
-    Ok((value, ()))
-}
-
-#[tactic(auto, unfolding(crate::specs::TemplateFields::duration_fields, text_codec::specs::Fields::always, text_codec::specs::Fields::no_more))]
-fn duration_behind(cursor: &mut Cursor) -> Result<(u64, ()), Unread>
-    ensures { Answers fields.duration_fields.body.read cursor.old result cursor.new }
-{
-    cursor.expect(b" ")?;
-    let value = cursor.u64()?;
     Ok((value, ()))
 }
 
@@ -289,71 +256,72 @@ fn beginning_behind(cursor: &mut Cursor) -> Result<(Beginning, ()), Unread>
 }
 
 /// What stands behind the word of a line.
+#[tactic(auto, unfolding(crate::specs::Shapes::text_fields, crate::specs::Shapes::said_fields, crate::specs::TemplateFields::variable_fields, crate::specs::TemplateFields::count_fields, crate::specs::TemplateFields::integer_fields, crate::specs::TemplateFields::limit_fields))]
 fn behind_job_word(word: JobFieldWord, cursor: &mut Cursor) -> Result<JobField, Unread>
     ensures { Answers (fields.job_arms word) cursor.old result cursor.new }
 {
     match word {
         JobFieldWord::Command => {
-            let (text, ()) = text_behind(cursor)?;
+            let (text, ()) = one_behind(cursor)?;
             Ok(JobField::Command(text))
         }
         JobFieldWord::Arg => {
-            let (text, ()) = text_behind(cursor)?;
+            let (text, ()) = one_behind(cursor)?;
             Ok(JobField::Arg(text))
         }
         JobFieldWord::Hold => Ok(JobField::Hold),
         JobFieldWord::Rerunnable => Ok(JobField::Rerunnable),
         JobFieldWord::Env => {
-            let (variable, ()) = variable_behind(cursor)?;
+            let (variable, ()) = part_behind(cursor)?;
             Ok(JobField::Env(variable))
         }
         JobFieldWord::Directory => {
-            let (text, ()) = text_behind(cursor)?;
+            let (text, ()) = one_behind(cursor)?;
             Ok(JobField::Directory(text))
         }
         JobFieldWord::Name => {
-            let (text, ()) = text_behind(cursor)?;
+            let (text, ()) = one_behind(cursor)?;
             Ok(JobField::Name(text))
         }
         JobFieldWord::Input => {
-            let (text, ()) = text_behind(cursor)?;
+            let (text, ()) = one_behind(cursor)?;
             Ok(JobField::Input(text))
         }
         JobFieldWord::Output => {
-            let (text, ()) = text_behind(cursor)?;
+            let (text, ()) = one_behind(cursor)?;
             Ok(JobField::Output(text))
         }
         JobFieldWord::Error => {
-            let (text, ()) = text_behind(cursor)?;
+            let (text, ()) = one_behind(cursor)?;
             Ok(JobField::Error(text))
         }
         JobFieldWord::Join => Ok(JobField::Join),
         JobFieldWord::Queue => {
-            let (text, ()) = text_behind(cursor)?;
+            let (text, ()) = one_behind(cursor)?;
             Ok(JobField::Queue(text))
         }
         JobFieldWord::MinSlots => {
-            let (slots, ()) = count_behind(cursor)?;
+            let (slots, ()) = part_behind(cursor)?;
             Ok(JobField::MinSlots(slots))
         }
         JobFieldWord::MaxSlots => {
-            let (slots, ()) = count_behind(cursor)?;
+            let (slots, ()) = part_behind(cursor)?;
             Ok(JobField::MaxSlots(slots))
         }
         JobFieldWord::Priority => {
-            let (priority, ()) = integer_behind(cursor)?;
+            let (priority, ()) = part_behind(cursor)?;
             Ok(JobField::Priority(priority))
         }
         JobFieldWord::Start => {
-            let (moment, ()) = said_behind(cursor)?;
+            let (moment, ()) = one_behind(cursor)?;
             Ok(JobField::Start(moment))
         }
         JobFieldWord::Deadline => {
-            let (moment, ()) = said_behind(cursor)?;
+            let (moment, ()) = one_behind(cursor)?;
             Ok(JobField::Deadline(moment))
         }
         JobFieldWord::Limit => {
-            let (limit, ()) = limit_behind(cursor)?;
+            let (limit, ()) = part_behind(cursor)?;
             Ok(JobField::Limit(limit))
         }
         JobFieldWord::Other => {
@@ -383,11 +351,11 @@ pub fn read_job_field(alloc: Global, line: &[u8]) -> Result<JobField, Unread>
 {
     let mut cursor = Cursor::new(alloc, line);
     let said = job_field_at(&mut cursor)?;
-    cursor.end()?;
-    Ok(said)
+    alone(&cursor, said)
 }
 
 /// What stands behind the word of a line.
+#[tactic(auto, unfolding(crate::specs::Shapes::text_fields, crate::specs::Shapes::said_fields, crate::specs::TemplateFields::duration_fields, crate::specs::TemplateFields::count_fields))]
 fn behind_reservation_word(
     word: ReservationFieldWord,
     cursor: &mut Cursor,
@@ -396,7 +364,7 @@ fn behind_reservation_word(
 {
     match word {
         ReservationFieldWord::Name => {
-            let (text, ()) = text_behind(cursor)?;
+            let (text, ()) = one_behind(cursor)?;
             Ok(ReservationField::Name(text))
         }
         ReservationFieldWord::Start => {
@@ -404,19 +372,19 @@ fn behind_reservation_word(
             Ok(ReservationField::Start(beginning))
         }
         ReservationFieldWord::End => {
-            let (moment, ()) = said_behind(cursor)?;
+            let (moment, ()) = one_behind(cursor)?;
             Ok(ReservationField::End(moment))
         }
         ReservationFieldWord::Duration => {
-            let (seconds, ()) = duration_behind(cursor)?;
+            let (seconds, ()) = part_behind(cursor)?;
             Ok(ReservationField::Duration(seconds))
         }
         ReservationFieldWord::MinSlots => {
-            let (slots, ()) = count_behind(cursor)?;
+            let (slots, ()) = part_behind(cursor)?;
             Ok(ReservationField::MinSlots(slots))
         }
         ReservationFieldWord::MaxSlots => {
-            let (slots, ()) = count_behind(cursor)?;
+            let (slots, ()) = part_behind(cursor)?;
             Ok(ReservationField::MaxSlots(slots))
         }
         ReservationFieldWord::Other => {
@@ -446,6 +414,5 @@ pub fn read_reservation_field(alloc: Global, line: &[u8]) -> Result<ReservationF
 {
     let mut cursor = Cursor::new(alloc, line);
     let said = reservation_field_at(&mut cursor)?;
-    cursor.end()?;
-    Ok(said)
+    alone(&cursor, said)
 }

@@ -17,14 +17,11 @@ type Sought = (
     ),
 );
 
+/// The items of a filter from a job's state on.
+type Standing = (Option<JobState>, (Option<u32>, (Option<Text>, Sought)));
+
 /// All items of a filter.
-pub(crate) type Filters = (
-    Option<Ref>,
-    (
-        Option<Text>,
-        (Option<JobState>, (Option<u32>, (Option<Text>, Sought))),
-    ),
-);
+pub(crate) type Filters = (Option<Ref>, (Option<Text>, Standing));
 
 #[tactic(auto, unfolding(crate::specs::Shapes::sought_fields, text_codec::specs::Fields::field, text_codec::specs::Fields::no_more))]
 fn sought_behind(cursor: &mut Cursor) -> Result<Sought, Unread>
@@ -41,17 +38,25 @@ fn sought_behind(cursor: &mut Cursor) -> Result<Sought, Unread>
     ))
 }
 
+#[tactic(auto, unfolding(crate::specs::Shapes::standing_fields, text_codec::specs::Fields::field))]
+fn standing_behind(cursor: &mut Cursor) -> Result<Standing, Unread>
+    ensures { Answers shapes.standing_fields.body.read cursor.old result cursor.new }
+{
+    let state = text_words::read_set(cursor, b" state=")?;
+    let slots = read_set(cursor, b" slots=")?;
+    let queue = read_set(cursor, b" queue=")?;
+    let sought = sought_behind(cursor)?;
+    Ok((state, (slots, (queue, sought))))
+}
+
 #[tactic(auto, unfolding(crate::specs::Shapes::filter_fields, text_codec::specs::Fields::field))]
 fn filter_behind(cursor: &mut Cursor) -> Result<Filters, Unread>
     ensures { Answers shapes.filter_fields.body.read cursor.old result cursor.new }
 {
     let job = read_set(cursor, b" id=")?;
     let name = read_set(cursor, b" name=")?;
-    let state = text_words::read_set(cursor, b" state=")?;
-    let slots = read_set(cursor, b" slots=")?;
-    let queue = read_set(cursor, b" queue=")?;
-    let sought = sought_behind(cursor)?;
-    Ok((job, (name, (state, (slots, (queue, sought))))))
+    let standing = standing_behind(cursor)?;
+    Ok((job, (name, standing)))
 }
 
 /// The filter with these items.

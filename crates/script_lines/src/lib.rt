@@ -8,6 +8,7 @@ mod lines;
 mod reading;
 mod refs;
 mod shapes;
+mod word_groups;
 mod words;
 
 pub use draft::{

@@ -3,56 +3,63 @@ ghost use Rattle.std.specs.Prelude.{◌≡◌};
 ghost use Rattle.text_codec.specs.Formats.{Answers, Says};
 ghost use Rattle.text_codec.specs.Formats as form;
 ghost use Rattle.script_lines.specs.Lines as lines;
+ghost use Rattle.script_lines.specs.WordGroups as groups;
 
 use crate::filters::{jobs_behind, made_filter};
 use crate::shapes::{
-    bulk_behind, create_behind, exit_behind, kind_behind, name_behind, open_behind, ref_behind,
-    reserve_behind, run_behind, said_behind, text_behind, two_behind, wait_behind,
+    bulk_behind, create_behind, exit_behind, kind_behind, name_behind, one_behind, open_behind,
+    reserve_behind, run_behind, two_behind, wait_behind,
 };
+use crate::word_groups::{GroupedWord, JobWord, OneWord, PlayWord, SessionWord, TwoWord, group_of};
 use crate::{Line, LineWord, line_word_of};
 use std::alloc::Global;
 use text_codec::{Cursor, Unread};
 
-/// What stands behind the word of a client line.
-fn behind_word(word: LineWord, cursor: &mut Cursor) -> Result<Line, Unread>
-    ensures { Answers (lines.line_arms word) cursor.old result cursor.new }
+/// What stands behind the word of a line that makes, opens, destroys or names sessions.
+#[tactic(auto, unfolding(crate::specs::Shapes::text_fields))]
+fn session_line(word: SessionWord, cursor: &mut Cursor) -> Result<Line, Unread>
+    ensures { Answers (lines.line_arms (groups.session_word word)) cursor.old result cursor.new }
 {
     match word {
-        LineWord::CreateJobs => {
+        SessionWord::CreateJobs => {
             let (name, (session, ())) = create_behind(cursor)?;
             Ok(Line::CreateJobs { name, session })
         }
-        LineWord::CreateReservations => {
+        SessionWord::CreateReservations => {
             let (name, (session, ())) = create_behind(cursor)?;
             Ok(Line::CreateReservations { name, session })
         }
-        LineWord::OpenJobs => {
+        SessionWord::OpenJobs => {
             let (name, (session, ())) = open_behind(cursor)?;
             Ok(Line::OpenJobs { name, session })
         }
-        LineWord::OpenReservations => {
+        SessionWord::OpenReservations => {
             let (name, (session, ())) = open_behind(cursor)?;
             Ok(Line::OpenReservations { name, session })
         }
-        LineWord::DestroyJobs => {
-            let (session, ()) = text_behind(cursor)?;
+        SessionWord::DestroyJobs => {
+            let (session, ()) = one_behind(cursor)?;
             Ok(Line::DestroyJobs { session })
         }
-        LineWord::DestroyReservations => {
-            let (session, ()) = text_behind(cursor)?;
+        SessionWord::DestroyReservations => {
+            let (session, ()) = one_behind(cursor)?;
             Ok(Line::DestroyReservations { session })
         }
-        LineWord::NamesJobs => Ok(Line::NamesJobs),
-        LineWord::NamesReservations => Ok(Line::NamesReservations),
-        LineWord::Monitor => {
+        SessionWord::NamesJobs => Ok(Line::NamesJobs),
+        SessionWord::NamesReservations => Ok(Line::NamesReservations),
+        SessionWord::Monitor => {
             let (name, ()) = name_behind(cursor)?;
             Ok(Line::Monitor { name })
         }
-        LineWord::Close => {
-            let (session, ()) = ref_behind(cursor)?;
-            Ok(Line::Close { session })
-        }
-        LineWord::Run => {
+    }
+}
+
+/// What stands behind the word of a line that runs jobs, lists them or waits for them, or that books slots.
+fn job_line(word: JobWord, cursor: &mut Cursor) -> Result<Line, Unread>
+    ensures { Answers (lines.line_arms (groups.job_word word)) cursor.old result cursor.new }
+{
+    match word {
+        JobWord::Run => {
             let (name, (session, (template, (reserved, ())))) = run_behind(cursor)?;
             Ok(Line::Run {
                 name,
@@ -61,7 +68,7 @@ fn behind_word(word: LineWord, cursor: &mut Cursor) -> Result<Line, Unread>
                 reserved,
             })
         }
-        LineWord::Bulk => {
+        JobWord::Bulk => {
             let (name, (session, (template, (begin, (end, (step, (bound, (reserved, ())))))))) =
                 bulk_behind(cursor)?;
             Ok(Line::Bulk {
@@ -75,74 +82,21 @@ fn behind_word(word: LineWord, cursor: &mut Cursor) -> Result<Line, Unread>
                 reserved,
             })
         }
-        LineWord::Jobs => {
+        JobWord::Jobs => {
             let (session, items) = jobs_behind(cursor)?;
             Ok(Line::Jobs {
                 session,
                 filter: made_filter(items),
             })
         }
-        LineWord::Array => {
-            let (session, (array, ())) = two_behind(cursor)?;
-            Ok(Line::Array { session, array })
+        JobWord::AllJobs => {
+            let (session, items) = jobs_behind(cursor)?;
+            Ok(Line::AllJobs {
+                session,
+                filter: made_filter(items),
+            })
         }
-        LineWord::Suspend => {
-            let (session, (job, ())) = two_behind(cursor)?;
-            Ok(Line::Suspend { session, job })
-        }
-        LineWord::Resume => {
-            let (session, (job, ())) = two_behind(cursor)?;
-            Ok(Line::Resume { session, job })
-        }
-        LineWord::Hold => {
-            let (session, (job, ())) = two_behind(cursor)?;
-            Ok(Line::Hold { session, job })
-        }
-        LineWord::Release => {
-            let (session, (job, ())) = two_behind(cursor)?;
-            Ok(Line::Release { session, job })
-        }
-        LineWord::Terminate => {
-            let (session, (job, ())) = two_behind(cursor)?;
-            Ok(Line::Terminate { session, job })
-        }
-        LineWord::SuspendArray => {
-            let (session, (array, ())) = two_behind(cursor)?;
-            Ok(Line::SuspendArray { session, array })
-        }
-        LineWord::ResumeArray => {
-            let (session, (array, ())) = two_behind(cursor)?;
-            Ok(Line::ResumeArray { session, array })
-        }
-        LineWord::HoldArray => {
-            let (session, (array, ())) = two_behind(cursor)?;
-            Ok(Line::HoldArray { session, array })
-        }
-        LineWord::ReleaseArray => {
-            let (session, (array, ())) = two_behind(cursor)?;
-            Ok(Line::ReleaseArray { session, array })
-        }
-        LineWord::TerminateArray => {
-            let (session, (array, ())) = two_behind(cursor)?;
-            Ok(Line::TerminateArray { session, array })
-        }
-        LineWord::Reap => {
-            let (session, (job, ())) = two_behind(cursor)?;
-            Ok(Line::Reap { session, job })
-        }
-        LineWord::ReapArray => {
-            let (session, (array, ())) = two_behind(cursor)?;
-            Ok(Line::ReapArray { session, array })
-        }
-        LineWord::State => {
-            let (session, (job, ())) = two_behind(cursor)?;
-            Ok(Line::State { session, job })
-        }
-        LineWord::Info => {
-            let (session, (job, ())) = two_behind(cursor)?;
-            Ok(Line::Info { session, job })
-        }
-        LineWord::WaitStarted => {
+        JobWord::WaitStarted => {
             let (session, (timeout, (jobs, ()))) = wait_behind(cursor)?;
             Ok(Line::WaitStarted {
                 session,
@@ -150,7 +104,7 @@ fn behind_word(word: LineWord, cursor: &mut Cursor) -> Result<Line, Unread>
                 jobs,
             })
         }
-        LineWord::WaitTerminated => {
+        JobWord::WaitTerminated => {
             let (session, (timeout, (jobs, ()))) = wait_behind(cursor)?;
             Ok(Line::WaitTerminated {
                 session,
@@ -158,7 +112,7 @@ fn behind_word(word: LineWord, cursor: &mut Cursor) -> Result<Line, Unread>
                 jobs,
             })
         }
-        LineWord::Reserve => {
+        JobWord::Reserve => {
             let (name, (session, (template, ()))) = reserve_behind(cursor)?;
             Ok(Line::Reserve {
                 name,
@@ -166,78 +120,146 @@ fn behind_word(word: LineWord, cursor: &mut Cursor) -> Result<Line, Unread>
                 template,
             })
         }
-        LineWord::Reservation => {
-            let (session, (reservation, ())) = two_behind(cursor)?;
-            Ok(Line::Reservation {
-                session,
-                reservation,
-            })
-        }
-        LineWord::Reservations => {
-            let (session, ()) = ref_behind(cursor)?;
-            Ok(Line::Reservations { session })
-        }
-        LineWord::Cancel => {
-            let (session, (reservation, ())) = two_behind(cursor)?;
-            Ok(Line::Cancel {
-                session,
-                reservation,
-            })
-        }
-        LineWord::AllJobs => {
-            let (session, items) = jobs_behind(cursor)?;
-            Ok(Line::AllJobs {
-                session,
-                filter: made_filter(items),
-            })
-        }
-        LineWord::AllReservations => {
-            let (session, ()) = ref_behind(cursor)?;
-            Ok(Line::AllReservations { session })
-        }
-        LineWord::Queues => {
-            let (session, ()) = ref_behind(cursor)?;
-            Ok(Line::Queues { session })
-        }
-        LineWord::Machines => {
-            let (session, ()) = ref_behind(cursor)?;
-            Ok(Line::Machines { session })
-        }
-        LineWord::Register => Ok(Line::Register),
-        LineWord::At => {
-            let (moment, ()) = said_behind(cursor)?;
+    }
+}
+
+/// The reference that stands behind such a word.
+#[tactic(auto, unfolding(crate::specs::Shapes::ref_fields))]
+fn one_line(word: OneWord, cursor: &mut Cursor) -> Result<Line, Unread>
+    ensures { Answers (lines.line_arms (groups.one_word word)) cursor.old result cursor.new }
+{
+    let (reference, ()) = one_behind(cursor)?;
+    Ok(match word {
+        OneWord::Close => Line::Close { session: reference },
+        OneWord::Reservations => Line::Reservations { session: reference },
+        OneWord::AllReservations => Line::AllReservations { session: reference },
+        OneWord::Queues => Line::Queues { session: reference },
+        OneWord::Machines => Line::Machines { session: reference },
+        OneWord::Started => Line::Started { job: reference },
+        OneWord::StartFailed => Line::StartFailed { job: reference },
+        OneWord::ExitUnknown => Line::ExitUnknown { job: reference },
+    })
+}
+
+/// The session that stands behind such a word, and what it has.
+fn two_line(word: TwoWord, cursor: &mut Cursor) -> Result<Line, Unread>
+    ensures { Answers (lines.line_arms (groups.two_word word)) cursor.old result cursor.new }
+{
+    let (session, (other, ())) = two_behind(cursor)?;
+    Ok(match word {
+        TwoWord::Array => Line::Array {
+            session,
+            array: other,
+        },
+        TwoWord::Suspend => Line::Suspend {
+            session,
+            job: other,
+        },
+        TwoWord::Resume => Line::Resume {
+            session,
+            job: other,
+        },
+        TwoWord::Hold => Line::Hold {
+            session,
+            job: other,
+        },
+        TwoWord::Release => Line::Release {
+            session,
+            job: other,
+        },
+        TwoWord::Terminate => Line::Terminate {
+            session,
+            job: other,
+        },
+        TwoWord::SuspendArray => Line::SuspendArray {
+            session,
+            array: other,
+        },
+        TwoWord::ResumeArray => Line::ResumeArray {
+            session,
+            array: other,
+        },
+        TwoWord::HoldArray => Line::HoldArray {
+            session,
+            array: other,
+        },
+        TwoWord::ReleaseArray => Line::ReleaseArray {
+            session,
+            array: other,
+        },
+        TwoWord::TerminateArray => Line::TerminateArray {
+            session,
+            array: other,
+        },
+        TwoWord::Reap => Line::Reap {
+            session,
+            job: other,
+        },
+        TwoWord::ReapArray => Line::ReapArray {
+            session,
+            array: other,
+        },
+        TwoWord::State => Line::State {
+            session,
+            job: other,
+        },
+        TwoWord::Info => Line::Info {
+            session,
+            job: other,
+        },
+        TwoWord::Reservation => Line::Reservation {
+            session,
+            reservation: other,
+        },
+        TwoWord::Cancel => Line::Cancel {
+            session,
+            reservation: other,
+        },
+    })
+}
+
+/// What stands behind the word of a play's moment, or of what its launcher or its reaper does or reports.
+#[tactic(auto, unfolding(crate::specs::Shapes::said_fields))]
+fn play_line(word: PlayWord, cursor: &mut Cursor) -> Result<Line, Unread>
+    ensures { Answers (lines.line_arms (groups.play_word word)) cursor.old result cursor.new }
+{
+    match word {
+        PlayWord::Register => Ok(Line::Register),
+        PlayWord::At => {
+            let (moment, ()) = one_behind(cursor)?;
             Ok(Line::At { moment })
         }
-        LineWord::Launch => Ok(Line::Launch),
-        LineWord::Started => {
-            let (job, ()) = ref_behind(cursor)?;
-            Ok(Line::Started { job })
-        }
-        LineWord::StartFailed => {
-            let (job, ()) = ref_behind(cursor)?;
-            Ok(Line::StartFailed { job })
-        }
-        LineWord::Exit => {
+        PlayWord::Launch => Ok(Line::Launch),
+        PlayWord::Exit => {
             let (job, (code, ())) = exit_behind(cursor)?;
             Ok(Line::Exit { job, code })
         }
-        LineWord::ExitSignal => {
+        PlayWord::ExitSignal => {
             let (job, (signal, ())) = exit_behind(cursor)?;
             Ok(Line::ExitSignal { job, signal })
         }
-        LineWord::ExitUnknown => {
-            let (job, ()) = ref_behind(cursor)?;
-            Ok(Line::ExitUnknown { job })
-        }
-        LineWord::Signal => Ok(Line::Signal),
-        LineWord::SignalDone => {
+        PlayWord::Signal => Ok(Line::Signal),
+        PlayWord::SignalDone => {
             let (job, (kind, ())) = kind_behind(cursor)?;
             Ok(Line::SignalDone { job, kind })
         }
-        LineWord::SignalFailed => {
+        PlayWord::SignalFailed => {
             let (job, (kind, ())) = kind_behind(cursor)?;
             Ok(Line::SignalFailed { job, kind })
         }
+    }
+}
+
+/// What stands behind the word of a client line.
+fn behind_word(word: LineWord, cursor: &mut Cursor) -> Result<Line, Unread>
+    ensures { Answers (lines.line_arms word) cursor.old result cursor.new }
+{
+    match group_of(word) {
+        GroupedWord::Session(word) => session_line(word, cursor),
+        GroupedWord::Job(word) => job_line(word, cursor),
+        GroupedWord::One(word) => one_line(word, cursor),
+        GroupedWord::Two(word) => two_line(word, cursor),
+        GroupedWord::Play(word) => play_line(word, cursor),
     }
 }
 
@@ -252,7 +274,7 @@ fn line_at(cursor: &mut Cursor) -> Result<Line, Unread>
 }
 
 /// What was read, where nothing follows it.
-fn alone<T: Drop>(cursor: &Cursor, value: T) -> Result<T, Unread>
+pub(crate) fn alone<T: Drop>(cursor: &Cursor, value: T) -> Result<T, Unread>
     ensures { Says (form.whole value cursor.now) result }
 {
     cursor.end()?;
