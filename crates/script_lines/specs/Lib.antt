@@ -4,6 +4,7 @@ pub mod LineWords
 pub mod WordGroups
 pub mod Lines
 pub mod TemplateFields
+pub mod FieldGroups
 pub mod Templates
 pub mod RefLaws
 pub mod ShapeLaws

@@ -1,38 +1,46 @@
 -- The words of client lines in groups, by what stands behind them.
 use Rattle.script_lines.specs.declared.words.LineWord.{LineWord}
 use Rattle.script_lines.specs.declared.words.LineWord.TheVariants as word
-use Rattle.script_lines.specs.declared.word_groups.SessionWord.{SessionWord}
-use Rattle.script_lines.specs.declared.word_groups.SessionWord.TheVariants as session
-use Rattle.script_lines.specs.declared.word_groups.JobWord.{JobWord}
-use Rattle.script_lines.specs.declared.word_groups.JobWord.TheVariants as job
+use Rattle.script_lines.specs.declared.word_groups.CreateWord.{CreateWord}
+use Rattle.script_lines.specs.declared.word_groups.CreateWord.TheVariants as create
+use Rattle.script_lines.specs.declared.word_groups.OpenWord.{OpenWord}
+use Rattle.script_lines.specs.declared.word_groups.OpenWord.TheVariants as opened
+use Rattle.script_lines.specs.declared.word_groups.DestroyWord.{DestroyWord}
+use Rattle.script_lines.specs.declared.word_groups.DestroyWord.TheVariants as destroy
+use Rattle.script_lines.specs.declared.word_groups.SoughtWord.{SoughtWord}
+use Rattle.script_lines.specs.declared.word_groups.SoughtWord.TheVariants as sought
+use Rattle.script_lines.specs.declared.word_groups.WaitWord.{WaitWord}
+use Rattle.script_lines.specs.declared.word_groups.WaitWord.TheVariants as wait
 use Rattle.script_lines.specs.declared.word_groups.OneWord.{OneWord}
 use Rattle.script_lines.specs.declared.word_groups.OneWord.TheVariants as one
 use Rattle.script_lines.specs.declared.word_groups.TwoWord.{TwoWord}
 use Rattle.script_lines.specs.declared.word_groups.TwoWord.TheVariants as two
-use Rattle.script_lines.specs.declared.word_groups.PlayWord.{PlayWord}
-use Rattle.script_lines.specs.declared.word_groups.PlayWord.TheVariants as play
+use Rattle.script_lines.specs.declared.word_groups.EndedWord.{EndedWord}
+use Rattle.script_lines.specs.declared.word_groups.EndedWord.TheVariants as ended
+use Rattle.script_lines.specs.declared.word_groups.SignalledWord.{SignalledWord}
+use Rattle.script_lines.specs.declared.word_groups.SignalledWord.TheVariants as signalled
 use Rattle.script_lines.specs.declared.word_groups.GroupedWord.{GroupedWord}
 use Rattle.script_lines.specs.declared.word_groups.GroupedWord.TheVariants as of
 
-abbrev pub session_word : SessionWord → LineWord
-session_word session.CreateJobs = word.CreateJobs
-session_word session.CreateReservations = word.CreateReservations
-session_word session.OpenJobs = word.OpenJobs
-session_word session.OpenReservations = word.OpenReservations
-session_word session.DestroyJobs = word.DestroyJobs
-session_word session.DestroyReservations = word.DestroyReservations
-session_word session.NamesJobs = word.NamesJobs
-session_word session.NamesReservations = word.NamesReservations
-session_word session.Monitor = word.Monitor
+abbrev pub create_word : CreateWord → LineWord
+create_word create.CreateJobs = word.CreateJobs
+create_word create.CreateReservations = word.CreateReservations
 
-abbrev pub job_word : JobWord → LineWord
-job_word job.Run = word.Run
-job_word job.Bulk = word.Bulk
-job_word job.Jobs = word.Jobs
-job_word job.AllJobs = word.AllJobs
-job_word job.WaitStarted = word.WaitStarted
-job_word job.WaitTerminated = word.WaitTerminated
-job_word job.Reserve = word.Reserve
+abbrev pub open_word : OpenWord → LineWord
+open_word opened.OpenJobs = word.OpenJobs
+open_word opened.OpenReservations = word.OpenReservations
+
+abbrev pub destroy_word : DestroyWord → LineWord
+destroy_word destroy.DestroyJobs = word.DestroyJobs
+destroy_word destroy.DestroyReservations = word.DestroyReservations
+
+abbrev pub sought_word : SoughtWord → LineWord
+sought_word sought.Jobs = word.Jobs
+sought_word sought.AllJobs = word.AllJobs
+
+abbrev pub wait_word : WaitWord → LineWord
+wait_word wait.WaitStarted = word.WaitStarted
+wait_word wait.WaitTerminated = word.WaitTerminated
 
 abbrev pub one_word : OneWord → LineWord
 one_word one.Close = word.Close
@@ -63,19 +71,31 @@ two_word two.Info = word.Info
 two_word two.Reservation = word.Reservation
 two_word two.Cancel = word.Cancel
 
-abbrev pub play_word : PlayWord → LineWord
-play_word play.Register = word.Register
-play_word play.At = word.At
-play_word play.Launch = word.Launch
-play_word play.Exit = word.Exit
-play_word play.ExitSignal = word.ExitSignal
-play_word play.Signal = word.Signal
-play_word play.SignalDone = word.SignalDone
-play_word play.SignalFailed = word.SignalFailed
+abbrev pub ended_word : EndedWord → LineWord
+ended_word ended.Exit = word.Exit
+ended_word ended.ExitSignal = word.ExitSignal
+
+abbrev pub signalled_word : SignalledWord → LineWord
+signalled_word signalled.SignalDone = word.SignalDone
+signalled_word signalled.SignalFailed = word.SignalFailed
 
 abbrev pub word_of : GroupedWord → LineWord
-word_of (of.Session w) = session_word w
-word_of (of.Job w) = job_word w
+word_of (of.Create w) = create_word w
+word_of (of.Open w) = open_word w
+word_of (of.Destroy w) = destroy_word w
+word_of of.NamesJobs = word.NamesJobs
+word_of of.NamesReservations = word.NamesReservations
+word_of of.Monitor = word.Monitor
 word_of (of.One w) = one_word w
+word_of of.Run = word.Run
+word_of of.Bulk = word.Bulk
+word_of (of.Sought w) = sought_word w
 word_of (of.Two w) = two_word w
-word_of (of.Play w) = play_word w
+word_of (of.Wait w) = wait_word w
+word_of of.Reserve = word.Reserve
+word_of of.Register = word.Register
+word_of of.At = word.At
+word_of of.Launch = word.Launch
+word_of (of.Ended w) = ended_word w
+word_of of.Signal = word.Signal
+word_of (of.Signalled w) = signalled_word w

@@ -3,8 +3,12 @@ ghost use Rattle.std.specs.Prelude.{◌≡◌, codes};
 ghost use Rattle.text_codec.specs.Fields.{always, no_more};
 ghost use Rattle.text_codec.specs.Formats.{Answers, Says, first_spelled};
 ghost use Rattle.script_lines.specs.TemplateFields as fields;
+ghost use Rattle.script_lines.specs.FieldGroups as groups;
 ghost use Rattle.script_lines.specs.declared.fields.TheConstants.{JOB_FIELD_WORDS, RESERVATION_FIELD_WORDS};
 
+use crate::field_groups::{
+    CountFieldWord, GroupedField, MomentFieldWord, TextFieldWord, field_group_of,
+};
 use crate::reading::alone;
 use crate::shapes::one_behind;
 use drmaa_types::{Attribute, Text};
@@ -255,76 +259,73 @@ fn beginning_behind(cursor: &mut Cursor) -> Result<(Beginning, ()), Unread>
     Ok((value, ()))
 }
 
+/// Reads a text.
+#[tactic(auto, unfolding(crate::specs::Shapes::text_fields))]
+fn text_field(word: TextFieldWord, cursor: &mut Cursor) -> Result<JobField, Unread>
+    ensures { Answers (fields.job_arms (groups.text_word word)) cursor.old result cursor.new }
+{
+    let (text, ()) = one_behind(cursor)?;
+    Ok(match word {
+        TextFieldWord::Command => JobField::Command(text),
+        TextFieldWord::Arg => JobField::Arg(text),
+        TextFieldWord::Directory => JobField::Directory(text),
+        TextFieldWord::Name => JobField::Name(text),
+        TextFieldWord::Input => JobField::Input(text),
+        TextFieldWord::Output => JobField::Output(text),
+        TextFieldWord::Error => JobField::Error(text),
+        TextFieldWord::Queue => JobField::Queue(text),
+    })
+}
+
+/// Reads a number of slots.
+#[tactic(auto, unfolding(crate::specs::TemplateFields::count_fields))]
+fn count_field(word: CountFieldWord, cursor: &mut Cursor) -> Result<JobField, Unread>
+    ensures { Answers (fields.job_arms (groups.count_word word)) cursor.old result cursor.new }
+{
+    let (slots, ()) = part_behind(cursor)?;
+    Ok(match word {
+        CountFieldWord::MinSlots => JobField::MinSlots(slots),
+        CountFieldWord::MaxSlots => JobField::MaxSlots(slots),
+    })
+}
+
+/// Reads a moment.
+#[tactic(auto, unfolding(crate::specs::Shapes::said_fields))]
+fn moment_field(word: MomentFieldWord, cursor: &mut Cursor) -> Result<JobField, Unread>
+    ensures { Answers (fields.job_arms (groups.moment_word word)) cursor.old result cursor.new }
+{
+    let (moment, ()) = one_behind(cursor)?;
+    Ok(match word {
+        MomentFieldWord::Start => JobField::Start(moment),
+        MomentFieldWord::Deadline => JobField::Deadline(moment),
+    })
+}
+
 /// What stands behind the word of a line.
-#[tactic(auto, unfolding(crate::specs::Shapes::text_fields, crate::specs::Shapes::said_fields, crate::specs::TemplateFields::variable_fields, crate::specs::TemplateFields::count_fields, crate::specs::TemplateFields::integer_fields, crate::specs::TemplateFields::limit_fields))]
+#[tactic(auto, unfolding(crate::specs::TemplateFields::variable_fields, crate::specs::TemplateFields::integer_fields, crate::specs::TemplateFields::limit_fields))]
 fn behind_job_word(word: JobFieldWord, cursor: &mut Cursor) -> Result<JobField, Unread>
     ensures { Answers (fields.job_arms word) cursor.old result cursor.new }
 {
-    match word {
-        JobFieldWord::Command => {
-            let (text, ()) = one_behind(cursor)?;
-            Ok(JobField::Command(text))
-        }
-        JobFieldWord::Arg => {
-            let (text, ()) = one_behind(cursor)?;
-            Ok(JobField::Arg(text))
-        }
-        JobFieldWord::Hold => Ok(JobField::Hold),
-        JobFieldWord::Rerunnable => Ok(JobField::Rerunnable),
-        JobFieldWord::Env => {
+    match field_group_of(word) {
+        GroupedField::Text(word) => text_field(word, cursor),
+        GroupedField::Hold => Ok(JobField::Hold),
+        GroupedField::Rerunnable => Ok(JobField::Rerunnable),
+        GroupedField::Env => {
             let (variable, ()) = part_behind(cursor)?;
             Ok(JobField::Env(variable))
         }
-        JobFieldWord::Directory => {
-            let (text, ()) = one_behind(cursor)?;
-            Ok(JobField::Directory(text))
-        }
-        JobFieldWord::Name => {
-            let (text, ()) = one_behind(cursor)?;
-            Ok(JobField::Name(text))
-        }
-        JobFieldWord::Input => {
-            let (text, ()) = one_behind(cursor)?;
-            Ok(JobField::Input(text))
-        }
-        JobFieldWord::Output => {
-            let (text, ()) = one_behind(cursor)?;
-            Ok(JobField::Output(text))
-        }
-        JobFieldWord::Error => {
-            let (text, ()) = one_behind(cursor)?;
-            Ok(JobField::Error(text))
-        }
-        JobFieldWord::Join => Ok(JobField::Join),
-        JobFieldWord::Queue => {
-            let (text, ()) = one_behind(cursor)?;
-            Ok(JobField::Queue(text))
-        }
-        JobFieldWord::MinSlots => {
-            let (slots, ()) = part_behind(cursor)?;
-            Ok(JobField::MinSlots(slots))
-        }
-        JobFieldWord::MaxSlots => {
-            let (slots, ()) = part_behind(cursor)?;
-            Ok(JobField::MaxSlots(slots))
-        }
-        JobFieldWord::Priority => {
+        GroupedField::Join => Ok(JobField::Join),
+        GroupedField::Count(word) => count_field(word, cursor),
+        GroupedField::Priority => {
             let (priority, ()) = part_behind(cursor)?;
             Ok(JobField::Priority(priority))
         }
-        JobFieldWord::Start => {
-            let (moment, ()) = one_behind(cursor)?;
-            Ok(JobField::Start(moment))
-        }
-        JobFieldWord::Deadline => {
-            let (moment, ()) = one_behind(cursor)?;
-            Ok(JobField::Deadline(moment))
-        }
-        JobFieldWord::Limit => {
+        GroupedField::Moment(word) => moment_field(word, cursor),
+        GroupedField::Limit => {
             let (limit, ()) = part_behind(cursor)?;
             Ok(JobField::Limit(limit))
         }
-        JobFieldWord::Other => {
+        GroupedField::Other => {
             let (attribute, ()) = other_behind(cursor)?;
             Ok(JobField::Other(attribute))
         }

@@ -5,7 +5,7 @@ ghost use Rattle.script_lines.specs.Shapes as shapes;
 
 use crate::{Filter, Ref};
 use drmaa_types::{JobState, Text};
-use text_codec::{Cursor, Form, Unread, read_set};
+use text_codec::{Cursor, Unread, read_set};
 use text_dates::Said;
 
 /// The last items of a filter.
@@ -50,7 +50,7 @@ fn standing_behind(cursor: &mut Cursor) -> Result<Standing, Unread>
 }
 
 #[tactic(auto, unfolding(crate::specs::Shapes::filter_fields, text_codec::specs::Fields::field))]
-fn filter_behind(cursor: &mut Cursor) -> Result<Filters, Unread>
+pub(crate) fn filter_behind(cursor: &mut Cursor) -> Result<Filters, Unread>
     ensures { Answers shapes.filter_fields.body.read cursor.old result cursor.new }
 {
     let job = read_set(cursor, b" id=")?;
@@ -77,14 +77,4 @@ pub(crate) fn made_filter(items: Filters) -> Filter
         dispatched,
         finished,
     }
-}
-
-#[tactic(auto, unfolding(crate::specs::Shapes::jobs_fields, text_codec::specs::Fields::always))]
-pub(crate) fn jobs_behind(cursor: &mut Cursor) -> Result<(Ref, Filters), Unread>
-    ensures { Answers shapes.jobs_fields.body.read cursor.old result cursor.new }
-{
-    cursor.expect(b" ")?;
-    let session = Ref::read(cursor)?;
-    let items = filter_behind(cursor)?;
-    Ok((session, items))
 }

@@ -2,11 +2,15 @@
 #![tactic(auto)]
 
 mod draft;
+mod field_groups;
 mod fields;
 mod filters;
+mod job_lines;
 mod lines;
+mod play_lines;
 mod reading;
 mod refs;
+mod session_lines;
 mod shapes;
 mod word_groups;
 mod words;

@@ -5,123 +5,14 @@ ghost use Rattle.text_codec.specs.Formats as form;
 ghost use Rattle.script_lines.specs.Lines as lines;
 ghost use Rattle.script_lines.specs.WordGroups as groups;
 
-use crate::filters::{jobs_behind, made_filter};
-use crate::shapes::{
-    bulk_behind, create_behind, exit_behind, kind_behind, name_behind, one_behind, open_behind,
-    reserve_behind, run_behind, two_behind, wait_behind,
-};
-use crate::word_groups::{GroupedWord, JobWord, OneWord, PlayWord, SessionWord, TwoWord, group_of};
+use crate::job_lines::{bulk_line, reserve_line, run_line, sought_line, wait_line};
+use crate::play_lines::{at_line, ended_line, signalled_line};
+use crate::session_lines::{create_line, destroy_line, monitor_line, open_line};
+use crate::shapes::{one_behind, two_behind};
+use crate::word_groups::{GroupedWord, OneWord, TwoWord, group_of};
 use crate::{Line, LineWord, line_word_of};
 use std::alloc::Global;
 use text_codec::{Cursor, Unread};
-
-/// What stands behind the word of a line that makes, opens, destroys or names sessions.
-#[tactic(auto, unfolding(crate::specs::Shapes::text_fields))]
-fn session_line(word: SessionWord, cursor: &mut Cursor) -> Result<Line, Unread>
-    ensures { Answers (lines.line_arms (groups.session_word word)) cursor.old result cursor.new }
-{
-    match word {
-        SessionWord::CreateJobs => {
-            let (name, (session, ())) = create_behind(cursor)?;
-            Ok(Line::CreateJobs { name, session })
-        }
-        SessionWord::CreateReservations => {
-            let (name, (session, ())) = create_behind(cursor)?;
-            Ok(Line::CreateReservations { name, session })
-        }
-        SessionWord::OpenJobs => {
-            let (name, (session, ())) = open_behind(cursor)?;
-            Ok(Line::OpenJobs { name, session })
-        }
-        SessionWord::OpenReservations => {
-            let (name, (session, ())) = open_behind(cursor)?;
-            Ok(Line::OpenReservations { name, session })
-        }
-        SessionWord::DestroyJobs => {
-            let (session, ()) = one_behind(cursor)?;
-            Ok(Line::DestroyJobs { session })
-        }
-        SessionWord::DestroyReservations => {
-            let (session, ()) = one_behind(cursor)?;
-            Ok(Line::DestroyReservations { session })
-        }
-        SessionWord::NamesJobs => Ok(Line::NamesJobs),
-        SessionWord::NamesReservations => Ok(Line::NamesReservations),
-        SessionWord::Monitor => {
-            let (name, ()) = name_behind(cursor)?;
-            Ok(Line::Monitor { name })
-        }
-    }
-}
-
-/// What stands behind the word of a line that runs jobs, lists them or waits for them, or that books slots.
-fn job_line(word: JobWord, cursor: &mut Cursor) -> Result<Line, Unread>
-    ensures { Answers (lines.line_arms (groups.job_word word)) cursor.old result cursor.new }
-{
-    match word {
-        JobWord::Run => {
-            let (name, (session, (template, (reserved, ())))) = run_behind(cursor)?;
-            Ok(Line::Run {
-                name,
-                session,
-                template,
-                reserved,
-            })
-        }
-        JobWord::Bulk => {
-            let (name, (session, (template, (begin, (end, (step, (bound, (reserved, ())))))))) =
-                bulk_behind(cursor)?;
-            Ok(Line::Bulk {
-                name,
-                session,
-                template,
-                begin,
-                end,
-                step,
-                bound,
-                reserved,
-            })
-        }
-        JobWord::Jobs => {
-            let (session, items) = jobs_behind(cursor)?;
-            Ok(Line::Jobs {
-                session,
-                filter: made_filter(items),
-            })
-        }
-        JobWord::AllJobs => {
-            let (session, items) = jobs_behind(cursor)?;
-            Ok(Line::AllJobs {
-                session,
-                filter: made_filter(items),
-            })
-        }
-        JobWord::WaitStarted => {
-            let (session, (timeout, (jobs, ()))) = wait_behind(cursor)?;
-            Ok(Line::WaitStarted {
-                session,
-                timeout,
-                jobs,
-            })
-        }
-        JobWord::WaitTerminated => {
-            let (session, (timeout, (jobs, ()))) = wait_behind(cursor)?;
-            Ok(Line::WaitTerminated {
-                session,
-                timeout,
-                jobs,
-            })
-        }
-        JobWord::Reserve => {
-            let (name, (session, (template, ()))) = reserve_behind(cursor)?;
-            Ok(Line::Reserve {
-                name,
-                session,
-                template,
-            })
-        }
-    }
-}
 
 /// The reference that stands behind such a word.
 #[tactic(auto, unfolding(crate::specs::Shapes::ref_fields))]
@@ -218,48 +109,30 @@ fn two_line(word: TwoWord, cursor: &mut Cursor) -> Result<Line, Unread>
     })
 }
 
-/// What stands behind the word of a play's moment, or of what its launcher or its reaper does or reports.
-#[tactic(auto, unfolding(crate::specs::Shapes::said_fields))]
-fn play_line(word: PlayWord, cursor: &mut Cursor) -> Result<Line, Unread>
-    ensures { Answers (lines.line_arms (groups.play_word word)) cursor.old result cursor.new }
-{
-    match word {
-        PlayWord::Register => Ok(Line::Register),
-        PlayWord::At => {
-            let (moment, ()) = one_behind(cursor)?;
-            Ok(Line::At { moment })
-        }
-        PlayWord::Launch => Ok(Line::Launch),
-        PlayWord::Exit => {
-            let (job, (code, ())) = exit_behind(cursor)?;
-            Ok(Line::Exit { job, code })
-        }
-        PlayWord::ExitSignal => {
-            let (job, (signal, ())) = exit_behind(cursor)?;
-            Ok(Line::ExitSignal { job, signal })
-        }
-        PlayWord::Signal => Ok(Line::Signal),
-        PlayWord::SignalDone => {
-            let (job, (kind, ())) = kind_behind(cursor)?;
-            Ok(Line::SignalDone { job, kind })
-        }
-        PlayWord::SignalFailed => {
-            let (job, (kind, ())) = kind_behind(cursor)?;
-            Ok(Line::SignalFailed { job, kind })
-        }
-    }
-}
-
 /// What stands behind the word of a client line.
 fn behind_word(word: LineWord, cursor: &mut Cursor) -> Result<Line, Unread>
     ensures { Answers (lines.line_arms word) cursor.old result cursor.new }
 {
     match group_of(word) {
-        GroupedWord::Session(word) => session_line(word, cursor),
-        GroupedWord::Job(word) => job_line(word, cursor),
+        GroupedWord::Create(word) => create_line(word, cursor),
+        GroupedWord::Open(word) => open_line(word, cursor),
+        GroupedWord::Destroy(word) => destroy_line(word, cursor),
+        GroupedWord::NamesJobs => Ok(Line::NamesJobs),
+        GroupedWord::NamesReservations => Ok(Line::NamesReservations),
+        GroupedWord::Monitor => monitor_line(cursor),
         GroupedWord::One(word) => one_line(word, cursor),
+        GroupedWord::Run => run_line(cursor),
+        GroupedWord::Bulk => bulk_line(cursor),
+        GroupedWord::Sought(word) => sought_line(word, cursor),
         GroupedWord::Two(word) => two_line(word, cursor),
-        GroupedWord::Play(word) => play_line(word, cursor),
+        GroupedWord::Wait(word) => wait_line(word, cursor),
+        GroupedWord::Reserve => reserve_line(cursor),
+        GroupedWord::Register => Ok(Line::Register),
+        GroupedWord::At => at_line(cursor),
+        GroupedWord::Launch => Ok(Line::Launch),
+        GroupedWord::Ended(word) => ended_line(word, cursor),
+        GroupedWord::Signal => Ok(Line::Signal),
+        GroupedWord::Signalled(word) => signalled_line(word, cursor),
     }
 }
 

@@ -4,30 +4,39 @@ ghost use Rattle.script_lines.specs.WordGroups as groups;
 
 use crate::LineWord;
 
-/// The words of lines that make, open, destroy and name sessions.
+/// The words of lines that make sessions.
 #[derive(Clone, Copy)]
-pub(crate) enum SessionWord {
+pub(crate) enum CreateWord {
     CreateJobs,
     CreateReservations,
-    OpenJobs,
-    OpenReservations,
-    DestroyJobs,
-    DestroyReservations,
-    NamesJobs,
-    NamesReservations,
-    Monitor,
 }
 
-/// The words of lines that run jobs, list them and wait for them, and of one that books slots.
+/// The words of lines that open sessions.
 #[derive(Clone, Copy)]
-pub(crate) enum JobWord {
-    Run,
-    Bulk,
+pub(crate) enum OpenWord {
+    OpenJobs,
+    OpenReservations,
+}
+
+/// The words of lines that destroy sessions.
+#[derive(Clone, Copy)]
+pub(crate) enum DestroyWord {
+    DestroyJobs,
+    DestroyReservations,
+}
+
+/// The words behind which a session stands, and a filter.
+#[derive(Clone, Copy)]
+pub(crate) enum SoughtWord {
     Jobs,
     AllJobs,
+}
+
+/// The words of waits.
+#[derive(Clone, Copy)]
+pub(crate) enum WaitWord {
     WaitStarted,
     WaitTerminated,
-    Reserve,
 }
 
 /// The words behind which one reference stands.
@@ -65,26 +74,41 @@ pub(crate) enum TwoWord {
     Cancel,
 }
 
-/// The words of a play's moments, and of what its launcher and its reaper do and report.
+/// The words behind which a job stands, and how it ended.
 #[derive(Clone, Copy)]
-pub(crate) enum PlayWord {
-    Register,
-    At,
-    Launch,
+pub(crate) enum EndedWord {
     Exit,
     ExitSignal,
-    Signal,
+}
+
+/// The words behind which a job stands, and the kind of a signal.
+#[derive(Clone, Copy)]
+pub(crate) enum SignalledWord {
     SignalDone,
     SignalFailed,
 }
 
-/// A word in its group.
+/// A word in its group, or by itself.
 pub(crate) enum GroupedWord {
-    Session(SessionWord),
-    Job(JobWord),
+    Create(CreateWord),
+    Open(OpenWord),
+    Destroy(DestroyWord),
+    NamesJobs,
+    NamesReservations,
+    Monitor,
     One(OneWord),
+    Run,
+    Bulk,
+    Sought(SoughtWord),
     Two(TwoWord),
-    Play(PlayWord),
+    Wait(WaitWord),
+    Reserve,
+    Register,
+    At,
+    Launch,
+    Ended(EndedWord),
+    Signal,
+    Signalled(SignalledWord),
 }
 
 /// The word in its group.
@@ -92,19 +116,19 @@ pub(crate) fn group_of(word: LineWord) -> GroupedWord
     ensures { groups.word_of result ≡ word }
 {
     match word {
-        LineWord::CreateJobs => GroupedWord::Session(SessionWord::CreateJobs),
-        LineWord::CreateReservations => GroupedWord::Session(SessionWord::CreateReservations),
-        LineWord::OpenJobs => GroupedWord::Session(SessionWord::OpenJobs),
-        LineWord::OpenReservations => GroupedWord::Session(SessionWord::OpenReservations),
-        LineWord::DestroyJobs => GroupedWord::Session(SessionWord::DestroyJobs),
-        LineWord::DestroyReservations => GroupedWord::Session(SessionWord::DestroyReservations),
-        LineWord::NamesJobs => GroupedWord::Session(SessionWord::NamesJobs),
-        LineWord::NamesReservations => GroupedWord::Session(SessionWord::NamesReservations),
-        LineWord::Monitor => GroupedWord::Session(SessionWord::Monitor),
+        LineWord::CreateJobs => GroupedWord::Create(CreateWord::CreateJobs),
+        LineWord::CreateReservations => GroupedWord::Create(CreateWord::CreateReservations),
+        LineWord::OpenJobs => GroupedWord::Open(OpenWord::OpenJobs),
+        LineWord::OpenReservations => GroupedWord::Open(OpenWord::OpenReservations),
+        LineWord::DestroyJobs => GroupedWord::Destroy(DestroyWord::DestroyJobs),
+        LineWord::DestroyReservations => GroupedWord::Destroy(DestroyWord::DestroyReservations),
+        LineWord::NamesJobs => GroupedWord::NamesJobs,
+        LineWord::NamesReservations => GroupedWord::NamesReservations,
+        LineWord::Monitor => GroupedWord::Monitor,
         LineWord::Close => GroupedWord::One(OneWord::Close),
-        LineWord::Run => GroupedWord::Job(JobWord::Run),
-        LineWord::Bulk => GroupedWord::Job(JobWord::Bulk),
-        LineWord::Jobs => GroupedWord::Job(JobWord::Jobs),
+        LineWord::Run => GroupedWord::Run,
+        LineWord::Bulk => GroupedWord::Bulk,
+        LineWord::Jobs => GroupedWord::Sought(SoughtWord::Jobs),
         LineWord::Array => GroupedWord::Two(TwoWord::Array),
         LineWord::Suspend => GroupedWord::Two(TwoWord::Suspend),
         LineWord::Resume => GroupedWord::Two(TwoWord::Resume),
@@ -120,26 +144,26 @@ pub(crate) fn group_of(word: LineWord) -> GroupedWord
         LineWord::ReapArray => GroupedWord::Two(TwoWord::ReapArray),
         LineWord::State => GroupedWord::Two(TwoWord::State),
         LineWord::Info => GroupedWord::Two(TwoWord::Info),
-        LineWord::WaitStarted => GroupedWord::Job(JobWord::WaitStarted),
-        LineWord::WaitTerminated => GroupedWord::Job(JobWord::WaitTerminated),
-        LineWord::Reserve => GroupedWord::Job(JobWord::Reserve),
+        LineWord::WaitStarted => GroupedWord::Wait(WaitWord::WaitStarted),
+        LineWord::WaitTerminated => GroupedWord::Wait(WaitWord::WaitTerminated),
+        LineWord::Reserve => GroupedWord::Reserve,
         LineWord::Reservation => GroupedWord::Two(TwoWord::Reservation),
         LineWord::Reservations => GroupedWord::One(OneWord::Reservations),
         LineWord::Cancel => GroupedWord::Two(TwoWord::Cancel),
-        LineWord::AllJobs => GroupedWord::Job(JobWord::AllJobs),
+        LineWord::AllJobs => GroupedWord::Sought(SoughtWord::AllJobs),
         LineWord::AllReservations => GroupedWord::One(OneWord::AllReservations),
         LineWord::Queues => GroupedWord::One(OneWord::Queues),
         LineWord::Machines => GroupedWord::One(OneWord::Machines),
-        LineWord::Register => GroupedWord::Play(PlayWord::Register),
-        LineWord::At => GroupedWord::Play(PlayWord::At),
-        LineWord::Launch => GroupedWord::Play(PlayWord::Launch),
+        LineWord::Register => GroupedWord::Register,
+        LineWord::At => GroupedWord::At,
+        LineWord::Launch => GroupedWord::Launch,
         LineWord::Started => GroupedWord::One(OneWord::Started),
         LineWord::StartFailed => GroupedWord::One(OneWord::StartFailed),
-        LineWord::Exit => GroupedWord::Play(PlayWord::Exit),
-        LineWord::ExitSignal => GroupedWord::Play(PlayWord::ExitSignal),
+        LineWord::Exit => GroupedWord::Ended(EndedWord::Exit),
+        LineWord::ExitSignal => GroupedWord::Ended(EndedWord::ExitSignal),
         LineWord::ExitUnknown => GroupedWord::One(OneWord::ExitUnknown),
-        LineWord::Signal => GroupedWord::Play(PlayWord::Signal),
-        LineWord::SignalDone => GroupedWord::Play(PlayWord::SignalDone),
-        LineWord::SignalFailed => GroupedWord::Play(PlayWord::SignalFailed),
+        LineWord::Signal => GroupedWord::Signal,
+        LineWord::SignalDone => GroupedWord::Signalled(SignalledWord::SignalDone),
+        LineWord::SignalFailed => GroupedWord::Signalled(SignalledWord::SignalFailed),
     }
 }
