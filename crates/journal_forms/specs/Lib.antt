@@ -1,4 +1,5 @@
 pub mod Calls
+pub mod WordGroups
 pub mod CallLaws
 pub mod Replies
 pub mod ReplyLaws

@@ -1,66 +1,65 @@
-//! Calls that control and reap jobs and arrays.
+//! Calls that control, reap and ask for jobs and arrays.
 ghost use Rattle.std.specs.Prelude.{◌≡◌, ◌++◌, OnOk};
 ghost use Rattle.drmaa_model.specs.declared.calls.Call.TheVariants as call;
-ghost use Rattle.drmaa_model.specs.declared.calls.Target.TheVariants as target;
 ghost use Rattle.text_codec.specs.Formats.{Answers};
-ghost use Rattle.text_codec.specs.Sums.{arm};
 ghost use Rattle.text_forms.specs.Templates.{any_template, template, any_frame, frame};
 ghost use Rattle.journal_forms.specs.Calls as calls;
+ghost use Rattle.journal_forms.specs.WordGroups as groups;
 ghost use Rattle.journal_forms.specs.Calls.{call_form};
-ghost use Rattle.text_words.specs.declared.call_words.CallWord.TheVariants as word;
 
 use crate::fields::{push_two, two};
+use crate::word_groups::{ArrayWord, JobWord};
 use drmaa_model::{Call, Target};
 use drmaa_types::{Control, SessionId};
 use std::alloc::AllocError;
 use text_codec::{Cursor, Unread};
 use text_words::{CallWord, spell_call_word};
 
-/// Reads the fields of a control of a job.
+/// A control of what a session has.
+fn control(session: SessionId, target: Target, what: Control) -> Call
+    ensures { result ≡ call.Control session target what }
+{
+    Call::Control {
+        session,
+        target,
+        what,
+    }
+}
+
+/// Reads a session and a job.
 #[tactic(auto, unfolding(crate::specs::Calls::of_job))]
-pub(crate) fn control_at(cursor: &mut Cursor, what: Control) -> Result<Call, Unread>
-    ensures { Answers (arm calls.of_job (λ p. call.Control p.0 (target.Job p.1) what)) cursor.old result cursor.new }
+pub(crate) fn job_at(cursor: &mut Cursor, word: JobWord) -> Result<Call, Unread>
+    ensures { Answers (calls.call_arms template frame (groups.job_word word)) cursor.old result cursor.new }
 {
     let (session, job) = two(cursor)?;
-    Ok(Call::Control {
-        session,
-        target: Target::Job(job),
-        what,
+    let target = Target::Job(job);
+    Ok(match word {
+        JobWord::Suspend => control(session, target, Control::Suspend),
+        JobWord::Resume => control(session, target, Control::Resume),
+        JobWord::Hold => control(session, target, Control::Hold),
+        JobWord::Release => control(session, target, Control::Release),
+        JobWord::Terminate => control(session, target, Control::Terminate),
+        JobWord::Reap => Call::Reap { session, target },
+        JobWord::State => Call::GetState { session, job },
+        JobWord::Info => Call::GetInfo { session, job },
     })
 }
 
-/// Reads the fields of a control of an array.
+/// Reads a session and an array.
 #[tactic(auto, unfolding(crate::specs::Calls::of_array))]
-pub(crate) fn array_control_at(cursor: &mut Cursor, what: Control) -> Result<Call, Unread>
-    ensures { Answers (arm calls.of_array (λ p. call.Control p.0 (target.Array p.1) what)) cursor.old result cursor.new }
+pub(crate) fn array_at(cursor: &mut Cursor, word: ArrayWord) -> Result<Call, Unread>
+    ensures { Answers (calls.call_arms template frame (groups.array_word word)) cursor.old result cursor.new }
 {
     let (session, array) = two(cursor)?;
-    Ok(Call::Control {
-        session,
-        target: Target::Array(array),
-        what,
-    })
-}
-
-#[tactic(auto, unfolding(crate::specs::Calls::of_job))]
-pub(crate) fn reap_at(cursor: &mut Cursor) -> Result<Call, Unread>
-    ensures { Answers (calls.call_arms template frame word.Reap) cursor.old result cursor.new }
-{
-    let (session, job) = two(cursor)?;
-    Ok(Call::Reap {
-        session,
-        target: Target::Job(job),
-    })
-}
-
-#[tactic(auto, unfolding(crate::specs::Calls::of_array))]
-pub(crate) fn reap_array_at(cursor: &mut Cursor) -> Result<Call, Unread>
-    ensures { Answers (calls.call_arms template frame word.ReapArray) cursor.old result cursor.new }
-{
-    let (session, array) = two(cursor)?;
-    Ok(Call::Reap {
-        session,
-        target: Target::Array(array),
+    let target = Target::Array(array);
+    Ok(match word {
+        ArrayWord::Array => Call::GetJobArray { session, array },
+        ArrayWord::SuspendArray => control(session, target, Control::Suspend),
+        ArrayWord::ResumeArray => control(session, target, Control::Resume),
+        ArrayWord::HoldArray => control(session, target, Control::Hold),
+        ArrayWord::ReleaseArray => control(session, target, Control::Release),
+        ArrayWord::TerminateArray => control(session, target, Control::Terminate),
+        ArrayWord::ReapArray => Call::Reap { session, target },
     })
 }
 

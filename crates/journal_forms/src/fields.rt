@@ -1,12 +1,12 @@
-//! Fields of calls and replies: one to three values, each behind a space.
+//! Fields of calls and replies: one to three values, or a list, each behind a space.
 ghost use Rattle.std.specs.Prelude.{◌≡◌, ◌++◌, OnOk};
-ghost use Rattle.text_codec.specs.Formats.{Answers, pair};
+ghost use Rattle.text_codec.specs.Formats.{Answers, list_of, pair};
 ghost use Rattle.text_codec.specs.Sums.{arm, keyed};
 
-use drmaa_types::Boxed;
+use drmaa_types::{Boxed, ListOf};
 use std::alloc::AllocError;
 use text_codec::{Cursor, Unread};
-use text_words::{PrintForm, ReadForm, push_behind};
+use text_words::{PrintForm, ReadForm, push_behind, read_list};
 
 /// Reads one value.
 pub(crate) fn one<A: ReadForm>(cursor: &mut Cursor) -> Result<A, Unread>
@@ -25,15 +25,21 @@ pub(crate) fn boxed<A: ReadForm + Drop>(cursor: &mut Cursor) -> Result<Boxed<A>,
     Ok(Boxed::new(cursor.alloc(), value)?)
 }
 
+/// Reads a list.
+pub(crate) fn listed<A: ReadForm>(cursor: &mut Cursor) -> Result<ListOf<A>, Unread>
+    ensures { Answers (arm (list_of A.form) (λ x. x)) cursor.old result cursor.new }
+{
+    cursor.expect(b" ")?;
+    read_list(cursor)
+}
+
 /// Reads two values.
 #[tactic(auto, unfolding(text_codec::specs::Formats::pair))]
 pub(crate) fn two<A: ReadForm, B: ReadForm>(cursor: &mut Cursor) -> Result<(A, B), Unread>
     ensures { Answers (arm (pair A.form B.form) (λ x. x)) cursor.old result cursor.new }
 {
-    cursor.expect(b" ")?;
-    let first = A::read(cursor)?;
-    cursor.expect(b" ")?;
-    let second = B::read(cursor)?;
+    let first = one(cursor)?;
+    let second = one(cursor)?;
     Ok((first, second))
 }
 
@@ -44,13 +50,9 @@ pub(crate) fn three<A: ReadForm, B: ReadForm, C: ReadForm>(
 ) -> Result<(A, (B, C)), Unread>
     ensures { Answers (arm (pair A.form (pair B.form C.form)) (λ x. x)) cursor.old result cursor.new }
 {
-    cursor.expect(b" ")?;
-    let first = A::read(cursor)?;
-    cursor.expect(b" ")?;
-    let second = B::read(cursor)?;
-    cursor.expect(b" ")?;
-    let third = C::read(cursor)?;
-    Ok((first, (second, third)))
+    let first = one(cursor)?;
+    let others = two(cursor)?;
+    Ok((first, others))
 }
 
 /// Prints a word and one value.

@@ -1,18 +1,20 @@
 //! Calls for jobs: run, asked for and waited for.
-ghost use Rattle.std.specs.Prelude.{◌≡◌, ◌++◌, OnOk};
+ghost use Rattle.std.specs.Prelude.{◌≡◌, ◌++◌, ◌^◌, OnOk};
 ghost use Rattle.drmaa_model.specs.declared.calls.Call.TheVariants as call;
-ghost use Rattle.text_codec.specs.Formats.{Answers, pair};
+ghost use Rattle.text_codec.specs.Formats.{Answers, list_of, number, pair};
 ghost use Rattle.drmaa_model.specs.KeptCalls.{kept};
 ghost use Rattle.text_codec.specs.Sums.{arm, keyed, fielded};
 ghost use Rattle.text_forms.specs.Filters.{filter_parts};
 ghost use Rattle.text_forms.specs.Templates.{any_template, template, any_frame, frame};
 ghost use Rattle.journal_forms.specs.Calls as calls;
+ghost use Rattle.journal_forms.specs.WordGroups as groups;
 ghost use Rattle.journal_forms.specs.Calls.{call_form};
 ghost use Rattle.text_words.specs.declared.call_words.CallWord.TheVariants as word;
 
 use crate::fields::{one, push_one, push_two, two};
+use crate::word_groups::SoughtWord;
 use drmaa_model::{Call, Indices};
-use drmaa_types::{JobFilter, Moment, SessionId, Timeout, WaitKind};
+use drmaa_types::{JobFilter, ListOf, Moment, SessionId, Timeout, WaitKind};
 use job_template::JobTemplate;
 use std::alloc::AllocError;
 use text_codec::{Cursor, Unread, push_number};
@@ -47,10 +49,7 @@ fn indices_at(cursor: &mut Cursor) -> Result<Indices, Unread>
     ensures { Answers calls.indices.read cursor.old result cursor.new }
 {
     let begin = cursor.u32()?;
-    cursor.expect(b" ")?;
-    let end = cursor.u32()?;
-    cursor.expect(b" ")?;
-    let step = cursor.u32()?;
+    let (end, step) = two(cursor)?;
     cursor.expect(b" ")?;
     let bound = bound_at(cursor)?;
     Ok(Indices {
@@ -61,14 +60,13 @@ fn indices_at(cursor: &mut Cursor) -> Result<Indices, Unread>
     })
 }
 
-#[tactic(auto, unfolding(crate::specs::Calls::running, text_codec::specs::Formats::pair))]
-pub(crate) fn run_at(cursor: &mut Cursor) -> Result<Call, Unread>
-    ensures { Answers (calls.call_arms template frame word.Run) cursor.old result cursor.new }
+/// Reads the indices of an array behind a space, and gives them with what was read before.
+fn with_indices<T: Drop>(cursor: &mut Cursor, first: T) -> Result<(T, Indices), Unread>
+    ensures { Answers (arm calls.indices (λ i. (first, i))) cursor.old result cursor.new }
 {
-    let session = one(cursor)?;
     cursor.expect(b" ")?;
-    let template = read_template(cursor)?;
-    Ok(Call::RunJob { session, template })
+    let indices = indices_at(cursor)?;
+    Ok((first, indices))
 }
 
 /// Reads the template and the indices of an array.
@@ -77,9 +75,17 @@ fn members_at(cursor: &mut Cursor) -> Result<(JobTemplate, Indices), Unread>
     ensures { Answers (pair template calls.indices).read cursor.old result cursor.new }
 {
     let template = read_template(cursor)?;
+    with_indices(cursor, template)
+}
+
+#[tactic(auto, unfolding(crate::specs::Calls::running, text_codec::specs::Formats::pair))]
+pub(crate) fn run_at(cursor: &mut Cursor) -> Result<Call, Unread>
+    ensures { Answers (calls.call_arms template frame word.Run) cursor.old result cursor.new }
+{
+    let session = one(cursor)?;
     cursor.expect(b" ")?;
-    let indices = indices_at(cursor)?;
-    Ok((template, indices))
+    let template = read_template(cursor)?;
+    Ok(Call::RunJob { session, template })
 }
 
 #[tactic(auto, unfolding(crate::specs::Calls::bulk, text_codec::specs::Formats::pair))]
@@ -96,37 +102,28 @@ pub(crate) fn bulk_at(cursor: &mut Cursor) -> Result<Call, Unread>
     })
 }
 
+/// Reads a session and the items of a filter.
 #[tactic(auto, unfolding(crate::specs::Calls::sought, text_codec::specs::Fields::always))]
-pub(crate) fn jobs_at(cursor: &mut Cursor) -> Result<Call, Unread>
-    ensures { Answers (calls.call_arms template frame word.Jobs) cursor.old result cursor.new }
+pub(crate) fn sought_at(cursor: &mut Cursor, word: SoughtWord) -> Result<Call, Unread>
+    ensures { Answers (calls.call_arms template frame (groups.sought_word word)) cursor.old result cursor.new }
 {
     let session = one(cursor)?;
     let filter = read_filter(cursor)?;
-    Ok(Call::GetJobs { session, filter })
+    Ok(match word {
+        SoughtWord::Jobs => Call::GetJobs { session, filter },
+        SoughtWord::AllJobs => Call::AllJobs { session, filter },
+    })
 }
 
-#[tactic(auto, unfolding(crate::specs::Calls::of_array))]
-pub(crate) fn array_at(cursor: &mut Cursor) -> Result<Call, Unread>
-    ensures { Answers (calls.call_arms template frame word.Array) cursor.old result cursor.new }
+/// Reads how long a wait may last, and the jobs that are waited for.
+#[tactic(auto, unfolding(text_codec::specs::Formats::pair))]
+fn lasting_at(cursor: &mut Cursor) -> Result<(Timeout, ListOf<u64>), Unread>
+    ensures { Answers (pair calls.timeout (list_of (number (2 ^ 64)))).read cursor.old result cursor.new }
 {
-    let (session, array) = two(cursor)?;
-    Ok(Call::GetJobArray { session, array })
-}
-
-#[tactic(auto, unfolding(crate::specs::Calls::of_job))]
-pub(crate) fn state_at(cursor: &mut Cursor) -> Result<Call, Unread>
-    ensures { Answers (calls.call_arms template frame word.State) cursor.old result cursor.new }
-{
-    let (session, job) = two(cursor)?;
-    Ok(Call::GetState { session, job })
-}
-
-#[tactic(auto, unfolding(crate::specs::Calls::of_job))]
-pub(crate) fn info_at(cursor: &mut Cursor) -> Result<Call, Unread>
-    ensures { Answers (calls.call_arms template frame word.Info) cursor.old result cursor.new }
-{
-    let (session, job) = two(cursor)?;
-    Ok(Call::GetInfo { session, job })
+    let timeout = timeout_at(cursor)?;
+    cursor.expect(b" ")?;
+    let jobs = read_list(cursor)?;
+    Ok((timeout, jobs))
 }
 
 /// Reads the fields of a wait.
@@ -134,13 +131,9 @@ pub(crate) fn info_at(cursor: &mut Cursor) -> Result<Call, Unread>
 pub(crate) fn wait_at(cursor: &mut Cursor, kind: WaitKind) -> Result<Call, Unread>
     ensures { Answers (arm calls.waiting (λ p. call.Wait p.0 p.1.1.1 kind p.1.0 p.1.1.0)) cursor.old result cursor.new }
 {
-    let session = one(cursor)?;
+    let (session, begun) = two(cursor)?;
     cursor.expect(b" ")?;
-    let begun = cursor.moment()?;
-    cursor.expect(b" ")?;
-    let timeout = timeout_at(cursor)?;
-    cursor.expect(b" ")?;
-    let jobs = read_list(cursor)?;
+    let (timeout, jobs) = lasting_at(cursor)?;
     Ok(Call::Wait {
         session,
         jobs,

@@ -12,6 +12,7 @@ mod reply_words;
 mod report_calls;
 mod reservation_calls;
 mod session_calls;
+mod word_groups;
 
 pub use call_printing::push_call;
 pub use calls::read_call;

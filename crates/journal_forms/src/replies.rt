@@ -4,95 +4,13 @@ ghost use Rattle.text_codec.specs.Formats.{Answers};
 ghost use Rattle.journal_forms.specs.Replies as replies;
 ghost use Rattle.journal_forms.specs.declared.reply_words.ReplyWord.TheVariants as told;
 
-use crate::fields::{boxed, one, three};
+use crate::fields::{boxed, listed, one, three};
 use crate::{ReplyWord, reply_word_of};
 use drmaa_model::{Launch, Reply, Signal};
 use drmaa_types::{MachineInfo, Reserved};
 use text_codec::{Cursor, Unread};
 use text_forms::read_refusal;
 use text_words::read_list;
-
-fn session_at(cursor: &mut Cursor) -> Result<Reply, Unread>
-    ensures { Answers (replies.reply_arms told.Session) cursor.old result cursor.new }
-{
-    Ok(Reply::Session(one(cursor)?))
-}
-
-fn job_at(cursor: &mut Cursor) -> Result<Reply, Unread>
-    ensures { Answers (replies.reply_arms told.Job) cursor.old result cursor.new }
-{
-    Ok(Reply::Job(one(cursor)?))
-}
-
-fn state_at(cursor: &mut Cursor) -> Result<Reply, Unread>
-    ensures { Answers (replies.reply_arms told.State) cursor.old result cursor.new }
-{
-    Ok(Reply::State(one(cursor)?))
-}
-
-fn info_at(cursor: &mut Cursor) -> Result<Reply, Unread>
-    ensures { Answers (replies.reply_arms told.Info) cursor.old result cursor.new }
-{
-    Ok(Reply::Info(boxed(cursor)?))
-}
-
-fn reached_at(cursor: &mut Cursor) -> Result<Reply, Unread>
-    ensures { Answers (replies.reply_arms told.Reached) cursor.old result cursor.new }
-{
-    Ok(Reply::Reached(one(cursor)?))
-}
-
-fn reservation_at(cursor: &mut Cursor) -> Result<Reply, Unread>
-    ensures { Answers (replies.reply_arms told.Reservation) cursor.old result cursor.new }
-{
-    Ok(Reply::Reservation(boxed(cursor)?))
-}
-
-fn callback_at(cursor: &mut Cursor) -> Result<Reply, Unread>
-    ensures { Answers (replies.reply_arms told.Callback) cursor.old result cursor.new }
-{
-    Ok(Reply::Callback(one(cursor)?))
-}
-
-#[tactic(auto, unfolding(crate::specs::Replies::texts))]
-fn names_at(cursor: &mut Cursor) -> Result<Reply, Unread>
-    ensures { Answers (replies.reply_arms told.Names) cursor.old result cursor.new }
-{
-    cursor.expect(b" ")?;
-    Ok(Reply::Names(read_list(cursor)?))
-}
-
-#[tactic(auto, unfolding(crate::specs::Replies::ids))]
-fn jobs_at(cursor: &mut Cursor) -> Result<Reply, Unread>
-    ensures { Answers (replies.reply_arms told.Jobs) cursor.old result cursor.new }
-{
-    cursor.expect(b" ")?;
-    Ok(Reply::Jobs(read_list(cursor)?))
-}
-
-#[tactic(auto, unfolding(crate::specs::Replies::ids))]
-fn reservations_at(cursor: &mut Cursor) -> Result<Reply, Unread>
-    ensures { Answers (replies.reply_arms told.Reservations) cursor.old result cursor.new }
-{
-    cursor.expect(b" ")?;
-    Ok(Reply::Reservations(read_list(cursor)?))
-}
-
-#[tactic(auto, unfolding(crate::specs::Replies::infos))]
-fn infos_at(cursor: &mut Cursor) -> Result<Reply, Unread>
-    ensures { Answers (replies.reply_arms told.Infos) cursor.old result cursor.new }
-{
-    cursor.expect(b" ")?;
-    Ok(Reply::Infos(read_list(cursor)?))
-}
-
-#[tactic(auto, unfolding(crate::specs::Replies::reservation_infos))]
-fn reservation_infos_at(cursor: &mut Cursor) -> Result<Reply, Unread>
-    ensures { Answers (replies.reply_arms told.ReservationInfos) cursor.old result cursor.new }
-{
-    cursor.expect(b" ")?;
-    Ok(Reply::ReservationInfos(read_list(cursor)?))
-}
 
 #[tactic(auto, unfolding(crate::specs::Replies::members))]
 fn array_at(cursor: &mut Cursor) -> Result<Reply, Unread>
@@ -160,26 +78,27 @@ fn refused_at(cursor: &mut Cursor) -> Result<Reply, Unread>
 }
 
 /// What stands behind the word of a reply.
+#[tactic(auto, unfolding(crate::specs::Replies::texts, crate::specs::Replies::ids, crate::specs::Replies::infos, crate::specs::Replies::reservation_infos))]
 fn told_at(word: ReplyWord, cursor: &mut Cursor) -> Result<Reply, Unread>
     ensures { Answers (replies.reply_arms word) cursor.old result cursor.new }
 {
     match word {
         ReplyWord::Ok => Ok(Reply::Unit),
-        ReplyWord::Session => session_at(cursor),
-        ReplyWord::Names => names_at(cursor),
-        ReplyWord::Job => job_at(cursor),
+        ReplyWord::Session => Ok(Reply::Session(one(cursor)?)),
+        ReplyWord::Names => Ok(Reply::Names(listed(cursor)?)),
+        ReplyWord::Job => Ok(Reply::Job(one(cursor)?)),
         ReplyWord::Array => array_at(cursor),
-        ReplyWord::Jobs => jobs_at(cursor),
-        ReplyWord::State => state_at(cursor),
-        ReplyWord::Info => info_at(cursor),
-        ReplyWord::Reached => reached_at(cursor),
+        ReplyWord::Jobs => Ok(Reply::Jobs(listed(cursor)?)),
+        ReplyWord::State => Ok(Reply::State(one(cursor)?)),
+        ReplyWord::Info => Ok(Reply::Info(boxed(cursor)?)),
+        ReplyWord::Reached => Ok(Reply::Reached(one(cursor)?)),
         ReplyWord::Reserved => reserved_at(cursor),
-        ReplyWord::Reservation => reservation_at(cursor),
-        ReplyWord::Reservations => reservations_at(cursor),
-        ReplyWord::Infos => infos_at(cursor),
-        ReplyWord::ReservationInfos => reservation_infos_at(cursor),
+        ReplyWord::Reservation => Ok(Reply::Reservation(boxed(cursor)?)),
+        ReplyWord::Reservations => Ok(Reply::Reservations(listed(cursor)?)),
+        ReplyWord::Infos => Ok(Reply::Infos(listed(cursor)?)),
+        ReplyWord::ReservationInfos => Ok(Reply::ReservationInfos(listed(cursor)?)),
         ReplyWord::Machine => machine_at(cursor),
-        ReplyWord::Callback => callback_at(cursor),
+        ReplyWord::Callback => Ok(Reply::Callback(one(cursor)?)),
         ReplyWord::Launch => launch_at(cursor),
         ReplyWord::Signal => signal_at(cursor),
         ReplyWord::Refused => refused_at(cursor),

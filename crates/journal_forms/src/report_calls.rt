@@ -3,34 +3,25 @@ ghost use Rattle.std.specs.Prelude.{◌≡◌};
 ghost use Rattle.text_codec.specs.Formats.{Answers};
 ghost use Rattle.text_forms.specs.Templates.{template, frame};
 ghost use Rattle.journal_forms.specs.Calls as calls;
+ghost use Rattle.journal_forms.specs.WordGroups as groups;
 ghost use Rattle.text_words.specs.declared.call_words.CallWord.TheVariants as word;
 
 use crate::fields::{three, two};
+use crate::word_groups::{LaunchedWord, SignalledWord};
 use drmaa_model::Call;
 use text_codec::{Cursor, Unread};
 
+/// Reads a job and an attempt.
 #[tactic(auto, unfolding(crate::specs::Calls::launched))]
-pub(crate) fn started_at(cursor: &mut Cursor) -> Result<Call, Unread>
-    ensures { Answers (calls.call_arms template frame word.Started) cursor.old result cursor.new }
+pub(crate) fn launched_at(cursor: &mut Cursor, word: LaunchedWord) -> Result<Call, Unread>
+    ensures { Answers (calls.call_arms template frame (groups.launched_word word)) cursor.old result cursor.new }
 {
     let (job, attempt) = two(cursor)?;
-    Ok(Call::Started { job, attempt })
-}
-
-#[tactic(auto, unfolding(crate::specs::Calls::launched))]
-pub(crate) fn start_failed_at(cursor: &mut Cursor) -> Result<Call, Unread>
-    ensures { Answers (calls.call_arms template frame word.StartFailed) cursor.old result cursor.new }
-{
-    let (job, attempt) = two(cursor)?;
-    Ok(Call::StartFailed { job, attempt })
-}
-
-#[tactic(auto, unfolding(crate::specs::Calls::launched))]
-pub(crate) fn exit_unknown_at(cursor: &mut Cursor) -> Result<Call, Unread>
-    ensures { Answers (calls.call_arms template frame word.ExitUnknown) cursor.old result cursor.new }
-{
-    let (job, attempt) = two(cursor)?;
-    Ok(Call::ExitUnknown { job, attempt })
+    Ok(match word {
+        LaunchedWord::Started => Call::Started { job, attempt },
+        LaunchedWord::StartFailed => Call::StartFailed { job, attempt },
+        LaunchedWord::ExitUnknown => Call::ExitUnknown { job, attempt },
+    })
 }
 
 #[tactic(auto, unfolding(crate::specs::Calls::ended))]
@@ -41,18 +32,14 @@ pub(crate) fn exit_at(cursor: &mut Cursor) -> Result<Call, Unread>
     Ok(Call::Exited { job, attempt, exit })
 }
 
+/// Reads a job, an attempt and the kind of a signal.
 #[tactic(auto, unfolding(crate::specs::Calls::signalled))]
-pub(crate) fn signal_done_at(cursor: &mut Cursor) -> Result<Call, Unread>
-    ensures { Answers (calls.call_arms template frame word.SignalDone) cursor.old result cursor.new }
+pub(crate) fn signalled_at(cursor: &mut Cursor, word: SignalledWord) -> Result<Call, Unread>
+    ensures { Answers (calls.call_arms template frame (groups.signalled_word word)) cursor.old result cursor.new }
 {
     let (job, (attempt, kind)) = three(cursor)?;
-    Ok(Call::SignalDone { job, attempt, kind })
-}
-
-#[tactic(auto, unfolding(crate::specs::Calls::signalled))]
-pub(crate) fn signal_failed_at(cursor: &mut Cursor) -> Result<Call, Unread>
-    ensures { Answers (calls.call_arms template frame word.SignalFailed) cursor.old result cursor.new }
-{
-    let (job, (attempt, kind)) = three(cursor)?;
-    Ok(Call::SignalFailed { job, attempt, kind })
+    Ok(match word {
+        SignalledWord::SignalDone => Call::SignalDone { job, attempt, kind },
+        SignalledWord::SignalFailed => Call::SignalFailed { job, attempt, kind },
+    })
 }

@@ -4,63 +4,52 @@ ghost use Rattle.text_codec.specs.Formats.{Answers};
 ghost use Rattle.text_codec.specs.Sums.{fielded};
 ghost use Rattle.text_forms.specs.Templates.{template, frame};
 ghost use Rattle.journal_forms.specs.Calls as calls;
-ghost use Rattle.text_words.specs.declared.call_words.CallWord.TheVariants as word;
+ghost use Rattle.journal_forms.specs.WordGroups as groups;
 
 use crate::fields::{one, push_one};
+use crate::word_groups::{CreateWord, NameWord, SessionWord};
 use drmaa_model::Call;
 use drmaa_types::Text;
 use std::alloc::AllocError;
 use text_codec::{Cursor, Unread};
 
+/// Reads the name that a session is made with, which may be left out.
 #[tactic(auto, unfolding(crate::specs::Calls::named, text_codec::specs::Fields::field, text_codec::specs::Fields::no_more))]
-pub(crate) fn create_jobs_at(cursor: &mut Cursor) -> Result<Call, Unread>
-    ensures { Answers (calls.call_arms template frame word.CreateJobs) cursor.old result cursor.new }
+pub(crate) fn create_at(cursor: &mut Cursor, word: CreateWord) -> Result<Call, Unread>
+    ensures { Answers (calls.call_arms template frame (groups.create_word word)) cursor.old result cursor.new }
 {
     let name = cursor.name()?;
-    Ok(Call::CreateJobSession { name })
+    Ok(match word {
+        CreateWord::CreateJobs => Call::CreateJobSession { name },
+        CreateWord::CreateReservations => Call::CreateReservationSession { name },
+    })
 }
 
-#[tactic(auto, unfolding(crate::specs::Calls::named, text_codec::specs::Fields::field, text_codec::specs::Fields::no_more))]
-pub(crate) fn create_reservations_at(cursor: &mut Cursor) -> Result<Call, Unread>
-    ensures { Answers (calls.call_arms template frame word.CreateReservations) cursor.old result cursor.new }
-{
-    let name = cursor.name()?;
-    Ok(Call::CreateReservationSession { name })
-}
-
-pub(crate) fn open_jobs_at(cursor: &mut Cursor) -> Result<Call, Unread>
-    ensures { Answers (calls.call_arms template frame word.OpenJobs) cursor.old result cursor.new }
+/// Reads the name of a session that is opened or destroyed.
+pub(crate) fn name_at(cursor: &mut Cursor, word: NameWord) -> Result<Call, Unread>
+    ensures { Answers (calls.call_arms template frame (groups.name_word word)) cursor.old result cursor.new }
 {
     let name = one(cursor)?;
-    Ok(Call::OpenJobSession { name })
+    Ok(match word {
+        NameWord::OpenJobs => Call::OpenJobSession { name },
+        NameWord::OpenReservations => Call::OpenReservationSession { name },
+        NameWord::DestroyJobs => Call::DestroyJobSession { name },
+        NameWord::DestroyReservations => Call::DestroyReservationSession { name },
+    })
 }
 
-pub(crate) fn open_reservations_at(cursor: &mut Cursor) -> Result<Call, Unread>
-    ensures { Answers (calls.call_arms template frame word.OpenReservations) cursor.old result cursor.new }
-{
-    let name = one(cursor)?;
-    Ok(Call::OpenReservationSession { name })
-}
-
-pub(crate) fn destroy_jobs_at(cursor: &mut Cursor) -> Result<Call, Unread>
-    ensures { Answers (calls.call_arms template frame word.DestroyJobs) cursor.old result cursor.new }
-{
-    let name = one(cursor)?;
-    Ok(Call::DestroyJobSession { name })
-}
-
-pub(crate) fn destroy_reservations_at(cursor: &mut Cursor) -> Result<Call, Unread>
-    ensures { Answers (calls.call_arms template frame word.DestroyReservations) cursor.old result cursor.new }
-{
-    let name = one(cursor)?;
-    Ok(Call::DestroyReservationSession { name })
-}
-
-pub(crate) fn close_at(cursor: &mut Cursor) -> Result<Call, Unread>
-    ensures { Answers (calls.call_arms template frame word.Close) cursor.old result cursor.new }
+/// Reads a session alone.
+pub(crate) fn session_at(cursor: &mut Cursor, word: SessionWord) -> Result<Call, Unread>
+    ensures { Answers (calls.call_arms template frame (groups.session_word word)) cursor.old result cursor.new }
 {
     let session = one(cursor)?;
-    Ok(Call::CloseSession { session })
+    Ok(match word {
+        SessionWord::Close => Call::CloseSession { session },
+        SessionWord::Reservations => Call::GetReservations { session },
+        SessionWord::AllReservations => Call::AllReservations { session },
+        SessionWord::Queues => Call::AllQueues { session },
+        SessionWord::Machines => Call::AllMachines { session },
+    })
 }
 
 /// Prints a word and a name, which may be left out.
