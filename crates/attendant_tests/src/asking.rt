@@ -1,8 +1,8 @@
-//! What the client of a play asks, and what its replies and the entries of a history say, as far as the tables compare them.
-use call_history::{Call, NoEntry, Reply};
-use drmaa_model::{Entry, Target};
+//! What the client of a play asks, and what its replies say, as far as the tables compare them.
+use call_history::{Call, Reply};
+use drmaa_model::Target;
 use drmaa_types::{
-    AttributeList, Control, Exit, JobId, JobState, ListOf, SessionId, SignalKind, Text, TextList,
+    AttributeList, Control, Exit, JobId, JobState, ListOf, SessionId, Text, TextList,
 };
 use job_template::JobTemplate;
 use std::alloc::Global;
@@ -22,30 +22,13 @@ pub enum Ask {
 }
 
 /// What a reply says.
-#[derive(Clone, Copy, PartialEq, Eq)]
+#[derive(Clone, Copy)]
 pub enum Said {
     Unit,
     Session(u64),
     Job(u64),
     State(JobState),
     Launch(u64, u32),
-    Refused,
-    Other,
-    NoEntry,
-}
-
-/// What an entry of the launcher or the reaper says, with the job and its attempt.
-#[derive(Clone, Copy, PartialEq, Eq)]
-pub enum Told {
-    Launch(u64, u32),
-    Started(u64, u32),
-    StartFailed(u64, u32),
-    Signal(u64, u32, SignalKind),
-    SignalDone(u64, u32, SignalKind),
-    SignalFailed(u64, u32, SignalKind),
-    Exited(u64, u32, Exit),
-    ExitUnknown(u64, u32),
-    Other,
 }
 
 /// A text. Where memory is wanting it is empty, and then no test passes.
@@ -122,36 +105,28 @@ pub fn call_of(alloc: Global, ask: Ask) -> Call {
     }
 }
 
-pub fn said_of(answer: &Result<Reply, NoEntry>) -> Said {
+/// Whether an answer is a reply that says this.
+pub fn answers<E>(answer: &Result<Reply, E>, said: Said) -> bool {
     match answer {
-        Ok(Reply::Unit) => Said::Unit,
-        Ok(Reply::Session(session)) => Said::Session(session.0),
-        Ok(Reply::Job(job)) => Said::Job(job.0),
-        Ok(Reply::State(state)) => Said::State(*state),
-        Ok(Reply::Launch(launch)) => Said::Launch(launch.job.0, launch.attempt),
-        Ok(Reply::Refused(_)) => Said::Refused,
-        Ok(_) => Said::Other,
-        Err(_) => Said::NoEntry,
+        Ok(reply) => says(reply, said),
+        Err(_) => false,
     }
 }
 
-/// What an entry says that hands something out.
-fn handed_out(reply: &Reply) -> Told {
+/// Whether a reply says this.
+fn says(reply: &Reply, said: Said) -> bool {
+    match said {
+        Said::Unit => matches!(reply, Reply::Unit),
+        Said::Session(number) => matches!(reply, Reply::Session(session) if session.0 == number),
+        Said::Job(number) => matches!(reply, Reply::Job(job) if job.0 == number),
+        Said::State(state) => matches!(reply, Reply::State(told) if *told == state),
+        Said::Launch(job, attempt) => is_launch(reply, job, attempt),
+    }
+}
+
+fn is_launch(reply: &Reply, job: u64, attempt: u32) -> bool {
     match reply {
-        Reply::Launch(launch) => Told::Launch(launch.job.0, launch.attempt),
-        Reply::Signal(signal) => Told::Signal(signal.job.0, signal.attempt, signal.kind),
-        _ => Told::Other,
-    }
-}
-
-pub fn told_of(entry: &Entry) -> Told {
-    match entry.call {
-        Call::Started { job, attempt } => Told::Started(job.0, attempt),
-        Call::StartFailed { job, attempt } => Told::StartFailed(job.0, attempt),
-        Call::SignalDone { job, attempt, kind } => Told::SignalDone(job.0, attempt, kind),
-        Call::SignalFailed { job, attempt, kind } => Told::SignalFailed(job.0, attempt, kind),
-        Call::Exited { job, attempt, exit } => Told::Exited(job.0, attempt, exit),
-        Call::ExitUnknown { job, attempt } => Told::ExitUnknown(job.0, attempt),
-        _ => handed_out(&entry.reply),
+        Reply::Launch(launch) => launch.job.0 == job && launch.attempt == attempt,
+        _ => false,
     }
 }

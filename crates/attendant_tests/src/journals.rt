@@ -1,11 +1,13 @@
 //! A journal that is full. Its size is the number of entries and of changes, and 1 for a job that waits, 4 for one that is
 //! handed out, 3 for one whose process is alive.
-use crate::asking::{Ask, Said, Told};
-use crate::playing::{Fails, Play, Step, run_play};
+use crate::asking::{Ask, Said};
+use crate::machines::Fails;
+use crate::playing::{Play, Step, run_plays};
+use crate::telling::{Event, Told};
 use crate::wording::{CREATE, RUN};
 use drmaa_types::{Control, Exit, JobState, SignalKind};
 
-const LAUNCHED: [Told; 2] = [Told::Launch(1, 1), Told::Started(1, 1)];
+const LAUNCHED: &[Told] = &[(1, 1, Event::Launched), (1, 1, Event::Started)];
 
 /// The journal has the size 10 once job 1 is started. A second launch would make it 15; after the end of job 1 it is 9, and
 /// then the launch fits.
@@ -24,12 +26,13 @@ const A_LAUNCH_WAITS_FOR_ROOM: Play = Play {
         Step::Launches(2),
     ],
     launcher: &[
-        Told::Launch(1, 1),
-        Told::Started(1, 1),
-        Told::Launch(2, 1),
-        Told::Started(2, 1),
+        (1, 1, Event::Launched),
+        (1, 1, Event::Started),
+        (2, 1, Event::Launched),
+        (2, 1, Event::Started),
     ],
-    reaper: &[Told::Exited(1, 1, Exit::Code(0))],
+    reaper: &[(1, 1, Event::Exited(Exit::Code(0)))],
+    asked: &[(1, 1, true), (2, 1, true)],
 };
 
 /// The journal has the size 9 once the kill is asked for, and taking the order would make it 10. The end is reported all the
@@ -49,8 +52,9 @@ const AN_ORDER_IS_NOT_TAKEN_WITHOUT_ROOM: Play = Play {
         Step::Client(Ask::State(1), Said::State(JobState::Failed)),
         Step::Reaps(0),
     ],
-    launcher: &LAUNCHED,
-    reaper: &[Told::Exited(1, 1, Exit::Code(0))],
+    launcher: LAUNCHED,
+    reaper: &[(1, 1, Event::Exited(Exit::Code(0)))],
+    asked: &[(1, 1, true)],
 };
 
 /// The order is taken, and the report of its delivery would make the size 11. The child ends by the kill, and with the report of
@@ -69,11 +73,12 @@ const A_DELIVERY_IS_NOT_REPORTED_WITHOUT_ROOM: Play = Play {
         Step::Reaps(0),
         Step::Client(Ask::State(1), Said::State(JobState::Failed)),
     ],
-    launcher: &LAUNCHED,
+    launcher: LAUNCHED,
     reaper: &[
-        Told::Signal(1, 1, SignalKind::Kill),
-        Told::Exited(1, 1, Exit::Signal(9)),
+        (1, 1, Event::Signal(SignalKind::Kill)),
+        (1, 1, Event::Exited(Exit::Signal(9))),
     ],
+    asked: &[(1, 1, true)],
 };
 
 /// A stop that was delivered is kept with that, and each round tries to report it, until the child has ended.
@@ -93,17 +98,22 @@ const A_DELIVERY_IS_KEPT_UNTIL_THE_END: Play = Play {
         Step::Reaps(0),
         Step::Client(Ask::State(1), Said::State(JobState::Done)),
     ],
-    launcher: &LAUNCHED,
+    launcher: LAUNCHED,
     reaper: &[
-        Told::Signal(1, 1, SignalKind::Stop),
-        Told::Exited(1, 1, Exit::Code(0)),
+        (1, 1, Event::Signal(SignalKind::Stop)),
+        (1, 1, Event::Exited(Exit::Code(0))),
     ],
+    asked: &[(1, 1, true)],
 };
+
+const PLAYS: &[Play] = &[
+    A_LAUNCH_WAITS_FOR_ROOM,
+    AN_ORDER_IS_NOT_TAKEN_WITHOUT_ROOM,
+    A_DELIVERY_IS_NOT_REPORTED_WITHOUT_ROOM,
+    A_DELIVERY_IS_KEPT_UNTIL_THE_END,
+];
 
 #[test]
 fn a_full_journal_keeps_its_promises(rt: HostRuntime) {
-    run_play(&rt, rt.alloc(), &A_LAUNCH_WAITS_FOR_ROOM);
-    run_play(&rt, rt.alloc(), &AN_ORDER_IS_NOT_TAKEN_WITHOUT_ROOM);
-    run_play(&rt, rt.alloc(), &A_DELIVERY_IS_NOT_REPORTED_WITHOUT_ROOM);
-    run_play(&rt, rt.alloc(), &A_DELIVERY_IS_KEPT_UNTIL_THE_END);
+    run_plays(&rt, rt.alloc(), PLAYS);
 }

@@ -4,13 +4,13 @@ ghost use Rattle.turn_lock.specs.Tokens.{BelongsTo, IsFree};
 ghost use Rattle.call_history.specs.Clients.{retired_of};
 ghost use Rattle.child_spawner.specs.Spawners.{plain_fate};
 
-use crate::asking::{Ask, Said, call_of, plain_call, said_of};
-use crate::playing::{Fails, desk_of, fate_of, open_machine};
+use crate::asking::{Ask, Said, answers, call_of, plain_call};
+use crate::machines::{Course, Fails, desk, open_machine, spawner_of};
 use crate::wording::RUN;
 use attendant::{Launched, Reaper, launch_once, reap_once};
 use call_history::{Bell, Call, Desk, MachineOpener, SharedMachine};
-use child_spawner::{FateList, MemoryChild, MemorySpawner, Spawner};
-use drmaa_types::{Control, Exit, Failed, JobId, JobState, PlaceList, StepClock, TextList};
+use child_spawner::{MemoryChild, MemorySpawner, Spawner};
+use drmaa_types::{Control, Exit, Failed, JobId, JobState, StepClock, TextList};
 use std::alloc::Global;
 use std::marker::Model;
 use std::sync::Wait;
@@ -32,21 +32,18 @@ impl<'a> Model for Asker<'a> {
 }
 
 impl Asker<'_> {
-    /// Asks without waiting.
-    fn ask(&mut self, call: Call) -> Said {
-        match self.desk.try_call(call) {
-            Ok(reply) => said_of(&Ok(reply)),
-            Err(_) => Said::NoEntry,
-        }
+    /// Asks without waiting. Whether it is told this.
+    fn is_told(&mut self, call: Call, said: Said) -> bool {
+        answers(&self.desk.try_call(call), said)
     }
 }
 
-/// A spawner that starts nothing. While it starts a child, a client asks for the job's kill.
+/// A spawner that starts nothing. While it starts a child, a client asks for the job's kill, and is told that this is served.
 #[derive(Drop)]
 struct KillingSpawner<'a> {
     spawner: MemorySpawner,
     asker: Asker<'a>,
-    said: Option<Said>,
+    served: bool,
 }
 
 impl Spawner for KillingSpawner<'_> {
@@ -60,7 +57,7 @@ impl Spawner for KillingSpawner<'_> {
 
     fn start(&mut self, job: JobId, attempt: u32, words: &TextList) -> Result<MemoryChild, Failed> {
         let kill = plain_call(Ask::Control(job.0, Control::Terminate));
-        self.said = Some(self.asker.ask(kill));
+        self.served = self.asker.is_told(kill, Said::Unit);
         self.spawner.start(job, attempt, words)
     }
 }
@@ -68,14 +65,14 @@ impl Spawner for KillingSpawner<'_> {
 /// The client makes a session and runs a job. Whether it is told their numbers.
 fn submit(alloc: Global, asker: &mut Asker) -> [bool; 2] {
     [
-        asker.ask(call_of(alloc, Ask::Create)) == Said::Session(1),
-        asker.ask(call_of(alloc, RUN)) == Said::Job(1),
+        asker.is_told(call_of(alloc, Ask::Create), Said::Session(1)),
+        asker.is_told(call_of(alloc, RUN), Said::Job(1)),
     ]
 }
 
 /// Whether the job is in this state.
 fn is_in(asker: &mut Asker, state: JobState) -> bool {
-    asker.ask(plain_call(Ask::State(1))) == Said::State(state)
+    asker.is_told(plain_call(Ask::State(1)), Said::State(state))
 }
 
 /// The job is launched, and killed meanwhile. Whether the kill is served, the job runs, both order and end are reported then, the job
@@ -92,7 +89,7 @@ fn launch_and_reap<R: Wait>(
 {
     [
         launch_once(rt, launcher, spawner, reaper) == Ok(Launched::Began(JobId(1))),
-        spawner.said == Some(Said::Unit),
+        spawner.served,
         is_in(&mut spawner.asker, JobState::Running),
         reap_once(rt, reaping, reaper) == Ok(2),
         is_in(&mut spawner.asker, JobState::Failed),
@@ -101,11 +98,7 @@ fn launch_and_reap<R: Wait>(
 }
 
 /// One child, that would run for a thousand polls.
-fn one_child(alloc: Global) -> MemorySpawner {
-    let mut fates = Vec::new(alloc);
-    let _ = fates.push(fate_of((1_000, Exit::Code(0), Fails::Never)));
-    MemorySpawner::new(alloc, FateList::from_vec(fates), PlaceList::new(alloc))
-}
+const LONG: &[Course] = &[(1_000, Exit::Code(0), Fails::Never)];
 
 /// Whether the client is told what it is to be told first, and whether what comes then is as it is to be.
 fn play_kill<R: Wait>(
@@ -118,17 +111,13 @@ fn play_kill<R: Wait>(
     requires retired { retired_of opener.old ≡ [] }
 {
     let bell = Bell::silent();
-    let client = shared.open_client(opener);
-    let launcher = shared.open_client(opener);
-    let reaping = shared.open_client(opener);
-    let mut launcher = desk_of(shared, launcher, &bell);
-    let mut reaping = desk_of(shared, reaping, &bell);
+    let client = desk(shared, opener, &bell);
+    let mut launcher = desk(shared, opener, &bell);
+    let mut reaping = desk(shared, opener, &bell);
     let mut spawner = KillingSpawner {
-        spawner: one_child(alloc),
-        asker: Asker {
-            desk: desk_of(shared, client, &bell),
-        },
-        said: None,
+        spawner: spawner_of(alloc, LONG, &[]),
+        asker: Asker { desk: client },
+        served: false,
     };
     let mut reaper = Reaper::new(alloc);
     let first = submit(alloc, &mut spawner.asker);

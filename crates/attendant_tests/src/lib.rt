@@ -8,11 +8,16 @@ mod journals;
 #[cfg(test)]
 mod kills;
 #[cfg(test)]
+mod machines;
+#[cfg(test)]
 mod orders;
 #[cfg(test)]
 mod playing;
-pub mod stages;
+#[cfg(test)]
+mod stages;
 #[cfg(test)]
 mod starts;
+#[cfg(test)]
+mod telling;
 #[cfg(test)]
 mod wording;

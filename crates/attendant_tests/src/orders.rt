@@ -1,10 +1,12 @@
 //! Orders: signals that are sent, that fail, and that wait for a child.
-use crate::asking::{Ask, Said, Told};
-use crate::playing::{Fails, Play, Step, run_play};
+use crate::asking::{Ask, Said};
+use crate::machines::Fails;
+use crate::playing::{Play, Step, run_plays};
+use crate::telling::{Event, Told};
 use crate::wording::{CREATE, RUN};
 use drmaa_types::{Control, Exit, JobState, SignalKind};
 
-const LAUNCHED: [Told; 2] = [Told::Launch(1, 1), Told::Started(1, 1)];
+const LAUNCHED: &[Told] = &[(1, 1, Event::Launched), (1, 1, Event::Started)];
 
 /// A child that would end by itself in this round is sent its kill first, and one that would run on ends by it.
 const A_KILL_COMES_BEFORE_THE_END: Play = Play {
@@ -22,12 +24,13 @@ const A_KILL_COMES_BEFORE_THE_END: Play = Play {
         Step::Client(Ask::State(1), Said::State(JobState::Failed)),
         Step::Reaps(0),
     ],
-    launcher: &LAUNCHED,
+    launcher: LAUNCHED,
     reaper: &[
-        Told::Signal(1, 1, SignalKind::Kill),
-        Told::SignalDone(1, 1, SignalKind::Kill),
-        Told::Exited(1, 1, Exit::Signal(9)),
+        (1, 1, Event::Signal(SignalKind::Kill)),
+        (1, 1, Event::SignalDone(SignalKind::Kill)),
+        (1, 1, Event::Exited(Exit::Signal(9))),
     ],
+    asked: &[(1, 1, true)],
 };
 
 /// A kill that can't be delivered is reported as such. The child ends by itself, and its job has failed.
@@ -46,12 +49,13 @@ const A_KILL_THAT_FAILS_IS_REPORTED: Play = Play {
         Step::Finishes,
         Step::Client(Ask::State(1), Said::State(JobState::Failed)),
     ],
-    launcher: &LAUNCHED,
+    launcher: LAUNCHED,
     reaper: &[
-        Told::Signal(1, 1, SignalKind::Kill),
-        Told::SignalFailed(1, 1, SignalKind::Kill),
-        Told::Exited(1, 1, Exit::Code(0)),
+        (1, 1, Event::Signal(SignalKind::Kill)),
+        (1, 1, Event::SignalFailed(SignalKind::Kill)),
+        (1, 1, Event::Exited(Exit::Code(0))),
     ],
+    asked: &[(1, 1, true)],
 };
 
 /// After a kill that failed a second one may be asked for, and is delivered.
@@ -70,14 +74,15 @@ const A_SECOND_KILL_IS_DELIVERED: Play = Play {
         Step::Reaps(2),
         Step::Client(Ask::State(1), Said::State(JobState::Failed)),
     ],
-    launcher: &LAUNCHED,
+    launcher: LAUNCHED,
     reaper: &[
-        Told::Signal(1, 1, SignalKind::Kill),
-        Told::SignalFailed(1, 1, SignalKind::Kill),
-        Told::Signal(1, 1, SignalKind::Kill),
-        Told::SignalDone(1, 1, SignalKind::Kill),
-        Told::Exited(1, 1, Exit::Signal(9)),
+        (1, 1, Event::Signal(SignalKind::Kill)),
+        (1, 1, Event::SignalFailed(SignalKind::Kill)),
+        (1, 1, Event::Signal(SignalKind::Kill)),
+        (1, 1, Event::SignalDone(SignalKind::Kill)),
+        (1, 1, Event::Exited(Exit::Signal(9))),
     ],
+    asked: &[(1, 1, true)],
 };
 
 /// Each order is taken and delivered once, one in a round, and the child ends as its fate says.
@@ -98,14 +103,15 @@ const A_STOP_AND_A_CONTINUE_ARE_DELIVERED: Play = Play {
         Step::Reaps(1),
         Step::Client(Ask::State(1), Said::State(JobState::Done)),
     ],
-    launcher: &LAUNCHED,
+    launcher: LAUNCHED,
     reaper: &[
-        Told::Signal(1, 1, SignalKind::Stop),
-        Told::SignalDone(1, 1, SignalKind::Stop),
-        Told::Signal(1, 1, SignalKind::Cont),
-        Told::SignalDone(1, 1, SignalKind::Cont),
-        Told::Exited(1, 1, Exit::Code(0)),
+        (1, 1, Event::Signal(SignalKind::Stop)),
+        (1, 1, Event::SignalDone(SignalKind::Stop)),
+        (1, 1, Event::Signal(SignalKind::Cont)),
+        (1, 1, Event::SignalDone(SignalKind::Cont)),
+        (1, 1, Event::Exited(Exit::Code(0))),
     ],
+    asked: &[(1, 1, true)],
 };
 
 /// Another caller launched job 1, so its child is not in the list: its order is kept, and no other is taken meanwhile.
@@ -129,11 +135,12 @@ const AN_ORDER_WITHOUT_A_CHILD_IS_KEPT: Play = Play {
         Step::Client(Ask::State(2), Said::State(JobState::Failed)),
         Step::Reaps(0),
     ],
-    launcher: &[Told::Launch(2, 1), Told::Started(2, 1)],
+    launcher: &[(2, 1, Event::Launched), (2, 1, Event::Started)],
     reaper: &[
-        Told::Signal(1, 1, SignalKind::Kill),
-        Told::Exited(2, 1, Exit::Code(0)),
+        (1, 1, Event::Signal(SignalKind::Kill)),
+        (2, 1, Event::Exited(Exit::Code(0))),
     ],
+    asked: &[(2, 1, true)],
 };
 
 /// Another caller launched job 1 and has not reported its start: a kill that is asked for is not handed out before that report.
@@ -154,7 +161,8 @@ const A_KILL_WAITS_FOR_THE_START: Play = Play {
         Step::Client(Ask::State(1), Said::State(JobState::Running)),
     ],
     launcher: &[],
-    reaper: &[Told::Signal(1, 1, SignalKind::Kill)],
+    reaper: &[(1, 1, Event::Signal(SignalKind::Kill))],
+    asked: &[],
 };
 
 /// A child that has ended and was not polled since is sent its stop. The end is reported behind that.
@@ -173,12 +181,13 @@ const A_STOP_REACHES_A_CHILD_THAT_HAS_JUST_ENDED: Play = Play {
         Step::Client(Ask::State(1), Said::State(JobState::Done)),
         Step::Reaps(0),
     ],
-    launcher: &LAUNCHED,
+    launcher: LAUNCHED,
     reaper: &[
-        Told::Signal(1, 1, SignalKind::Stop),
-        Told::SignalDone(1, 1, SignalKind::Stop),
-        Told::Exited(1, 1, Exit::Code(0)),
+        (1, 1, Event::Signal(SignalKind::Stop)),
+        (1, 1, Event::SignalDone(SignalKind::Stop)),
+        (1, 1, Event::Exited(Exit::Code(0))),
     ],
+    asked: &[(1, 1, true)],
 };
 
 /// The end of job 1 is reported by another caller before its stop is taken, which removes the order. Its child is not signalled.
@@ -205,30 +214,38 @@ const AN_END_REMOVES_THE_ORDER: Play = Play {
         Step::Reaps(0),
     ],
     launcher: &[
-        Told::Launch(1, 1),
-        Told::Started(1, 1),
-        Told::Launch(2, 1),
-        Told::Started(2, 1),
+        (1, 1, Event::Launched),
+        (1, 1, Event::Started),
+        (2, 1, Event::Launched),
+        (2, 1, Event::Started),
     ],
     reaper: &[
-        Told::Exited(2, 1, Exit::Code(0)),
-        Told::Exited(1, 1, Exit::Code(0)),
+        (2, 1, Event::Exited(Exit::Code(0))),
+        (1, 1, Event::Exited(Exit::Code(0))),
     ],
+    asked: &[(1, 1, true), (2, 1, true)],
 };
+
+/// A child that would never end by itself ends by its kill.
+const A_KILL_ENDS_AN_ENDLESS_CHILD: Play = Play {
+    about: "a kill ends an endless child",
+    courses: &[(u32::MAX, Exit::Code(0), Fails::Never)],
+    ..A_KILL_COMES_BEFORE_THE_END
+};
+
+const PLAYS: &[Play] = &[
+    A_KILL_COMES_BEFORE_THE_END,
+    A_KILL_ENDS_AN_ENDLESS_CHILD,
+    A_KILL_THAT_FAILS_IS_REPORTED,
+    A_SECOND_KILL_IS_DELIVERED,
+    A_STOP_AND_A_CONTINUE_ARE_DELIVERED,
+    AN_ORDER_WITHOUT_A_CHILD_IS_KEPT,
+    A_KILL_WAITS_FOR_THE_START,
+    A_STOP_REACHES_A_CHILD_THAT_HAS_JUST_ENDED,
+    AN_END_REMOVES_THE_ORDER,
+];
 
 #[test]
 fn orders_are_delivered_to_their_children(rt: HostRuntime) {
-    run_play(&rt, rt.alloc(), &A_KILL_COMES_BEFORE_THE_END);
-    let endless = Play {
-        courses: &[(u32::MAX, Exit::Code(0), Fails::Never)],
-        ..A_KILL_COMES_BEFORE_THE_END
-    };
-    run_play(&rt, rt.alloc(), &endless);
-    run_play(&rt, rt.alloc(), &A_KILL_THAT_FAILS_IS_REPORTED);
-    run_play(&rt, rt.alloc(), &A_SECOND_KILL_IS_DELIVERED);
-    run_play(&rt, rt.alloc(), &A_STOP_AND_A_CONTINUE_ARE_DELIVERED);
-    run_play(&rt, rt.alloc(), &AN_ORDER_WITHOUT_A_CHILD_IS_KEPT);
-    run_play(&rt, rt.alloc(), &A_KILL_WAITS_FOR_THE_START);
-    run_play(&rt, rt.alloc(), &A_STOP_REACHES_A_CHILD_THAT_HAS_JUST_ENDED);
-    run_play(&rt, rt.alloc(), &AN_END_REMOVES_THE_ORDER);
+    run_plays(&rt, rt.alloc(), PLAYS);
 }

@@ -1,27 +1,10 @@
 //! Launches of new attempts, starts that fail, and ends.
-use crate::asking::{Ask, Said, Told};
-use crate::playing::{Fails, Play, Step, run_play};
+use crate::asking::{Ask, Said};
+use crate::machines::Fails;
+use crate::playing::{Play, Step, run_plays};
+use crate::telling::Event;
 use crate::wording::{CREATE, RUN, RUN_AGAIN};
-use child_spawner::MemorySpawner;
 use drmaa_types::{Exit, JobState};
-use std::process::Abort;
-
-/// The words of a job with the command `true` and nothing else.
-const WORDS: &[&str] = &["", "", "", "", "apart", "0", "true"];
-
-/// One start was asked for, of the first attempt of job 1, with these words.
-fn compare_asked<R: Abort>(rt: &R, spawner: &MemorySpawner) {
-    assert!(rt; spawner.told());
-    assert!(rt; spawner.asked().len() == 1);
-    for asked in spawner.asked() {
-        assert!(rt; asked.job.0 == 1 && asked.attempt == 1 && asked.began);
-        let words = asked.words.as_slice();
-        assert!(rt; words.len() == WORDS.len());
-        for (word, expected) in words.iter().zip(WORDS.iter()) {
-            assert!(rt; word.as_str() == *expected);
-        }
-    }
-}
 
 /// A child is started once, with its job's words, runs for two polls, and its end is reported once.
 const A_CHILD_IS_STARTED_AND_REAPED: Play = Play {
@@ -42,8 +25,9 @@ const A_CHILD_IS_STARTED_AND_REAPED: Play = Play {
         Step::Client(Ask::State(1), Said::State(JobState::Done)),
         Step::Reaps(0),
     ],
-    launcher: &[Told::Launch(1, 1), Told::Started(1, 1)],
-    reaper: &[Told::Exited(1, 1, Exit::Code(0))],
+    launcher: &[(1, 1, Event::Launched), (1, 1, Event::Started)],
+    reaper: &[(1, 1, Event::Exited(Exit::Code(0)))],
+    asked: &[(1, 1, true)],
 };
 
 /// A start that fails is reported as such, and ends a job that is not rerunnable.
@@ -60,8 +44,9 @@ const A_START_THAT_FAILS_ENDS_THE_JOB: Play = Play {
         Step::LaunchesNone,
         Step::Reaps(0),
     ],
-    launcher: &[Told::Launch(1, 1), Told::StartFailed(1, 1)],
+    launcher: &[(1, 1, Event::Launched), (1, 1, Event::StartFailed)],
     reaper: &[],
+    asked: &[(1, 1, false)],
 };
 
 /// A rerunnable job is launched again after a first and a second start that failed, and not after a third.
@@ -82,14 +67,15 @@ const A_RERUNNABLE_START_IS_TRIED_THREE_TIMES: Play = Play {
         Step::LaunchesNone,
     ],
     launcher: &[
-        Told::Launch(1, 1),
-        Told::StartFailed(1, 1),
-        Told::Launch(1, 2),
-        Told::StartFailed(1, 2),
-        Told::Launch(1, 3),
-        Told::StartFailed(1, 3),
+        (1, 1, Event::Launched),
+        (1, 1, Event::StartFailed),
+        (1, 2, Event::Launched),
+        (1, 2, Event::StartFailed),
+        (1, 3, Event::Launched),
+        (1, 3, Event::StartFailed),
     ],
     reaper: &[],
+    asked: &[(1, 1, false), (1, 2, false), (1, 3, false)],
 };
 
 /// A rerunnable job that ends with the code 99 is launched again, and each end is reported of its own attempt.
@@ -112,15 +98,16 @@ const A_SECOND_ATTEMPT_HAS_ITS_OWN_END: Play = Play {
         Step::Client(Ask::State(1), Said::State(JobState::Done)),
     ],
     launcher: &[
-        Told::Launch(1, 1),
-        Told::Started(1, 1),
-        Told::Launch(1, 2),
-        Told::Started(1, 2),
+        (1, 1, Event::Launched),
+        (1, 1, Event::Started),
+        (1, 2, Event::Launched),
+        (1, 2, Event::Started),
     ],
     reaper: &[
-        Told::Exited(1, 1, Exit::Code(99)),
-        Told::Exited(1, 2, Exit::Code(0)),
+        (1, 1, Event::Exited(Exit::Code(99))),
+        (1, 2, Event::Exited(Exit::Code(0))),
     ],
+    asked: &[(1, 1, true), (1, 2, true)],
 };
 
 /// A poll that fails takes the child out, and its end is reported as one that can't be learnt.
@@ -141,12 +128,16 @@ const AN_END_THAT_IS_NOT_LEARNT_FAILS_THE_JOB: Play = Play {
         Step::Reaps(0),
     ],
     launcher: &[
-        Told::Launch(1, 1),
-        Told::Started(1, 1),
-        Told::Launch(2, 1),
-        Told::Started(2, 1),
+        (1, 1, Event::Launched),
+        (1, 1, Event::Started),
+        (2, 1, Event::Launched),
+        (2, 1, Event::Started),
     ],
-    reaper: &[Told::ExitUnknown(1, 1), Told::Exited(2, 1, Exit::Code(0))],
+    reaper: &[
+        (1, 1, Event::ExitUnknown),
+        (2, 1, Event::Exited(Exit::Code(0))),
+    ],
+    asked: &[(1, 1, true), (2, 1, true)],
 };
 
 /// A report of the same end that another caller made before leaves nothing to report but a refused entry, which counts.
@@ -165,8 +156,9 @@ const A_REPORT_THAT_IS_REFUSED_COUNTS: Play = Play {
         Step::Client(Ask::State(1), Said::State(JobState::Failed)),
         Step::Reaps(0),
     ],
-    launcher: &[Told::Launch(1, 1), Told::Started(1, 1)],
-    reaper: &[Told::Exited(1, 1, Exit::Code(0))],
+    launcher: &[(1, 1, Event::Launched), (1, 1, Event::Started)],
+    reaper: &[(1, 1, Event::Exited(Exit::Code(0)))],
+    asked: &[(1, 1, true)],
 };
 
 /// The loops go on until all jobs have ended.
@@ -191,30 +183,19 @@ const THE_LOOPS_END_ONCE_ALL_IS_SETTLED: Play = Play {
         Step::Client(Ask::State(3), Said::State(JobState::Failed)),
     ],
     launcher: &[
-        Told::Launch(1, 1),
-        Told::Started(1, 1),
-        Told::Launch(2, 1),
-        Told::Started(2, 1),
-        Told::Launch(3, 1),
-        Told::StartFailed(3, 1),
+        (1, 1, Event::Launched),
+        (1, 1, Event::Started),
+        (2, 1, Event::Launched),
+        (2, 1, Event::Started),
+        (3, 1, Event::Launched),
+        (3, 1, Event::StartFailed),
     ],
     reaper: &[
-        Told::Exited(1, 1, Exit::Code(0)),
-        Told::Exited(2, 1, Exit::Signal(11)),
+        (1, 1, Event::Exited(Exit::Code(0))),
+        (2, 1, Event::Exited(Exit::Signal(11))),
     ],
+    asked: &[(1, 1, true), (2, 1, true), (3, 1, false)],
 };
-
-#[test]
-fn children_are_started_and_reaped(rt: HostRuntime) {
-    let spawner = run_play(&rt, rt.alloc(), &A_CHILD_IS_STARTED_AND_REAPED);
-    compare_asked(&rt, &spawner);
-    run_play(&rt, rt.alloc(), &A_START_THAT_FAILS_ENDS_THE_JOB);
-    run_play(&rt, rt.alloc(), &A_RERUNNABLE_START_IS_TRIED_THREE_TIMES);
-    run_play(&rt, rt.alloc(), &A_SECOND_ATTEMPT_HAS_ITS_OWN_END);
-    run_play(&rt, rt.alloc(), &AN_END_THAT_IS_NOT_LEARNT_FAILS_THE_JOB);
-    run_play(&rt, rt.alloc(), &A_REPORT_THAT_IS_REFUSED_COUNTS);
-    run_play(&rt, rt.alloc(), &THE_LOOPS_END_ONCE_ALL_IS_SETTLED);
-}
 
 /// Ten jobs on four slots. Child 1 ends at its first poll, and 2, 3 and 4 each a round later. Each other child is started once the
 /// fourth before it has ended, and so ends in a round of its own: four children are started, and no fifth; in each round after that
@@ -293,52 +274,65 @@ const TEN_JOBS_SHARE_FOUR_SLOTS: Play = Play {
         Step::Client(Ask::State(10), Said::State(JobState::Failed)),
     ],
     launcher: &[
-        Told::Launch(1, 1),
-        Told::Started(1, 1),
-        Told::Launch(2, 1),
-        Told::Started(2, 1),
-        Told::Launch(3, 1),
-        Told::Started(3, 1),
-        Told::Launch(4, 1),
-        Told::Started(4, 1),
-        Told::Launch(5, 1),
-        Told::Started(5, 1),
-        Told::Launch(6, 1),
-        Told::Started(6, 1),
-        Told::Launch(7, 1),
-        Told::Started(7, 1),
-        Told::Launch(8, 1),
-        Told::Started(8, 1),
-        Told::Launch(9, 1),
-        Told::Started(9, 1),
-        Told::Launch(10, 1),
-        Told::Started(10, 1),
+        (1, 1, Event::Launched),
+        (1, 1, Event::Started),
+        (2, 1, Event::Launched),
+        (2, 1, Event::Started),
+        (3, 1, Event::Launched),
+        (3, 1, Event::Started),
+        (4, 1, Event::Launched),
+        (4, 1, Event::Started),
+        (5, 1, Event::Launched),
+        (5, 1, Event::Started),
+        (6, 1, Event::Launched),
+        (6, 1, Event::Started),
+        (7, 1, Event::Launched),
+        (7, 1, Event::Started),
+        (8, 1, Event::Launched),
+        (8, 1, Event::Started),
+        (9, 1, Event::Launched),
+        (9, 1, Event::Started),
+        (10, 1, Event::Launched),
+        (10, 1, Event::Started),
     ],
     reaper: &[
-        Told::Exited(1, 1, Exit::Code(0)),
-        Told::Exited(2, 1, Exit::Code(2)),
-        Told::Exited(3, 1, Exit::Signal(15)),
-        Told::Exited(4, 1, Exit::Code(0)),
-        Told::Exited(5, 1, Exit::Code(99)),
-        Told::Exited(6, 1, Exit::Code(0)),
-        Told::Exited(7, 1, Exit::Code(0)),
-        Told::Exited(8, 1, Exit::Code(0)),
-        Told::Exited(9, 1, Exit::Code(0)),
-        Told::Exited(10, 1, Exit::Code(1)),
+        (1, 1, Event::Exited(Exit::Code(0))),
+        (2, 1, Event::Exited(Exit::Code(2))),
+        (3, 1, Event::Exited(Exit::Signal(15))),
+        (4, 1, Event::Exited(Exit::Code(0))),
+        (5, 1, Event::Exited(Exit::Code(99))),
+        (6, 1, Event::Exited(Exit::Code(0))),
+        (7, 1, Event::Exited(Exit::Code(0))),
+        (8, 1, Event::Exited(Exit::Code(0))),
+        (9, 1, Event::Exited(Exit::Code(0))),
+        (10, 1, Event::Exited(Exit::Code(1))),
+    ],
+    asked: &[
+        (1, 1, true),
+        (2, 1, true),
+        (3, 1, true),
+        (4, 1, true),
+        (5, 1, true),
+        (6, 1, true),
+        (7, 1, true),
+        (8, 1, true),
+        (9, 1, true),
+        (10, 1, true),
     ],
 };
 
-/// Each of the ten was started once, in order.
-fn compare_ten(rt: &impl Abort, spawner: &MemorySpawner) {
-    assert!(rt; spawner.told());
-    assert!(rt; spawner.asked().len() == 10);
-    for (asked, job) in spawner.asked().iter().zip(1..=10) {
-        assert!(rt; asked.job.0 == job && asked.attempt == 1 && asked.began);
-    }
-}
+const PLAYS: &[Play] = &[
+    A_CHILD_IS_STARTED_AND_REAPED,
+    A_START_THAT_FAILS_ENDS_THE_JOB,
+    A_RERUNNABLE_START_IS_TRIED_THREE_TIMES,
+    A_SECOND_ATTEMPT_HAS_ITS_OWN_END,
+    AN_END_THAT_IS_NOT_LEARNT_FAILS_THE_JOB,
+    A_REPORT_THAT_IS_REFUSED_COUNTS,
+    THE_LOOPS_END_ONCE_ALL_IS_SETTLED,
+    TEN_JOBS_SHARE_FOUR_SLOTS,
+];
 
 #[test]
-fn ten_jobs_share_four_slots(rt: HostRuntime) {
-    let spawner = run_play(&rt, rt.alloc(), &TEN_JOBS_SHARE_FOUR_SLOTS);
-    compare_ten(&rt, &spawner);
+fn children_are_started_and_reaped(rt: HostRuntime) {
+    run_plays(&rt, rt.alloc(), PLAYS);
 }
