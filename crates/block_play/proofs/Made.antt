@@ -1,5 +1,6 @@
 -- What one call says of the play of a line.
 use Rattle.std.proofs.Common.{◌≡◌, ℕ, ◌≤◌, List, [], ◌∷◌, Option, Some, None, false, refl, sym, ap, ◌∙◌, subst, append-nil, arith}
+use Rattle.std.specs.Prelude.{Result, Ok, Err, IfOk, IfErr}
 use Rattle.drmaa_model.specs.declared.calls.Call.{Call}
 use Rattle.drmaa_model.specs.declared.configs.Config.{Config}
 use Rattle.drmaa_model.specs.declared.entries.Entry.{Entry}
@@ -17,13 +18,15 @@ use Rattle.script_asks.specs.Asks.{asks}
 use Rattle.script_asks.specs.Plays.{no_attempt, IsAsked}
 use Rattle.script_asks.specs.Attempts.{attempt_in}
 use Rattle.script_asks.specs.Replies.{names_after}
+use Rattle.call_history.specs.declared.desks.Desk.{Desk}
 use Rattle.call_history.specs.Calls.{entry_by, IsServed, IsUnserved}
 use Rattle.call_history.specs.ClientLaws.{begins-itself}
-use Rattle.call_history.specs.Clients.{Seat, seen_of, mine_of, number_of, KnowsItsOwn, IsStillAt}
+use Rattle.call_history.specs.Clients.{Seat, seen_of, mine_of, number_of, KnowsItsOwn, IsStillAt, StaysAt}
 use Rattle.call_history.specs.Clocks.{Dial}
+use Rattle.block_play.specs.declared.stops.Stopped.{Stopped}
 use Rattle.block_play.specs.declared.stops.Stopped.TheVariants as stopped
 use Rattle.script_text.specs.Follows.{lines_of}
-use Rattle.block_play.specs.Played.{PlayedLine, PlayedLines, StopsLine}
+use Rattle.block_play.specs.Played.{PlayedLine, PlayedLines, StopsLine, LeftByLine, stop_for, with_names}
 use Rattle.block_play.specs.Played.PlaysLine.{asks_nothing, asks_once}
 use Rattle.block_play.specs.Played.StopsLine.{unmade, unkept}
 
@@ -34,6 +37,9 @@ still-there shared seat free = record { shared_is = refl; client = free; number 
 pub still-at : (shared after : Named Config) (old new : Seat) → after ≡ shared → IsFree shared new → number_of new ≡ number_of old → BeginsWith (seen_of new) (seen_of old) → KnowsItsOwn new
     → IsLegal shared.fixed (seen_of new) → IsStillAt shared old after new
 still-at shared after old new same free number begins own legal = record { shared_is = same; client = free; number = number; begins = begins; own = λ o. own; legal = λ l. legal }
+
+pub still-stays : (shared after : Named Config) (old new : Seat) → StaysAt shared old after new → BeginsWith (seen_of new) (seen_of old) → IsStillAt shared old after new
+still-stays shared after old new s begins = record { shared_is = s.shared_is; client = s.client; number = s.number; begins = begins; own = λ o. s.own; legal = λ l. s.legal }
 
 module _ (s : Script) (names : List (List ℕ × Given)) (l : Line) (before : ℕ) where
   -- a line that asks nothing
@@ -68,6 +74,13 @@ module _ (s : Script) (names : List (List ℕ × Given)) (l : Line) (before : �
   pub stopped-short : (config : Config) (early late : Dial) (old new : Seat) (c : Call) (why : NoEntry) → IsUnserved config early old c why late new → StopsLine config s names l before old new stopped.Memory
   stopped-short config early late old new c why none = unmade none.more.mine tt
 
+  pub stopped-for : (config : Config) (early late : Dial) (old new : Seat) (c : Call) (why : NoEntry) → asks s names no_attempt 0 l ≡ Some c → IsUnserved config early old c why late new
+      → StopsLine config s names l before old new (stop_for why)
+  stopped-for config early late old new c fault.OutOfMemory asked none = stopped-short config early late old new c fault.OutOfMemory none
+  stopped-for config early late old new c fault.NotYet asked none = stopped-short config early late old new c fault.NotYet none
+  stopped-for config early late old new c fault.Nothing asked none = stopped-short config early late old new c fault.Nothing none
+  stopped-for config early late old new c (fault.Journal size) asked none = stopped-full config early late old new c size asked none
+
   pub stopped-still : (config : Config) (seat : Seat) → StopsLine config s names l before seat seat stopped.Memory
   stopped-still config seat = unmade refl tt
 
@@ -83,3 +96,18 @@ pub played-none : (s : Script) (names : List (List ℕ × Given)) (mine : List E
 played-none s names mine least none new =
     subst (λ (ls : List Line). PlayedLines s [] ls 0 mine mine names least) (sym (ap lines_of none))
     (record { added = []; then = 0; mine = sym (append-nil mine); plays = (refl, new, refl); behind = omega arith })
+
+-- a line that was played so, and the end that was made of it
+pub left-kept : {C : Type 0} (given : C → Option (List ℕ)) (least : C → ℕ) (s : Script) (names : List (List ℕ × Given)) (l m : Line) (old new : Desk C) (end : Result (Unit {0}) Stopped) (kept : Result (List (List ℕ × Given)) Stopped)
+    → l ≡ m → kept ≡ with_names names end → LeftByLine given least s names l old new (with_names names end) → LeftByLine given least s names m old new kept
+left-kept given least s names l m old new end kept same is left =
+    subst (λ (r : Result (List (List ℕ × Given)) Stopped). LeftByLine given least s names m old new r) (sym is) (subst (λ (x : Line). LeftByLine given least s names x old new (with_names names end)) same left)
+
+-- what is so of an end that is none, where it is so of each cause
+pub if-err-on : {A E : Type 0} {P Q : E → Type 0} (r : Result A E) → IfErr r P → ((e : E) → P e → Q e) → IfErr r Q
+if-err-on (Ok a) p on = tt
+if-err-on (Err e) p on = on e p
+
+pub if-ok-on : {A E : Type 0} {P Q : A → Type 0} (r : Result A E) → IfOk r P → ((a : A) → P a → Q a) → IfOk r Q
+if-ok-on (Ok a) p on = on a p
+if-ok-on (Err e) p on = tt

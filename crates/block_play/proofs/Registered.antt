@@ -180,11 +180,3 @@ module _ {B : Type 0} {counted : B → ℕ} {told : B → Option (List Notificat
 -- what is so of a refusal that is this one
 pub at-err : {A : Type 0} (P : Refusal → Type 0) (r : Result A Refusal) (why : Refusal) → r ≡ Err why → IfErr r P → P why
 at-err P r why is h = subst (λ (x : Result _ Refusal). IfErr x P) is h
-
-pub if-ok-on : {A E : Type 0} {P Q : A → Type 0} (r : Result A E) → IfOk r P → ((a : A) → P a → Q a) → IfOk r Q
-if-ok-on (Ok a) p on = on a p
-if-ok-on (Err e) p on = tt
-
-pub if-err-on : {A E : Type 0} {P Q : E → Type 0} (r : Result A E) → IfErr r P → ((e : E) → P e → Q e) → IfErr r Q
-if-err-on (Ok a) p on = tt
-if-err-on (Err e) p on = on e p

@@ -1,8 +1,9 @@
 -- What a client's play of a block has come to: our profile.
-use Rattle.std.specs.Prelude.{◌≡◌, ℕ, ◌≤◌, List, [], ◌∷◌, ◌++◌, Some, None}
+use Rattle.std.specs.Prelude.{◌≡◌, ℕ, ◌≤◌, List, [], ◌∷◌, ◌++◌, Option, Some, None, Result, Ok, Err, IfOk, IfErr}
 use Rattle.drmaa_model.specs.declared.calls.Call.{Call}
 use Rattle.drmaa_model.specs.declared.configs.Config.{Config}
 use Rattle.drmaa_model.specs.declared.entries.Entry.{Entry}
+use Rattle.drmaa_model.specs.declared.faults.NoEntry.{NoEntry}
 use Rattle.drmaa_model.specs.declared.faults.NoEntry.TheVariants as fault
 use Rattle.drmaa_model.specs.History.{replay}
 use Rattle.drmaa_model.specs.KeptCalls.{kept}
@@ -13,7 +14,9 @@ use Rattle.script_asks.specs.declared.given.Given.{Given}
 use Rattle.script_asks.specs.Asks.{asks}
 use Rattle.script_asks.specs.Plays.{no_attempt, IsAsked}
 use Rattle.script_asks.specs.Replies.{names_after}
-use Rattle.call_history.specs.Clients.{Seat, seen_of, mine_of}
+use Rattle.call_history.specs.declared.desks.Desk.{Desk}
+use Rattle.call_history.specs.Clients.{Seat, seen_of, mine_of, IsStillAt}
+use Rattle.call_history.specs.Timed.{IsTimed}
 use Rattle.block_play.specs.declared.stops.Stopped.{Stopped}
 use Rattle.block_play.specs.declared.stops.Stopped.TheVariants as stopped
 
@@ -54,6 +57,26 @@ IsCause config s names l history (stopped.Full size) = IsFullFor config s names 
 pub data StopsLine (config : Config) (s : Script) (names : List (List ℕ × Given)) (l : Line) (before : ℕ) (old new : Seat) (why : Stopped) : Type 0 where
   unmade : mine_of new ≡ mine_of old → IsCause config s names l (seen_of new) why → StopsLine config s names l before old new why
   unkept : (after : List (List ℕ × Given)) (least : ℕ) → PlayedLine s names l before (mine_of old) (mine_of new) after least → why ≡ stopped.Memory → StopsLine config s names l before old new why
+
+-- why a client stops where its call made no entry
+abbrev pub stop_for : NoEntry → Stopped
+stop_for fault.OutOfMemory = stopped.Memory
+stop_for fault.NotYet = stopped.Memory
+stop_for fault.Nothing = stopped.Memory
+stop_for (fault.Journal size) = stopped.Full size
+
+-- What the play of a line leaves, by its end: the client is still at its machine, and its own entries went on by those of the line.
+pub record LeftByLine {C : Type 0} (given : C → Option (List ℕ)) (least : C → ℕ) (s : Script) (names : List (List ℕ × Given)) (l : Line) (old new : Desk C)
+    (end : Result (List (List ℕ × Given)) Stopped) : Type 0 where
+  pub desk : IsStillAt old.shared.now old.client new.shared.now new.client
+  pub timed : IsTimed (mine_of old.client) (given old.clock) → IsTimed (mine_of new.client) (given new.clock)
+  pub ok : IfOk end (λ after. (before : ℕ) → before ≤ least old.clock → PlayedLine s names l before (mine_of old.client) (mine_of new.client) after (least new.clock))
+  pub err : IfErr end (λ why. (before : ℕ) → before ≤ least old.clock → StopsLine old.shared.now.fixed s names l before old.client new.client why)
+
+-- an end behind which the names are these
+abbrev pub with_names : {A : Type 0} → List (List ℕ × Given) → Result A Stopped → Result (List (List ℕ × Given)) Stopped
+with_names names (Ok a) = Ok names
+with_names names (Err why) = Err why
 
 -- The client's own entries went on by those of these lines.
 pub record PlayedLines (s : Script) (names : List (List ℕ × Given)) (ls : List Line) (before : ℕ) (old new : List Entry) (after : List (List ℕ × Given)) (least : ℕ) : Type 0 where

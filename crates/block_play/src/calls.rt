@@ -1,21 +1,20 @@
 //! The play of a line that does not wait.
-ghost use Rattle.std.specs.Prelude.{◌≡◌, ℕ, ◌≤◌, false, IfOk, IfErr, Some};
+ghost use Rattle.std.specs.Prelude.{◌≡◌, false, IfOk, IfErr, Some};
 ghost use Rattle.turn_lock.specs.Tokens.{IsFree};
-ghost use Rattle.call_history.specs.Clients.{mine_of, IsStillAt};
-ghost use Rattle.call_history.specs.Timed.{IsTimed};
 ghost use Rattle.script_text.specs.Follows.{is_wait};
 ghost use Rattle.script_asks.specs.Asks.{asks};
 ghost use Rattle.script_asks.specs.Plays.{no_attempt};
-ghost use Rattle.block_play.specs.Played.{PlayedLine, StopsLine};
+ghost use Rattle.script_asks.specs.Replies.{names_after};
+ghost use Rattle.block_play.specs.Played.{LeftByLine, stop_for};
 
 use crate::stops::Stopped;
-use call_history::{Call, Desk, NoEntry};
+use call_history::{Call, Desk, NoEntry, Reply};
 use drmaa_types::Clock;
 use script_asks::{Attempts, ask};
 use script_lines::Line;
 use script_play::{Names, beginning};
 use script_text::Script;
-use std::alloc::Global;
+use std::alloc::{AllocError, Global};
 use std::sync::Wait;
 
 /// Makes the one call that a line asks, if it asks one, and gives the names after its reply.
@@ -33,21 +32,32 @@ pub(crate) fn play_call<R: Wait, C: Clock>(
 ) -> Result<Names, Stopped>
     requires client { IsFree desk.old.shared.now desk.old.client }
     requires line { is_wait line.now ≡ false }
-    ensures desk { IsStillAt desk.old.shared.now desk.old.client desk.new.shared.now desk.new.client }
-    ensures timed { IsTimed (mine_of desk.old.client) (C.given desk.old.clock) → IsTimed (mine_of desk.new.client) (C.given desk.new.clock) }
-    ensures ok { IfOk result (λ after. (before : ℕ) → before ≤ C.least desk.old.clock →
-        PlayedLine script.now names line.now before (mine_of desk.old.client) (mine_of desk.new.client) after (C.least desk.new.clock)) }
-    ensures err { IfErr result (λ why. (before : ℕ) → before ≤ C.least desk.old.clock →
-        StopsLine desk.old.shared.now.fixed script.now names line.now before desk.old.client desk.new.client why) }
+    ensures { LeftByLine C.given C.least script.now names line.now desk.old desk.new result }
 {
-    let attempts = Attempts::new(alloc);
-    let Ok(asked) = ask(alloc, script, names.given(), &attempts, beginning(), line) else {
+    let Ok(asked) = asked_by(alloc, script, &names, line) else {
         return Err(Stopped::Memory);
     };
     match asked {
         Some(call) => make_call(rt, script, desk, names, line, call),
         None => Ok(names),
     }
+}
+
+/// The call that a line asks of a client that knows of no launch.
+///
+/// # Errors
+///
+/// Want of memory.
+fn asked_by(
+    alloc: Global,
+    script: &Script,
+    names: &Names,
+    line: &Line,
+) -> Result<Option<Call>, AllocError>
+    ensures { IfOk result (λ asked. asked ≡ asks script.now names.now no_attempt 0 line.now) }
+{
+    let attempts = Attempts::new(alloc);
+    ask(alloc, script, names.given(), &attempts, beginning(), line)
 }
 
 /// Makes a call that a line asks.
@@ -62,19 +72,35 @@ fn make_call<R: Wait, C: Clock>(
     requires client { IsFree desk.old.shared.now desk.old.client }
     requires line { is_wait line.now ≡ false }
     requires asked { asks script.now names no_attempt 0 line.now ≡ Some call }
-    ensures desk { IsStillAt desk.old.shared.now desk.old.client desk.new.shared.now desk.new.client }
-    ensures timed { IsTimed (mine_of desk.old.client) (C.given desk.old.clock) → IsTimed (mine_of desk.new.client) (C.given desk.new.clock) }
-    ensures ok { IfOk result (λ after. (before : ℕ) → before ≤ C.least desk.old.clock →
-        PlayedLine script.now names line.now before (mine_of desk.old.client) (mine_of desk.new.client) after (C.least desk.new.clock)) }
-    ensures err { IfErr result (λ why. (before : ℕ) → before ≤ C.least desk.old.clock →
-        StopsLine desk.old.shared.now.fixed script.now names line.now before desk.old.client desk.new.client why) }
+    ensures { LeftByLine C.given C.least script.now names line.now desk.old desk.new result }
 {
     match desk.call(rt, call) {
-        Ok(reply) => match names.with(line, &reply) {
-            Ok(after) => Ok(after),
-            Err(_) => Err(Stopped::Memory),
-        },
-        Err(NoEntry::Journal { size }) => Err(Stopped::Full { size }),
+        Ok(reply) => names_with(names, line, reply),
+        Err(fault) => Err(stop_for(fault)),
+    }
+}
+
+/// The names after the reply to a line.
+///
+/// # Errors
+///
+/// Want of memory.
+fn names_with(names: Names, line: &Line, reply: Reply) -> Result<Names, Stopped>
+    ensures ok { IfOk result (λ after. after ≡ names_after line.now reply names) }
+    ensures err { IfErr result (λ why. why ≡ Stopped.Memory) }
+{
+    match names.with(line, &reply) {
+        Ok(after) => Ok(after),
         Err(_) => Err(Stopped::Memory),
+    }
+}
+
+/// Why a client stops where its call made no entry.
+fn stop_for(fault: NoEntry) -> Stopped
+    ensures { result ≡ stop_for fault }
+{
+    match fault {
+        NoEntry::Journal { size } => Stopped::Full { size },
+        NoEntry::OutOfMemory | NoEntry::NotYet | NoEntry::Nothing => Stopped::Memory,
     }
 }

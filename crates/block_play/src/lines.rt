@@ -1,13 +1,10 @@
 //! The play of one line.
-ghost use Rattle.std.specs.Prelude.{◌≡◌, ℕ, ◌≤◌, IfOk, IfErr};
 ghost use Rattle.turn_lock.specs.Tokens.{IsFree};
-ghost use Rattle.call_history.specs.Clients.{mine_of, IsStillAt};
-ghost use Rattle.call_history.specs.Timed.{IsTimed};
-ghost use Rattle.block_play.specs.Played.{PlayedLine, StopsLine};
+ghost use Rattle.block_play.specs.Played.{LeftByLine};
 
 use crate::calls::play_call;
 use crate::stops::Stopped;
-use crate::waits::play_wait;
+use crate::waits::{kept, play_wait};
 use call_history::Desk;
 use drmaa_types::{Clock, WaitKind};
 use script_lines::Line;
@@ -31,44 +28,45 @@ pub(crate) fn play_line<R: Wait + Pause, C: Clock>(
     line: &Line,
 ) -> Result<Names, Stopped>
     requires { IsFree desk.old.shared.now desk.old.client }
-    ensures desk { IsStillAt desk.old.shared.now desk.old.client desk.new.shared.now desk.new.client }
-    ensures timed { IsTimed (mine_of desk.old.client) (C.given desk.old.clock) → IsTimed (mine_of desk.new.client) (C.given desk.new.clock) }
-    ensures ok { IfOk result (λ after. (before : ℕ) → before ≤ C.least desk.old.clock →
-        PlayedLine script.now names line.now before (mine_of desk.old.client) (mine_of desk.new.client) after (C.least desk.new.clock)) }
-    ensures err { IfErr result (λ why. (before : ℕ) → before ≤ C.least desk.old.clock →
-        StopsLine desk.old.shared.now.fixed script.now names line.now before desk.old.client desk.new.client why) }
+    ensures { LeftByLine C.given C.least script.now names line.now desk.old desk.new result }
 {
     match line {
         Line::WaitStarted {
             session,
             timeout,
             jobs,
-        } => play_wait(
-            rt,
-            alloc,
-            script,
-            desk,
-            names,
-            session,
-            jobs.as_slice(),
-            WaitKind::Started,
-            *timeout,
-        ),
+        } => {
+            let ended = play_wait(
+                rt,
+                alloc,
+                script,
+                desk,
+                &names,
+                session,
+                jobs.as_slice(),
+                WaitKind::Started,
+                *timeout,
+            );
+            kept(names, ended)
+        }
         Line::WaitTerminated {
             session,
             timeout,
             jobs,
-        } => play_wait(
-            rt,
-            alloc,
-            script,
-            desk,
-            names,
-            session,
-            jobs.as_slice(),
-            WaitKind::Terminated,
-            *timeout,
-        ),
+        } => {
+            let ended = play_wait(
+                rt,
+                alloc,
+                script,
+                desk,
+                &names,
+                session,
+                jobs.as_slice(),
+                WaitKind::Terminated,
+                *timeout,
+            );
+            kept(names, ended)
+        }
         _ => play_call(rt, alloc, script, desk, names, line),
     }
 }

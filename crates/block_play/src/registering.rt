@@ -1,12 +1,11 @@
 //! The play of a line of the setup block, which may register a callback.
-ghost use Rattle.std.specs.Prelude.{◌≡◌, ℕ, ◌<◌, ◌≤◌, ◌^◌, IfOk, IfErr};
+ghost use Rattle.std.specs.Prelude.{◌<◌, ◌^◌};
 ghost use Rattle.turn_lock.specs.Tokens.{IsFree};
-ghost use Rattle.call_history.specs.Clients.{mine_of, KnowsItsOwn, IsStillAt};
-ghost use Rattle.call_history.specs.Timed.{IsTimed};
+ghost use Rattle.call_history.specs.Clients.{KnowsItsOwn};
 ghost use Rattle.notify_hub.specs.Hubs.{IsNoteOf, RegistersOn};
 ghost use Rattle.script_lines.specs.declared.lines.Line.TheVariants as line;
 ghost use Rattle.script_text.specs.declared.scripts.Script.{Script};
-ghost use Rattle.block_play.specs.Played.{PlayedLine, StopsLine};
+ghost use Rattle.block_play.specs.Played.{LeftByLine};
 
 use crate::lines::play_line;
 use crate::stops::Stopped;
@@ -36,12 +35,7 @@ fn play_register<R: Wait, C: Clock, B: Callback>(
     requires own { KnowsItsOwn desk.old.client }
     requires note { IsNoteOf desk.old.shared.now hub.old.note }
     requires size { desk.old.shared.now.fixed.journal < 2 ^ 64 }
-    ensures desk { IsStillAt desk.old.shared.now desk.old.client desk.new.shared.now desk.new.client }
-    ensures timed { IsTimed (mine_of desk.old.client) (C.given desk.old.clock) → IsTimed (mine_of desk.new.client) (C.given desk.new.clock) }
-    ensures ok { IfOk result (λ after. (script : Script) (before : ℕ) → before ≤ C.least desk.old.clock →
-        PlayedLine script names line.Register before (mine_of desk.old.client) (mine_of desk.new.client) after (C.least desk.new.clock)) }
-    ensures err { IfErr result (λ why. (script : Script) (before : ℕ) → before ≤ C.least desk.old.clock →
-        StopsLine desk.old.shared.now.fixed script names line.Register before desk.old.client desk.new.client why) }
+    ensures line { (script : Script) → LeftByLine C.given C.least script names line.Register desk.old desk.new result }
     ensures hub { RegistersOn B.counted B.told desk.old.shared.now hub.old desk.old.client hub.new desk.new.client }
 {
     match hub.register(rt, desk.shared, &mut desk.client, &mut desk.clock) {
@@ -71,12 +65,7 @@ pub(crate) fn play_first_line<R: Wait + Pause, C: Clock, B: Callback>(
     requires own { KnowsItsOwn desk.old.client }
     requires note { IsNoteOf desk.old.shared.now hub.old.note }
     requires size { desk.old.shared.now.fixed.journal < 2 ^ 64 }
-    ensures desk { IsStillAt desk.old.shared.now desk.old.client desk.new.shared.now desk.new.client }
-    ensures timed { IsTimed (mine_of desk.old.client) (C.given desk.old.clock) → IsTimed (mine_of desk.new.client) (C.given desk.new.clock) }
-    ensures ok { IfOk result (λ after. (before : ℕ) → before ≤ C.least desk.old.clock →
-        PlayedLine script.now names line.now before (mine_of desk.old.client) (mine_of desk.new.client) after (C.least desk.new.clock)) }
-    ensures err { IfErr result (λ why. (before : ℕ) → before ≤ C.least desk.old.clock →
-        StopsLine desk.old.shared.now.fixed script.now names line.now before desk.old.client desk.new.client why) }
+    ensures line { LeftByLine C.given C.least script.now names line.now desk.old desk.new result }
     ensures hub { RegistersOn B.counted B.told desk.old.shared.now hub.old desk.old.client hub.new desk.new.client }
 {
     if is_register(line) {

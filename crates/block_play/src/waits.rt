@@ -1,9 +1,7 @@
 //! The play of a line that waits.
-ghost use Rattle.std.specs.Prelude.{◌≡◌, ℕ, ◌≤◌, IfOk, IfErr};
+ghost use Rattle.std.specs.Prelude.{◌≡◌};
 ghost use Rattle.turn_lock.specs.Tokens.{IsFree};
-ghost use Rattle.call_history.specs.Clients.{mine_of, IsStillAt};
-ghost use Rattle.call_history.specs.Timed.{IsTimed};
-ghost use Rattle.block_play.specs.Played.{PlayedLine, StopsLine};
+ghost use Rattle.block_play.specs.Played.{LeftByLine, with_names};
 ghost use Rattle.block_play.specs.Waits.{wait_line, stop_of};
 
 use crate::stops::Stopped;
@@ -17,14 +15,6 @@ use std::alloc::Global;
 use std::sync::Wait;
 use std::time::Clock as Pause;
 use wait_calls::wait;
-
-/// The jobs of a session for which a line waits.
-pub(crate) struct Awaiting<'a> {
-    pub session: &'a Ref,
-    pub jobs: &'a [Ref],
-    pub kind: WaitKind,
-    pub timeout: Timeout,
-}
 
 /// Why a client stops after such a refusal of a wait, which makes no entry; none after another.
 fn stop_of(why: Refusal) -> Option<Stopped>
@@ -47,34 +37,43 @@ pub(crate) fn play_wait<R: Wait + Pause, C: Clock>(
     alloc: Global,
     script: &Script,
     desk: &mut Desk<C>,
-    names: Names,
+    names: &Names,
     session: &Ref,
     jobs: &[Ref],
     kind: WaitKind,
     timeout: Timeout,
-) -> Result<Names, Stopped>
+) -> Result<(), Stopped>
     requires { IsFree desk.old.shared.now desk.old.client }
-    ensures desk { IsStillAt desk.old.shared.now desk.old.client desk.new.shared.now desk.new.client }
-    ensures timed { IsTimed (mine_of desk.old.client) (C.given desk.old.clock) → IsTimed (mine_of desk.new.client) (C.given desk.new.clock) }
-    ensures ok { IfOk result (λ after. (before : ℕ) → before ≤ C.least desk.old.clock →
-        PlayedLine script.now names (wait_line kind session.now timeout jobs.now) before (mine_of desk.old.client) (mine_of desk.new.client) after (C.least desk.new.clock)) }
-    ensures err { IfErr result (λ why. (before : ℕ) → before ≤ C.least desk.old.clock →
-        StopsLine desk.old.shared.now.fixed script.now names (wait_line kind session.now timeout jobs.now) before desk.old.client desk.new.client why) }
+    ensures { LeftByLine C.given C.least script.now names.now (wait_line kind session.now timeout jobs.now) desk.old desk.new (with_names names.now result) }
 {
     let Some(session) = number_of(names.given(), session) else {
-        return Ok(names);
+        return Ok(());
     };
     let Ok(jobs) = numbers_of(alloc, names.given(), jobs) else {
         return Err(Stopped::Memory);
     };
     let Some(jobs) = jobs else {
-        return Ok(names);
+        return Ok(());
     };
     match wait(rt, desk, SessionId(session), jobs, kind, timeout) {
-        Ok(_) => Ok(names),
+        Ok(_) => Ok(()),
         Err(why) => match stop_of(why) {
             Some(stopped) => Err(stopped),
-            None => Ok(names),
+            None => Ok(()),
         },
+    }
+}
+
+/// The names, which a wait does not change, unless it stopped the client.
+///
+/// # Errors
+///
+/// Why it did.
+pub(crate) fn kept(names: Names, ended: Result<(), Stopped>) -> Result<Names, Stopped>
+    ensures { result ≡ with_names names ended }
+{
+    match ended {
+        Ok(()) => Ok(names),
+        Err(why) => Err(why),
     }
 }

@@ -1,13 +1,23 @@
 use Rattle.std.proofs.Common.{sym, ◌∙◌}
 use Rattle.call_history.specs.Clients.{mine_of}
-use Rattle.block_play.proofs.Made.{asked-of, played-nothing}
+use Rattle.block_play.proofs.Made.{still-there, stopped-still, played-nothing}
 use Rattle.block_play.proofs.calls.play_call.Goals as goal
 
 pub make_call-requires-clause-asked : goal.make_call-requires-clause-asked
-make_call-requires-clause-asked g c =
-    sym (asked-of c.args.script.now c.given.result.now c.args.names c.new-attempts.result c.beginning.result c.args.line.now c.in-Ok.asked c.given.ensures c.new-attempts.ensures c.beginning.ensures c.in-Ok.ensures) ∙ c.in-Some.is
+make_call-requires-clause-asked g c = sym c.in-Ok.ensures ∙ c.in-Some.is
 
-pub returns-clause-ok : goal.returns-clause-ok
-returns-clause-ok g c = λ before early.
-    played-nothing c.args.script.now c.args.names c.args.line.now before (mine_of c.args.desk.now.client) _ early
-    (sym (asked-of c.args.script.now c.given.result.now c.args.names c.new-attempts.result c.beginning.result c.args.line.now c.in-Ok.asked c.given.ensures c.new-attempts.ensures c.beginning.ensures c.in-Ok.ensures) ∙ c.in-None.is)
+pub returns-in_default : goal.returns-in_default
+returns-in_default g c = record {
+  desk = still-there c.args.desk.now.shared.now c.args.desk.now.client c.requires.client;
+  timed = λ t. t;
+  ok = tt;
+  err = λ before early. stopped-still c.args.script.now c.args.names c.args.line.now before c.args.desk.now.shared.now.fixed c.args.desk.now.client;
+}
+
+pub returns-in-None : goal.returns-in-None
+returns-in-None g c = record {
+  desk = still-there c.args.desk.now.shared.now c.args.desk.now.client c.requires.client;
+  timed = λ t. t;
+  ok = λ before early. played-nothing c.args.script.now c.args.names c.args.line.now before (mine_of c.args.desk.now.client) _ early (sym c.in-Ok.ensures ∙ c.in-None.is);
+  err = tt;
+}
