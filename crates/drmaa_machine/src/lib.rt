@@ -10,6 +10,6 @@ mod performs;
 mod waits;
 
 pub use chronicles::Ask;
-pub use drmaa_model::{Answer, Call, Config, Entry, NoEntry, Question, Reply};
+pub use drmaa_model::{Answer, Call, Config, Entry, NoEntry, Question, Reply, Started};
 pub use machines::Machine;
 pub use waits::Awaited;

@@ -1,9 +1,11 @@
 //! The machine: a history, and the world that it leads to.
 ghost use Rattle.std.specs.Prelude.{◌≡◌, ◌≢◌, ◌+◌, ◌≤◌, ◌↔◌, ◌⊎◌, ℕ, [], IfOk, IfErr, IsOk, OnOk, OnErr, IsTrue, true, None, Some, length};
+ghost use Rattle.std.specs.Option.{option_map};
 ghost use Rattle.drmaa_types.specs.declared.refusals.Refusal.{Refusal};
 ghost use Rattle.drmaa_model.specs.declared.rows.Row.{Row};
 ghost use Rattle.drmaa_model.specs.Consistent.{IsConsistent};
 ghost use Rattle.drmaa_model.specs.Effects.{nothing, not_yet};
+ghost use Rattle.drmaa_model.specs.Events.{next_event, started_from, started_of};
 ghost use Rattle.drmaa_model.specs.History.{IsLegal, now_of};
 ghost use Rattle.drmaa_model.specs.Honoured.{IsOnTime, IsDueInside};
 ghost use Rattle.drmaa_model.specs.Infos.{infos};
@@ -21,8 +23,8 @@ ghost use Rattle.drmaa_machine.specs.Waits.{call_of};
 use crate::applying::serve;
 use crate::looks::{infos_in, look_in, must_wait_in, reserve_in};
 use crate::waits::Awaited;
-use drmaa_model::{Answer, Call, Config, Entry, NoEntry, Question, Reply};
-use drmaa_types::{CallerId, Change, InfoList, Moment, Refusal};
+use drmaa_model::{Answer, Call, Config, Entry, NoEntry, Question, Reply, Started};
+use drmaa_types::{CallerId, Change, InfoList, JobId, Moment, Refusal};
 use machine_readings::Store;
 use scheduler_core::Core;
 use session_table::SessionTable;
@@ -31,9 +33,15 @@ use std::marker::Model;
 
 /// A scheduler for one machine. Contracts see what it was made with and what it has served, and `spare`: how many entries and
 /// changes more it has room for, beside those that are promised.
-#[derive(Drop)]
 pub struct Machine {
     store: Store,
+}
+
+// By hand, so that how its parts are let go is proved here once, and not again in each crate that lets a machine go.
+impl Drop for Machine {
+    fn drop(self) {
+        let Machine { store: _ } = self;
+    }
 }
 
 impl Model for Machine {
@@ -179,6 +187,29 @@ impl Machine {
         ensures err { IfErr result (λ why. why ≡ Refusal.OutOfMemory) }
     {
         infos_in(&self.store)
+    }
+
+    /// The moment to which time has come. It takes no memory.
+    pub fn moment(&self) -> Moment
+        ensures { result ≡ (now_of self.now.ledger).plan.moment }
+    {
+        self.store.core.moment()
+    }
+
+    /// The started job of least number that is this one or above it, at the greater of this moment and the machine's. It takes
+    /// no memory and makes no entry.
+    pub fn started(&self, at: Moment, from: JobId) -> Option<Started>
+        ensures { result ≡ option_map started_of (started_from from.0 (advance (now_of self.now.ledger) at).plan.rows) }
+    {
+        self.store.core.started(at, from)
+    }
+
+    /// The next moment, after this one, at which time may change something: a startTime or a deadlineTime of a job that waits,
+    /// a planned end, or a start or an end of a reservation. It takes no memory and makes no entry.
+    pub fn next_event(&self, after: Moment) -> Option<Moment>
+        ensures { result ≡ next_event (now_of self.now.ledger).plan after }
+    {
+        self.store.core.next_event(after)
     }
 
     /// What was served, in order.

@@ -5,8 +5,10 @@ pub mod ControlLaws
 pub mod Controlling
 pub mod Courses
 pub mod Effects
+pub mod Events
 pub mod Fit
 pub mod FitLaws
+pub mod FrameLaws
 pub mod Growth
 pub mod Heard
 pub mod History
@@ -22,6 +24,8 @@ pub mod Launching
 pub mod LegalRunLaws
 pub mod Load
 pub mod MomentLaws
+pub mod MoveLaws
+pub mod Moving
 pub mod Operation
 pub mod OperationLaws
 pub mod Order
@@ -35,6 +39,9 @@ pub mod ReportLaws
 pub mod Reporting
 pub mod RequestLaws
 pub mod Requests
+pub mod Resting
+pub mod RestLaws
+pub mod RestSteps
 pub mod RowLaws
 pub mod Rows
 pub mod RunLaws

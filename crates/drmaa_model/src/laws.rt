@@ -1,6 +1,7 @@
 //! What is true of every plan, of every world and of every step. Each law is the contract of a function that does
 //! nothing: the clause speaks of all plans, calls, moments and worlds.
-ghost use Rattle.std.specs.Prelude.{◌≡◌, ◌+◌, ◌≤◌, ℕ, List, Option, None, length, max, true};
+ghost use Rattle.std.specs.Prelude.{◌≡◌, ◌≢◌, ◌+◌, ◌≤◌, ℕ, List, Option, Some, None, length, max, true};
+ghost use Rattle.drmaa_types.specs.declared.identifiers.JobId.{JobId};
 ghost use Rattle.drmaa_types.specs.declared.identifiers.ReservationId.{ReservationId};
 ghost use Rattle.drmaa_types.specs.declared.states.Control.{Control};
 ghost use Rattle.job_template.specs.declared.templates.JobTemplate.{JobTemplate};
@@ -9,19 +10,26 @@ ghost use Rattle.drmaa_model.specs.declared.calls.Indices.{Indices};
 ghost use Rattle.drmaa_model.specs.declared.calls.Report.{Report};
 ghost use Rattle.drmaa_model.specs.declared.calls.Target.{Target};
 ghost use Rattle.drmaa_model.specs.declared.configs.Config.{Config};
+ghost use Rattle.drmaa_model.specs.declared.courses.Course.{Course};
 ghost use Rattle.drmaa_model.specs.declared.entries.Entry.{Entry};
 ghost use Rattle.drmaa_model.specs.declared.replies.Reply.{Reply};
+ghost use Rattle.drmaa_model.specs.declared.rows.Row.{Row};
 ghost use Rattle.drmaa_model.specs.Consistent.{IsConsistent, AddsEdges};
 ghost use Rattle.drmaa_model.specs.Controlling.{control, reap};
+ghost use Rattle.drmaa_model.specs.Courses.{launched, planned_end};
 ghost use Rattle.drmaa_model.specs.Effects.{gives, through, unit, forget_home};
 ghost use Rattle.drmaa_model.specs.Fit.{IsFit};
 ghost use Rattle.drmaa_model.specs.Growth.{growth, is_of_run};
 ghost use Rattle.drmaa_model.specs.History.{IsLegal, replay};
 ghost use Rattle.drmaa_model.specs.Launching.{launch, signal};
+ghost use Rattle.drmaa_model.specs.Moving.{MovesOne, ReportMoves};
 ghost use Rattle.drmaa_model.specs.OperationLaws.{KeepsFit};
+ghost use Rattle.drmaa_model.specs.Order.{next_launch};
 ghost use Rattle.drmaa_model.specs.Plan.{Plan};
 ghost use Rattle.drmaa_model.specs.Reporting.{report_of};
 ghost use Rattle.drmaa_model.specs.Requests.{request, end_reservation};
+ghost use Rattle.drmaa_model.specs.Resting.{IsResting};
+ghost use Rattle.drmaa_model.specs.Rows.{row_of};
 ghost use Rattle.drmaa_model.specs.Size.{size, weight};
 ghost use Rattle.drmaa_model.specs.Steps.{IsStep};
 ghost use Rattle.drmaa_model.specs.Submitting.{submit};
@@ -86,4 +94,22 @@ pub fn time_leaves_the_size()
 pub fn a_legal_history_keeps_within_the_journal()
     ensures size { (config : Config) (history : List Entry) → IsLegal config history → size (replay config history) ≤ config.journal }
     ensures entries { (config : Config) (history : List Entry) → IsLegal config history → length history ≤ config.journal }
+{}
+
+/// In the world of a legal history time rests: at the world's own moment, and before it, time changes nothing.
+pub fn time_rests_in_a_legal_world()
+    ensures rests { (config : Config) (history : List Entry) → IsLegal config history → IsResting (replay config history).plan }
+    ensures still { (config : Config) (history : List Entry) (entry at : ℕ) → IsLegal config history →
+        at ≤ (replay config history).plan.moment → advance_plan entry at (replay config history).plan ≡ (replay config history).plan }
+{}
+
+/// A launch, and a report that is accepted, change the row of one job. Each other job, the reservations and the moment stay
+/// as they are.
+pub fn a_launch_or_a_report_moves_one_job()
+    ensures launch { (entry : ℕ) (p : Plan) (next : Row × ℕ) → IsFit p → next_launch p ≡ Some next →
+        MovesOne p (launch.effect entry p) next.0 (launched p.moment next.1 (planned_end next.0.wants p.moment) next.0.course) }
+    ensures report { (report : Report) (entry : ℕ) (p : Plan) → IsFit p → (report_of report).refusal p ≡ None →
+        ReportMoves report p ((report_of report).effect entry p) }
+    ensures others { (p q : Plan) (row : Row) (course : Course) (job : JobId) → MovesOne p q row course → row.job.0 ≢ job.0 →
+        row_of job q.rows ≡ row_of job p.rows }
 {}

@@ -1,4 +1,3 @@
 pub mod CalendarLaws
-pub mod FrameLaws
 pub mod OfferLaws
 pub mod TableLaws

@@ -29,9 +29,9 @@ use Rattle.reservation_calendar.specs.Schedules.{Schedule}
 use Rattle.plan_book.specs.TieLaws.{tied-next}
 use Rattle.plan_book.specs.Ties.{IsTied, IsFree, booked_for}
 use Rattle.reservation_requests.specs.declared.requests.Offer.{Offer}
-use Rattle.reservation_requests.specs.Requesting.{come, IsFrame, room_tests, offer_at, offered, accepted_of}
+use Rattle.reservation_requests.specs.Requesting.{come, room_tests, offer_at, offered, accepted_of}
 use Rattle.reservation_requests.proofs.CalendarLaws.{to-calendar}
-use Rattle.reservation_requests.proofs.FrameLaws.{frame-is}
+use Rattle.drmaa_model.specs.FrameLaws.{IsFrame, frame-is}
 use Rattle.reservation_requests.proofs.TableLaws.{ok-free, err-refused}
 
 -- ---- plans of one load from a moment on offer the same

@@ -16,14 +16,6 @@ use Rattle.reservation_requests.specs.declared.requests.Offer.{Offer}
 abbrev pub come : ℕ → Plan → Plan
 come at p = let_go (come_to at p)
 
--- What is true of the frame of a template that is not refused.
-pub record IsFrame (now : ℕ) (f : Frame) : Type 0 where
-  pub since : now ≤ f.from
-  pub lasting : 0 < f.span
-  pub inside : f.from + f.span ≤ f.until
-  pub least : 1 ≤ f.min
-  pub order : f.min ≤ f.max
-
 -- why a request is refused whose template is in form
 abbrev pub room_tests : ReservationTemplate → Plan → List (Bool × Refusal)
 room_tests t p =

@@ -3,12 +3,13 @@ ghost use Rattle.std.specs.Prelude.{◌≡◌, ◌≢◌, ◌+◌, ◌^◌, ◌<
 ghost use Rattle.drmaa_types.specs.Refusals.{first_refusal, refused_or};
 ghost use Rattle.job_template.specs.Frames.{frame_of};
 ghost use Rattle.drmaa_model.specs.Fit.{IsFit};
+ghost use Rattle.drmaa_model.specs.FrameLaws.{IsFrame};
 ghost use Rattle.drmaa_model.specs.Operation.{Meets, is_answer, outcome};
 ghost use Rattle.drmaa_model.specs.Requests.{request, request_tests, reserved_as, start_in, with_reservation};
 ghost use Rattle.drmaa_model.specs.Time.{advance_plan};
 ghost use Rattle.plan_book.specs.Book.{calendar_of, plan_of, spare, IsKept};
 ghost use Rattle.plan_book.specs.Ties.{booked_for, IsFree};
-ghost use Rattle.reservation_requests.specs.Requesting.{accepted_of, come, offer_at, offered, room_tests, IsFrame};
+ghost use Rattle.reservation_requests.specs.Requesting.{accepted_of, come, offer_at, offered, room_tests};
 
 use crate::starts::{denied_at, is_full, slots_in, start_in};
 use drmaa_model::Accepted;

@@ -1,8 +1,10 @@
+pub mod AfterLaws
 pub mod FactSteps
 pub mod LaunchSteps
 pub mod PhaseSteps
 pub mod Priorities
 pub mod ReportSteps
+pub mod RunningLaws
 pub mod SeenLaws
 pub mod SettledSteps
 pub mod Steps

@@ -1,3 +1,4 @@
+pub mod Afters
 pub mod Facts
 pub mod Launches
 pub mod Reports

@@ -3,6 +3,7 @@ ghost use Rattle.std.specs.Prelude.{◌≡◌, ◌≢◌, ◌+◌, ◌*◌, ◌�
 ghost use Rattle.std.specs.Option.{option_map, option_and_then, option_copied};
 ghost use Rattle.drmaa_types.specs.Refusals.{first_refusal};
 ghost use Rattle.drmaa_model.specs.declared.rows.Row.{Row};
+ghost use Rattle.drmaa_model.specs.Events.{next_event, started_from, started_of};
 ghost use Rattle.drmaa_model.specs.Operation.{size_at, Meets, outcome};
 ghost use Rattle.drmaa_model.specs.Order.{held, next_launch, settled};
 ghost use Rattle.drmaa_model.specs.Fit.{IsFit};
@@ -26,8 +27,8 @@ ghost use Rattle.scheduler_core.specs.Facts.{row_facts, job_from, lapses_at, rep
 use crate::facts::{self, RowFacts};
 use crate::ready::is_settled;
 use crate::rows::reports_to_come;
-use crate::{launches, reports};
-use drmaa_model::{Accepted, Indices, Launch, Report, Signal, Submitted, Target};
+use crate::{events, launches, reports, running};
+use drmaa_model::{Accepted, Indices, Launch, Report, Signal, Started, Submitted, Target};
 use drmaa_types::{Change, Control, JobId, Moment, Refusal, ReservationId, Reserved, Text};
 use job_template::{JobTemplate, ReservationTemplate};
 use plan_book::Book;
@@ -399,6 +400,20 @@ impl Core {
         ensures { result ≡ job_from from.0 self.now.plan }
     {
         facts::job_from(&self.book, from.0)
+    }
+
+    /// The started job of least number that is this one or above it, once time has come to this moment.
+    pub fn started(&self, at: Moment, from: JobId) -> Option<Started>
+        ensures { result ≡ option_map started_of (started_from from.0 (rows_at at self.now.plan)) }
+    {
+        running::started_from(&self.book, at, from)
+    }
+
+    /// The next moment, after this one, at which time may change something.
+    pub fn next_event(&self, after: Moment) -> Option<Moment>
+        ensures { result ≡ next_event self.now.plan after }
+    {
+        events::next_event(&self.book, after)
     }
 
     /// The name of a kept job, where its template has one.

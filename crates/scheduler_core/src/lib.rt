@@ -2,13 +2,17 @@
 #![tactic(auto)]
 
 mod cores;
+mod events;
 mod facts;
 mod launches;
 mod ready;
 mod reports;
 mod rows;
+mod running;
 mod times;
 
 pub use cores::Core;
-pub use drmaa_model::{Accepted, Indices, Kill, Launch, Phase, Report, Signal, Submitted, Target};
+pub use drmaa_model::{
+    Accepted, Indices, Kill, Launch, Phase, Report, Signal, Started, Submitted, Target,
+};
 pub use facts::RowFacts;

@@ -4,8 +4,8 @@ use Rattle.drmaa_types.specs.RefusalLaws.{passed_first}
 use Rattle.drmaa_types.specs.declared.refusals.Refusal.{Refusal}
 use Rattle.job_template.specs.Frames.{frame_tests}
 use Rattle.plan_book.specs.Book.{plan_of}
-use Rattle.reservation_requests.specs.Requesting.{come, offered, room_tests, IsFrame}
-use Rattle.reservation_requests.proofs.FrameLaws.{frame-is}
+use Rattle.reservation_requests.specs.Requesting.{come, offered, room_tests}
+use Rattle.drmaa_model.specs.FrameLaws.{IsFrame, frame-is}
 use Rattle.reservation_requests.proofs.TableLaws.{frame-read, frame-refused, request-answers, err-offer}
 use Rattle.reservation_requests.proofs.requests.offer_for.Goals as goal
 

@@ -8,12 +8,20 @@ use Rattle.drmaa_types.specs.Refusals.{first_refusal}
 use Rattle.drmaa_types.specs.declared.refusals.Refusal.{Refusal}
 use Rattle.drmaa_types.specs.declared.refusals.Refusal.TheVariants.{InvalidArgument}
 use Rattle.drmaa_types.specs.declared.refusals.Which.TheVariants as which
+use Rattle.job_template.specs.declared.templates.Frame.{Frame}
 use Rattle.job_template.specs.declared.templates.ReservationTemplate.{ReservationTemplate}
 use Rattle.job_template.specs.declared.templates.Start.{Start}
 use Rattle.job_template.specs.Frames.{moment_of, starts, ends, lasts, Interval, interval, frame_of, frame_tests, name_tests, start_tests, length_tests, slot_tests}
 use Rattle.job_template.specs.Unsupported.{other_tests}
 use Rattle.drmaa_model.specs.OperationLaws.{refusal-append, no_test}
-use Rattle.reservation_requests.specs.Requesting.{IsFrame}
+
+-- What is true of the frame of a template that is not refused.
+pub record IsFrame (now : ℕ) (f : Frame) : Type 0 where
+  pub since : now ≤ f.from
+  pub lasting : 0 < f.span
+  pub inside : f.from + f.span ≤ f.until
+  pub least : 1 ≤ f.min
+  pub order : f.min ≤ f.max
 
 -- an interval that lies ahead and has a moment
 record IsAhead (now : ℕ) (i : Interval) : Type 0 where
@@ -62,7 +70,7 @@ ahead now None None (Some span) passed =
     record { since = omega arith; lasting = long.0; inside = omega arith }
 ahead now None None None passed = (let no = passed.unset in absurd (cc))
 
--- What is true of the frame of a template that is not refused.
+-- the frame of a template that is not refused
 pub frame-is : (now : ℕ) (t : ReservationTemplate) → first_refusal (frame_tests now t) ≡ None → IsFrame now (frame_of now t)
 frame-is now t free =
     let f = frame_of now t in

@@ -1,0 +1,54 @@
+//! The started jobs, one after another. It takes no memory.
+ghost use Rattle.std.specs.Prelude.{◌≡◌};
+ghost use Rattle.std.specs.Option.{option_copied, option_map};
+ghost use Rattle.drmaa_model.specs.Courses.{is_asked};
+ghost use Rattle.drmaa_model.specs.Events.{started_from, started_of};
+ghost use Rattle.drmaa_model.specs.Time.{rows_at};
+ghost use Rattle.plan_book.specs.Book.{plan_of, IsKept};
+ghost use Rattle.scheduler_core.specs.Afters.{timed_at};
+
+use drmaa_model::{Kill, Row, Started};
+use drmaa_types::{JobId, Moment};
+use plan_book::Book;
+use plan_book::states::is_started;
+
+fn is_asked(kill: Kill) -> bool
+    ensures { result ≡ is_asked kill }
+{
+    match kill {
+        Kill::No => false,
+        Kill::Asked | Kill::Failed => true,
+    }
+}
+
+// What is told of a started job once time has come to this moment.
+fn started_then(book: &Book, at: Moment, row: &Row) -> Started
+    requires kept { IsKept book.now }
+    ensures { result ≡ started_of (timed_at at (plan_of book.now) row.now) }
+{
+    let course = book.course_at(at, row);
+    Started {
+        job: row.job,
+        attempt: course.attempt,
+        rerunnable: row.wants.rerunnable,
+        asked: is_asked(course.kill),
+    }
+}
+
+fn first_row(rows: &Vec<Row>, from: JobId) -> Option<&Row>
+    ensures { option_copied result ≡ started_from from.0 rows.now.items }
+{
+    rows.iter()
+        .find(|row| is_started(row.course.state) && from.0 <= row.job.0)
+}
+
+/// The started job of least number that is this one or above it, once time has come to this moment.
+pub fn started_from(book: &Book, at: Moment, from: JobId) -> Option<Started>
+    requires kept { IsKept book.now }
+    ensures { result ≡ option_map started_of (started_from from.0 (rows_at at (plan_of book.now))) }
+{
+    match first_row(book.rows(), from) {
+        Some(row) => Some(started_then(book, at, row)),
+        None => None,
+    }
+}
