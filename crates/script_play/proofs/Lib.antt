@@ -5,3 +5,4 @@ pub mod Looking
 pub mod Turns
 pub mod Waits
 pub mod Spelled
+pub mod Whole

@@ -1,11 +1,14 @@
 -- What a turn at a line does.
-use Rattle.std.proofs.Common.{◌≡◌, true, false, Option, Some, None, is_some, refl, sym, ap, ◌∙◌}
+use Rattle.std.proofs.Common.{◌≡◌, ℕ, true, false, Option, Some, None, is_some, refl, sym, ap, subst, ◌∙◌}
 use Rattle.text_codec.specs.Formats.{choose}
 use Rattle.script_lines.specs.declared.lines.Line.{Line}
 use Rattle.script_text.specs.declared.scripts.Script.{Script}
 use Rattle.script_asks.specs.Plays as plays
 use Rattle.script_play.specs.Crews.{turn_meant}
+use Rattle.script_play.specs.Looks.{GoesTo}
+use Rattle.script_play.specs.View.{View, IsNoted, playing}
 use Rattle.script_play.specs.declared.crews.Turn.{Turn}
+use Rattle.script_play.specs.declared.crews.Turn.TheVariants as turn
 
 there : {A B : Type 0} (o : Option A) (x y : B) → is_some o ≡ true → choose o (λ _. x) y ≡ x
 there None x y h = cc
@@ -16,8 +19,12 @@ not_there None x y h = refl
 not_there (Some a) x y h = cc
 
 -- a play that was stopped stays as it is
-pub stopped : (s : Script) (crew : plays.Crew) (p : plays.Playing) (l : Line) → is_some p.full ≡ true → p ≡ plays.play_line s crew p l
-stopped s crew p l h = sym (there p.full p (plays.play_turn s crew p l (plays.turn_of l)) h)
+pub stopped : (s : Script) (crew : plays.Crew) (v : View) (l : Line) → is_some v.full ≡ true → IsNoted v → GoesTo v (plays.play_line s crew (playing v) l) v
+stopped s crew v l h noted = record {
+  played = sym (there v.full (playing v) (plays.play_turn s crew (playing v) l (plays.turn_of l)) h);
+  config = refl;
+  noted = noted;
+}
 
 -- another goes on by the line's turn
 pub turned : (s : Script) (crew : plays.Crew) (p : plays.Playing) (l : Line) (turn told : Turn) → is_some p.full ≡ false → turn_meant turn ≡ plays.turn_of l → turn ≡ told
@@ -25,3 +32,12 @@ pub turned : (s : Script) (crew : plays.Crew) (p : plays.Playing) (l : Line) (tu
 turned s crew p l turn told h meant is =
     ap (λ t. plays.play_turn s crew p l (turn_meant t)) (sym is) ∙ ap (λ t. plays.play_turn s crew p l t) meant
     ∙ sym (not_there p.full p (plays.play_turn s crew p l (plays.turn_of l)) h)
+
+-- a line that sets the moment
+pub set_to : (s : Script) (crew : plays.Crew) (v w : View) (l : Line) (told : Turn) (moment : ℕ) → is_some v.full ≡ false → turn_meant told ≡ plays.turn_of l → told ≡ turn.Sets moment → w ≡ record v { moment = moment } → IsNoted v
+    → GoesTo v (plays.play_line s crew (playing v) l) w
+set_to s crew v w l told moment h meant is same noted = record {
+  played = ap (λ (u : View). playing u) same ∙ turned s crew (playing v) l told (turn.Sets moment) h meant is;
+  config = ap (λ (u : View). u.ledger.config) same;
+  noted = subst (λ (u : View). IsNoted u) (sym same) noted;
+}

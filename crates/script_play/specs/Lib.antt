@@ -4,4 +4,5 @@ pub mod Crews
 pub mod Looks
 pub mod Names
 pub mod Playable
+pub mod Served
 pub mod View

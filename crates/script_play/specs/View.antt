@@ -1,5 +1,6 @@
 -- What contracts see of a play that is under way.
-use Rattle.std.specs.Prelude.{ℕ, List, map, Option}
+use Rattle.std.specs.Prelude.{ℕ, List, [], map, Option, None}
+use Rattle.drmaa_model.specs.declared.configs.Config.{Config}
 use Rattle.drmaa_model.specs.declared.entries.Entry.{Entry}
 use Rattle.drmaa_model.specs.declared.replies.Reply.{Reply}
 use Rattle.drmaa_model.specs.History.{Ledger, now_of}
@@ -15,6 +16,16 @@ pub record View : Type 0 where
   pub names : List (List ℕ × Given)
   pub attempts : List (ℕ × ℕ)
   pub full : Option ℕ
+
+-- a play that has not begun, with a machine of this configuration
+abbrev pub unplayed : Config → View
+unplayed config = record {
+  ledger = record { config = config; history = [] };
+  moment = 0;
+  names = [];
+  attempts = [];
+  full = None;
+}
 
 abbrev pub replies_of : List Entry → List Reply
 replies_of entries = map (λ (e : Entry). e.reply) entries

@@ -12,6 +12,7 @@ use script_lines::Line;
 use script_text::{Keyed, binding};
 use std::alloc::{AllocError, Global};
 use std::marker::Model;
+use std::mem;
 
 /// The names of a block and what they were given. Contracts see the list of these pairs, in order. It is kept twice: one is
 /// looked up, and of the other copies are made.
@@ -68,6 +69,20 @@ impl Names {
         let found = given.find(&name).copied();
         let pairs = with_pair(pairs, name, found)?;
         Ok(Names { given, pairs })
+    }
+
+    /// Becomes the names after the reply to a line. After an `Err` memory ran out, and the names are lost.
+    pub(crate) fn learn(
+        &mut self,
+        alloc: Global,
+        line: &Line,
+        reply: &Reply,
+    ) -> Result<(), AllocError>
+        ensures { IfOk result (λ _. self.new ≡ names_after line.now reply.now self.old) }
+    {
+        let names = mem::replace(self, Names::new(alloc));
+        *self = names.with(line, reply)?;
+        Ok(())
     }
 
     /// The same names once more.

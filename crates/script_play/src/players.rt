@@ -1,10 +1,12 @@
 //! A play that is under way.
-ghost use Rattle.std.specs.Prelude.{◌≡◌, ◌+◌, min};
+ghost use Rattle.std.specs.Prelude.{◌≡◌, ◌+◌, min, IfOk};
 ghost use Rattle.drmaa_types.specs.Moments.{greatest};
+ghost use Rattle.script_asks.specs.Attempts.{Notes};
+ghost use Rattle.script_play.specs.Callbacks.{number_in};
 
 use crate::names::Names;
 use drmaa_machine::Machine;
-use drmaa_model::{Answer, Call, Config, Entry, NoEntry, Question, Reply};
+use drmaa_model::{Answer, Call, Config, NoEntry, Question, Reply};
 use drmaa_types::{CallerId, ChangeBatch, Moment};
 use script_asks::{Attempts, ask};
 use script_lines::Line;
@@ -76,12 +78,31 @@ pub fn later(moment: Moment, seconds: u64) -> Moment
     }
 }
 
+/// The number that a reply registers.
+fn number_in(reply: &Reply) -> Option<u32>
+    ensures { result ≡ number_in reply.now }
+{
+    match reply {
+        Reply::Callback(number) => Some(*number),
+        _ => None,
+    }
+}
+
+/// Notes the attempt of a launch. After an `Err` memory ran out, and the attempts are lost.
+fn note(alloc: Global, attempts: &mut Attempts, reply: &Reply) -> Result<(), AllocError>
+    ensures { IfOk result (λ _. Notes attempts.old reply.now attempts.new) }
+{
+    let known = mem::replace(attempts, Attempts::new(alloc));
+    *attempts = known.with(reply)?;
+    Ok(())
+}
+
 impl Player {
-    ghost use Rattle.std.specs.Prelude.{◌≡◌, ◌≤◌, [], None, is_some, length, take, drop, slice_get, IfOk};
+    ghost use Rattle.std.specs.Prelude.{◌≡◌, ◌≤◌, is_some, length, take, drop, slice_get, IfOk};
     ghost use Rattle.drmaa_model.specs.History.{IsLegal, now_of};
     ghost use Rattle.script_play.specs.Callbacks.{number_of};
     ghost use Rattle.script_play.specs.Looks.{asks_from, IsLook, Learns};
-    ghost use Rattle.script_play.specs.View.{IsNoted};
+    ghost use Rattle.script_play.specs.View.{IsNoted, unplayed};
 
     /// A play that has not begun, with a machine of from 1 to 65,535 slots and a journal size from 1 to 4,000,000.
     pub fn new(alloc: Global, config: Config) -> Result<Player, AllocError>
@@ -89,13 +110,7 @@ impl Player {
         requires most_slots { config.slots ≤ 65_535 }
         requires least_journal { 1 ≤ config.journal }
         requires most_journal { config.journal ≤ 4_000_000 }
-        ensures { IfOk result (λ player. player ≡ record {
-          ledger = record { config = config; history = [] };
-          moment = 0;
-          names = [];
-          attempts = [];
-          full = None;
-        }) }
+        ensures { IfOk result (λ player. player ≡ unplayed config) }
     {
         let Ok(machine) = Machine::new(alloc, config) else {
             return Err(AllocError);
@@ -148,13 +163,8 @@ impl Player {
         ensures legal { IsLegal self.now.ledger.config self.now.ledger.history }
     {
         match self.machine.entries().get(place) {
-            Some(
-                Entry {
-                    reply: Reply::Callback(number),
-                    ..
-                },
-            ) => Some(*number),
-            _ => None,
+            Some(entry) => number_in(&entry.reply),
+            None => None,
         }
     }
 
@@ -228,11 +238,8 @@ impl Player {
     fn learn(&mut self, line: &Line, reply: &Reply) -> Result<(), AllocError>
         ensures { IfOk result (λ _. Learns self.old line.now reply.now self.new) }
     {
-        let names = mem::replace(&mut self.names, Names::new(self.alloc));
-        self.names = names.with(line, reply)?;
-        let attempts = mem::replace(&mut self.attempts, Attempts::new(self.alloc));
-        self.attempts = attempts.with(reply)?;
-        Ok(())
+        self.names.learn(self.alloc, line, reply)?;
+        note(self.alloc, &mut self.attempts, reply)
     }
 
     /// The machine, and the size that stopped the play.

@@ -1,10 +1,12 @@
 //! The play of a script on one thread.
-ghost use Rattle.std.specs.Prelude.{◌≡◌, IfOk, OnErr};
+ghost use Rattle.std.specs.Prelude.{◌≡◌, ◌≤◌, length, Ok, Err, IfOk, OnErr, MatchResult};
 ghost use Rattle.drmaa_model.specs.History.{now_of};
 ghost use Rattle.notify_hub.specs.Ears.{HaveHeard, silent};
 ghost use Rattle.script_asks.specs.Plays.{serial_play};
 ghost use Rattle.script_play.specs.Callbacks.{AreCurrent, HaveFront};
 ghost use Rattle.script_play.specs.Playable.{IsPlayable};
+ghost use Rattle.script_play.specs.Served.{IsServed};
+ghost use Rattle.script_play.specs.View.{unplayed};
 
 use crate::blocks::play_blocks;
 use crate::players::Player;
@@ -35,6 +37,54 @@ pub fn copy_of(config: &Config) -> Result<Config, AllocError>
     })
 }
 
+/// A play of a script that has not begun.
+fn new_player(alloc: Global, script: &Script) -> Result<Player, AllocError>
+    requires { IsPlayable script.now }
+    ensures { IfOk result (λ player. player ≡ unplayed script.now.config) }
+{
+    Player::new(alloc, copy_of(&script.config)?)
+}
+
+/// What was made, unless what was done to it failed.
+fn unless_failed<T: Drop>(value: T, done: Result<(), AllocError>) -> Result<T, AllocError>
+    ensures { MatchResult done (λ _. result ≡ Ok value) (λ why. result ≡ Err why) }
+{
+    match done {
+        Ok(()) => Ok(value),
+        Err(why) => Err(why),
+    }
+}
+
+/// Plays the blocks of a script, in a play that has not begun.
+fn play_from<B: Callback>(
+    alloc: Global,
+    script: &Script,
+    player: Player,
+    ears: &mut Ears<B>,
+) -> Result<Player, AllocError>
+    requires few { length script.now.clients ≤ 32 }
+    requires new { player ≡ unplayed script.now.config }
+    requires current { AreCurrent B.counted B.told player.ledger ears.old }
+    ensures served { IfOk result (IsServed script.now) }
+    ensures current { IfOk result (λ after. AreCurrent B.counted B.told after.ledger ears.new) }
+    ensures front { OnErr result (HaveFront B.counted B.told script.now.config (serial_play script.now).entries ears.new) }
+    ensures begun { ears.new.begun ≡ ears.old.begun }
+    ensures heard { HaveHeard B.counted B.told ears.new }
+{
+    let mut player = player;
+    let done = play_blocks(alloc, script, &mut player, ears);
+    unless_failed(player, done)
+}
+
+/// What a play has come to.
+fn played_by(player: Player) -> Played
+    ensures machine { result.machine.ledger ≡ player.ledger }
+    ensures full { result.full ≡ player.full }
+{
+    let (machine, full) = player.end();
+    Played { machine, full }
+}
+
 /// Plays a script: its setup block and then its clients' blocks, line by line, in one machine, at the moments that the lines
 /// set. The play stops before the first step whose size would be above the journal's. A callback that a line registers hears each
 /// change of a job's state behind that line's entry, once and in order; each line's changes are handed over behind the line.
@@ -58,8 +108,6 @@ pub fn play<B: Callback>(
     ensures begun { ears.new.begun ≡ ears.old.begun }
     ensures heard { HaveHeard B.counted B.told ears.new }
 {
-    let mut player = Player::new(alloc, copy_of(&script.config)?)?;
-    play_blocks(alloc, script, &mut player, ears)?;
-    let (machine, full) = player.end();
-    Ok(Played { machine, full })
+    let player = new_player(alloc, script)?;
+    Ok(played_by(play_from(alloc, script, player, ears)?))
 }

@@ -1,0 +1,23 @@
+use Rattle.script_play.specs.Callbacks.{AreCurrent}
+use Rattle.script_play.specs.Served.{IsServed}
+use Rattle.script_play.specs.View.{View}
+use Rattle.script_play.proofs.Whole.{served, noted_first, whole_front, made_ok, made_err, err_so}
+use Rattle.script_play.proofs.serial.play_from.Goals as goal
+
+pub play_blocks-done-requires-clause-noted : goal.play_blocks-done-requires-clause-noted
+play_blocks-done-requires-clause-noted g c = noted_first c.args.script.now.config c.args.player c.requires.new
+
+pub returns-clause-served : goal.returns-clause-served
+returns-clause-served g c =
+    made_ok c.play_blocks-done.result c.unless_failed.result c.play_blocks-done.new.player _ (λ (v : View). IsServed c.args.script.now v) c.unless_failed.ensures c.play_blocks-done.ensures.played
+    (served c.args.script.now c.args.player c.play_blocks-done.new.player c.requires.new)
+
+pub returns-clause-current : goal.returns-clause-current
+returns-clause-current g c =
+    made_ok c.play_blocks-done.result c.unless_failed.result c.play_blocks-done.new.player _ (λ (v : View). AreCurrent g.B.Callback.counted g.B.Callback.told v.ledger c.play_blocks-done.new.ears) c.unless_failed.ensures
+    c.play_blocks-done.ensures.current (λ current. current)
+
+pub returns-clause-front : goal.returns-clause-front
+returns-clause-front g c =
+    made_err c.play_blocks-done.result c.unless_failed.result c.play_blocks-done.new.player _ c.unless_failed.ensures
+    (err_so c.play_blocks-done.result _ _ c.play_blocks-done.ensures.front (whole_front g.B.Callback.counted g.B.Callback.told c.args.script.now c.args.player c.play_blocks-done.new.ears c.requires.new))
