@@ -1,6 +1,5 @@
 -- Calls that are always answered, and of which kind their replies are.
-use Rattle.std.proofs.Common.{◌≡◌, ◌≢◌, ℕ, Bool, true, false, List, [], ◌∷◌, ◌++◌, inl, inr, refl, IfSome, IfOk, Result, Ok, Err, sym, ap, ◌∙◌, subst, None, Some}
-use Rattle.std.specs.Prelude.{◌⊎◌}
+use Rattle.std.proofs.Common.{◌≡◌, ℕ, true, List, ◌++◌, inl, inr, refl, IfSome, IfOk, Result, Ok, Err, sym, ap, ◌∙◌, subst, Some}
 use Rattle.drmaa_types.specs.declared.refusals.Refusal.{Refusal}
 use Rattle.drmaa_model.specs.declared.calls.Call.{Call}
 use Rattle.drmaa_model.specs.declared.calls.Call.TheVariants as call
@@ -10,13 +9,12 @@ use Rattle.drmaa_model.specs.declared.faults.NoEntry.{NoEntry}
 use Rattle.drmaa_model.specs.declared.faults.NoEntry.TheVariants as fault
 use Rattle.drmaa_model.specs.declared.replies.Reply.{Reply}
 use Rattle.drmaa_model.specs.AnswerLaws.{answer-cases, reply-kind}
-use Rattle.drmaa_model.specs.Effects.{StepAnswer, gives, nothing, not_yet, makes, effect}
+use Rattle.drmaa_model.specs.Effects.{StepAnswer, gives, nothing, not_yet, effect}
 use Rattle.drmaa_model.specs.History.{IsLegal, replay}
 use Rattle.drmaa_model.specs.HistoryLaws.{legal-last}
 use Rattle.drmaa_model.specs.KeptCalls.{kept}
-use Rattle.drmaa_model.specs.Refusals.{refusal}
-use Rattle.drmaa_model.specs.ReplyKinds.{ReplyKind, kind_of_call, kind_of_reply, a_refusal, IsReplyOf}
-use Rattle.drmaa_model.specs.Steps.{answer, answer_now}
+use Rattle.drmaa_model.specs.ReplyKinds.{kind_of_call, kind_of_reply, a_refusal, IsReplyOf}
+use Rattle.drmaa_model.specs.Steps.{answer}
 use Rattle.drmaa_model.specs.Time.{advance}
 use Rattle.drmaa_model.specs.World.{World}
 use Rattle.drmaa_machine.specs.Chronicles.{Explains}

@@ -1,5 +1,5 @@
 -- What a lock says of its entries, said of the machine's.
-use Rattle.std.proofs.Common.{◌≡◌, ◌≢◌, ℕ, Bool, true, false, cond, zero, suc, List, [], ◌∷◌, ◌++◌, map, set, get_or, length, refl, sym, ap, ◌∙◌, subst, Option, Some, None, ◌==◌, ◌≤◌}
+use Rattle.std.proofs.Common.{◌≡◌, ℕ, Bool, true, false, cond, zero, suc, List, [], ◌∷◌, ◌++◌, map, set, get_or, length, refl, sym, ap, ◌∙◌, subst, Option, Some, None, ◌==◌, ◌≤◌}
 use Rattle.std.specs.Prelude.{option_map}
 use Rattle.drmaa_types.specs.declared.chronicles.ChronicleEntry.{ChronicleEntry}
 use Rattle.drmaa_model.specs.declared.configs.Config.{Config}

@@ -1,6 +1,5 @@
 -- How a call in a turn follows the wait for the turn.
-use Rattle.std.proofs.Common.{◌≡◌, ℕ, List, [], ◌∷◌, ◌++◌, map, refl, sym, ap, ◌∙◌, subst, append_assoc, append-nil, eqb, Result, Ok, Err, IfOk, IfErr, OnErr}
-use Rattle.std.proofs.lemmas.List.Elements.{filter-append}
+use Rattle.std.proofs.Common.{◌≡◌, ℕ, List, [], ◌∷◌, ◌++◌, refl, sym, ap, ◌∙◌, subst, append-nil, length, length-append, ◌+◌, Result, Ok, Err, IfOk, IfErr, OnOk, OnErr}
 use Rattle.drmaa_model.specs.declared.calls.Call.{Call}
 use Rattle.drmaa_model.specs.declared.configs.Config.{Config}
 use Rattle.drmaa_model.specs.declared.entries.Entry.{Entry}
@@ -14,14 +13,15 @@ use Rattle.drmaa_model.specs.World.{World}
 use Rattle.drmaa_model.specs.declared.looks.Answer.{Answer}
 use Rattle.drmaa_model.specs.declared.looks.Question.{Question}
 use Rattle.drmaa_model.specs.declared.replies.Reply.{Reply}
-use Rattle.drmaa_machine.specs.ChronicleLaws.{history-told, history-append}
+use Rattle.drmaa_machine.specs.ChronicleLaws.{history-append}
 use Rattle.drmaa_machine.specs.declared.waits.Awaited.{Awaited}
-use Rattle.drmaa_machine.specs.Chronicles.{told, untold, history_of, MakesNone}
+use Rattle.drmaa_machine.specs.Chronicles.{untold, history_of, MakesNone}
 use Rattle.drmaa_machine.specs.Waits.{call_of}
 use Rattle.drmaa_machine.specs.View.{View}
-use Rattle.turn_lock.specs.Histories as lock
 use Rattle.turn_lock.specs.Tokens.{Enters, GoesOn, Named, Held}
-use Rattle.call_history.specs.Callers.{calls_of}
+use Rattle.turn_lock.specs.Views.{left, acted}
+use Rattle.call_history.specs.declared.tries.TryFault.{TryFault}
+use Rattle.call_history.specs.declared.tries.TryFault.TheVariants as tries
 use Rattle.call_history.specs.declared.waits.WaitLook.{WaitLook}
 use Rattle.call_history.specs.declared.waits.WaitLook.TheVariants as look
 use Rattle.call_history.specs.Looks.{IsLookOf}
@@ -67,6 +67,23 @@ module _ {A E : Type 0} where
   pub if_err : (r : Result A E) (P Q : E → Type 0) → IfErr r P → ((e : E) → P e → Q e) → IfErr r Q
   if_err (Ok a) P Q h f = h
   if_err (Err e) P Q h f = f e h
+
+-- what a try came to that had the turn
+pub record IsTold (served : Result Reply NoEntry) (r : Result Reply TryFault) : Type 0 where
+  pub ok : IfOk served (λ reply. r ≡ Ok reply)
+  pub err : IfErr served (λ why. r ≡ Err (tries.Not why))
+
+pub tried-ok : (served : Result Reply NoEntry) (r : Result Reply TryFault) (P : Reply → Type 0) → IsTold served r → IfOk served P → IfOk r P
+tried-ok (Ok reply) r P is good = subst (λ (x : Result Reply TryFault). IfOk x P) (sym is.ok) good
+tried-ok (Err why) r P is good = subst (λ (x : Result Reply TryFault). IfOk x P) (sym is.err) tt
+
+pub tried-err : (served : Result Reply NoEntry) (r : Result Reply TryFault) (P : TryFault → Type 0) → IsTold served r → IfErr served (λ why. P (tries.Not why)) → IfErr r P
+tried-err (Ok reply) r P is bad = subst (λ (x : Result Reply TryFault). IfErr x P) (sym is.ok) tt
+tried-err (Err why) r P is bad = subst (λ (x : Result Reply TryFault). IfErr x P) (sym is.err) bad
+
+pub tried-busy : (served : Result Reply NoEntry) (r : Result Reply TryFault) (low high : ℕ) → IsTold served r → r ≡ Err (tries.Busy low high) → ⊥
+tried-busy (Ok reply) r low high is e = (let o : r ≡ Ok reply = is.ok in absurd (cc))
+tried-busy (Err why) r low high is e = (let o : r ≡ Err (tries.Not why) = is.err in absurd (cc))
 
 -- what an act in a turn leaves, where it made an entry: what the client has seen and made ends with it
 pub record Acts (old : Seat) (entry : Entry) (new : Seat) : Type 0 where
@@ -117,6 +134,10 @@ waits-not w at asked m never = never m.cause
 over-same : (r : Result Reply NoEntry) (why : NoEntry) → look.Over r ≡ look.Over (Err why) → r ≡ Err why
 over-same r why is = cc
 
+-- a wait that is given back is not over
+pub not-over : (awaited : Awaited) (r : Result Reply NoEntry) → look.NotYet awaited ≡ look.Over r → ⊥
+not-over awaited r is = cc
+
 -- a call that is not to wait is not left waiting
 pub decided-now : (w : World) (at : ℕ) (asked : Call) (r : Result Reply NoEntry) → IfErr r (MakesNone w at asked) → (answer w at asked ≡ not_yet → ⊥) → look.Over r ≡ look.Over (Err fault.NotYet) → ⊥
 decided-now w at asked r fails never is = waits-not w at asked (subst (λ (x : Result Reply NoEntry). IfErr x (MakesNone w at asked)) (over-same r fault.NotYet is) fails) never
@@ -127,3 +148,40 @@ makes-pushed old new e seen mine = makes-now old new (untold e) (record {
   seen = ap history_of seen ∙ history-append old.view.seen (e ∷ []);
   mine = ap history_of mine ∙ history-append old.view.mine (e ∷ []);
 })
+
+-- ---- what an act in a turn leaves, as the lock tells it
+
+-- the entry of a caller, as the lock has it
+abbrev pub entry_told : ℕ → ℕ → Call → Reply → LockEntry
+entry_told number at asked reply = record { caller = record { 0 = number }; ask = record { at = at; call = kept asked }; answer = reply }
+
+-- the seat that made this entry, and gave the turn away
+abbrev pub with_entry : Seat → LockEntry → Seat
+with_entry old e = record { lock = old.lock; view = left (acted (old.view.seen ++ e ∷ []) (old.view.mine ++ e ∷ []) old.view) }
+
+-- the seat that gave the turn away
+abbrev pub with_none : Seat → Seat
+with_none old = record { lock = old.lock; view = left old.view }
+
+module _ (old new : Seat) where
+  pub acted-number : (entry : Reply → LockEntry) (r : Result Reply NoEntry) → IfOk r (λ reply. new ≡ with_entry old (entry reply)) → OnErr r (new ≡ with_none old) → number_of new ≡ number_of old
+  acted-number entry (Ok reply) ok err = ap number_of ok
+  acted-number entry (Err why) ok err = ap number_of err
+
+  pub acted-length : (entry : Reply → LockEntry) (r : Result Reply NoEntry) (h : List Entry) → seen_of old ≡ h → IfOk r (λ reply. new ≡ with_entry old (entry reply)) → OnOk r (length (seen_of new) ≡ length h + 1)
+  acted-length entry (Ok reply) h same ok =
+      ap (λ (l : List Entry). length l) (ap seen_of ok ∙ history-append old.view.seen (entry reply ∷ []))
+      ∙ (length-append (seen_of old) (untold (entry reply) ∷ []) ∙ ap (λ (l : List Entry). length l + 1) same)
+  acted-length entry (Err why) h same ok = tt
+
+  pub acted-makes : (entry : Reply → LockEntry) (r : Result Reply NoEntry) → IfOk r (λ reply. new ≡ with_entry old (entry reply)) → IfOk r (λ reply. Makes old (untold (entry reply)) new)
+  acted-makes entry (Ok reply) ok = makes-pushed old new (entry reply) (ap (λ t. t.view.seen) ok) (ap (λ t. t.view.mine) ok)
+  acted-makes entry (Err why) ok = tt
+
+  pub left-more : (r : Result Reply NoEntry) → OnErr r (new ≡ with_none old) → OnErr r (SeesMore old new)
+  left-more (Ok reply) err = tt
+  left-more (Err why) err = sees-now old new (ap seen_of err) (ap mine_of err)
+
+  pub left-same : (r : Result Reply NoEntry) (h : List Entry) → seen_of old ≡ h → OnErr r (new ≡ with_none old) → OnErr r (seen_of new ≡ h)
+  left-same (Ok reply) h same err = tt
+  left-same (Err why) h same err = ap seen_of err ∙ same

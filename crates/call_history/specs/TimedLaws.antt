@@ -1,6 +1,5 @@
 -- Entries go on to be timed by the clock that their caller reads.
 use Rattle.std.specs.Prelude.{◌≡◌, ℕ, List, [], ◌∷◌, ◌++◌, Option, Some, None, Result, Ok, Err, IfOk, IfErr}
-use Rattle.std.specs.List.{flat_map}
 use Rattle.std.proofs.Common.{refl, sym, ap, subst, ◌∙◌, append_assoc, append-nil}
 use Rattle.drmaa_types.specs.Readings.{Reads}
 use Rattle.drmaa_model.specs.declared.calls.Call.{Call}

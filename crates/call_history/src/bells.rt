@@ -84,6 +84,24 @@ struct Rings {
     ends: u64,
 }
 
+impl Rings {
+    /// The bell rang once more.
+    fn count(&mut self, is_end: bool) {
+        self.all = self.all.wrapping_add(1);
+        if is_end {
+            self.ends = self.ends.wrapping_add(1);
+        }
+    }
+
+    /// How often it rang for those who wait for this state.
+    fn for_state(&self, kind: WaitKind) -> u64 {
+        match kind {
+            WaitKind::Started => self.all,
+            WaitKind::Terminated => self.ends,
+        }
+    }
+}
+
 /// Wakes who rests. It carries no fact: who rests looks again.
 #[derive(Drop)]
 pub struct Bell {
@@ -128,67 +146,49 @@ impl Bell {
         match news {
             News::Nothing => {}
             News::Change => {
-                self.count_change(rt);
+                self.count(rt, false);
                 self.struck.notify_all();
             }
             News::End => {
-                self.count_end(rt);
+                self.count(rt, true);
                 self.struck.notify_all();
                 self.ended.notify_all();
             }
         }
     }
 
-    fn count_change<R: Wait>(&self, rt: &R) {
-        let mut rings = self.rings.lock(rt);
-        rings.all = rings.all.wrapping_add(1);
-    }
-
-    fn count_end<R: Wait>(&self, rt: &R) {
-        let mut rings = self.rings.lock(rt);
-        rings.all = rings.all.wrapping_add(1);
-        rings.ends = rings.ends.wrapping_add(1);
+    fn count<R: Wait>(&self, rt: &R, is_end: bool) {
+        self.rings.lock(rt).count(is_end);
     }
 
     /// Waits until the bell rings, or for a short while.
     pub fn rest<R: Wait + Clock>(&self, rt: &R) {
-        if self.is_silent {
-            return;
-        }
-        let rings = self.rings.lock(rt);
-        let before = rings.all;
-        let _ = self.struck.wait_timeout_while(
-            rt,
-            rings,
-            Duration::from_micros(SHORT_REST),
-            |now| now.all == before,
-        );
+        let before = self.strokes(rt, WaitKind::Started);
+        self.rest_for(rt, before, SHORT_REST);
     }
 
     /// How often the bell has struck for those who wait for this state.
     pub fn strokes<R: Wait>(&self, rt: &R, kind: WaitKind) -> Strokes {
-        let rings = self.rings.lock(rt);
-        let count = match kind {
-            WaitKind::Started => rings.all,
-            WaitKind::Terminated => rings.ends,
-        };
+        let count = self.rings.lock(rt).for_state(kind);
         Strokes { kind, count }
     }
 
     /// Waits until the bell has struck once more for those who wait for that state, or for a while.
     pub fn rest_since<R: Wait + Clock>(&self, rt: &R, before: Strokes) {
+        self.rest_for(rt, before, LONG_REST);
+    }
+
+    fn rest_for<R: Wait + Clock>(&self, rt: &R, before: Strokes, longest: u64) {
         if self.is_silent {
             return;
         }
-        let rings = self.rings.lock(rt);
-        let longest = Duration::from_micros(LONG_REST);
-        let _ = match before.kind {
-            WaitKind::Started => self
-                .struck
-                .wait_timeout_while(rt, rings, longest, |now| now.all == before.count),
-            WaitKind::Terminated => self
-                .ended
-                .wait_timeout_while(rt, rings, longest, |now| now.ends == before.count),
+        let Strokes { kind, count } = before;
+        let struck = match kind {
+            WaitKind::Started => &self.struck,
+            WaitKind::Terminated => &self.ended,
         };
+        let rings = self.rings.lock(rt);
+        let longest = Duration::from_micros(longest);
+        let _ = struck.wait_timeout_while(rt, rings, longest, |now| now.for_state(kind) == count);
     }
 }

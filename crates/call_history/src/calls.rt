@@ -1,5 +1,5 @@
 //! Calls and questions of clients: each waits for the turn, or tries to have it at once.
-ghost use Rattle.std.specs.Prelude.{◌≡◌, ◌+◌, ℕ, IfOk, IfErr, OnOk, OnErr, length, Err};
+ghost use Rattle.std.specs.Prelude.{◌≡◌, ◌+◌, ℕ, IfOk, IfErr, OnOk, OnErr, length, Ok, Err};
 ghost use Rattle.drmaa_model.specs.History.{IsLegal, now_of};
 ghost use Rattle.drmaa_model.specs.KeptCalls.{kept};
 ghost use Rattle.drmaa_machine.specs.Chronicles.{MakesNone};
@@ -40,10 +40,8 @@ impl SharedMachine {
         ensures own { KnowsItsOwn client.new }
         ensures legal { IsLegal self.now.fixed (seen_of client.new) }
     {
-        match self.call_numbered(rt, client, clock, call) {
-            Ok((_, reply)) => Ok(reply),
-            Err(why) => Err(why),
-        }
+        let turn = self.lock.enter(rt, client);
+        self.serve(turn, client, clock, call)
     }
 
     /// As `call`; tells the number of the entry too, counted from 1 over the machine's history.
@@ -70,7 +68,11 @@ impl SharedMachine {
         ensures legal { IsLegal self.now.fixed (seen_of client.new) }
     {
         let turn = self.lock.enter(rt, client);
-        self.serve(turn, client, clock, call)
+        let number = turn.value().entries().len() as u64 + 1;
+        match self.serve(turn, client, clock, call) {
+            Ok(reply) => Ok((number, reply)),
+            Err(why) => Err(why),
+        }
     }
 
     /// As `call`, without waiting for another client.
@@ -97,11 +99,11 @@ impl SharedMachine {
         ensures legal { IsLegal self.now.fixed (seen_of client.new) }
     {
         match self.lock.try_enter(client) {
-            Ok(turn) => match self.serve(turn, client, clock, call) {
-                Ok((_, reply)) => Ok(reply),
-                Err(why) => Err(TryFault::Not(why)),
-            },
-            Err(Busy { served, drawn }) => Err(TryFault::Busy { served, drawn }),
+            Ok(turn) => tried(self.serve(turn, client, clock, call)),
+            Err(Busy { served, drawn }) => {
+                drop(call);
+                Err(TryFault::Busy { served, drawn })
+            }
         }
     }
 
@@ -158,24 +160,20 @@ impl SharedMachine {
         client: &mut Client,
         clock: &mut C,
         call: Call,
-    ) -> Result<(u64, Reply), NoEntry>
+    ) -> Result<Reply, NoEntry>
         requires { Together entries_of config_of self.now client.old turn }
         ensures client { IsFree self.now client.new }
         ensures number { number_of client.new ≡ number_of client.old }
-        ensures ok { IfOk result (λ made. IsServed (dial (C.given clock.old) (C.least clock.old)) client.old call made.1
+        ensures ok { IfOk result (λ reply. IsServed (dial (C.given clock.old) (C.least clock.old)) client.old call reply
             (dial (C.given clock.new) (C.least clock.new)) client.new) }
-        ensures numbered { IfOk result (λ made. made.0 ≡ length (seen_of client.new)) }
+        ensures length { OnOk result (length (seen_of client.new) ≡ length turn.value.ledger.history + 1) }
         ensures err { IfErr result (λ why. IsUnserved self.now.fixed (dial (C.given clock.old) (C.least clock.old)) client.old call why
             (dial (C.given clock.new) (C.least clock.new)) client.new) }
         ensures own { KnowsItsOwn client.new }
         ensures legal { IsLegal self.now.fixed (seen_of client.new) }
     {
-        let number = turn.value().entries().len() as u64 + 1;
         let at = clock.now();
-        match self.act_at(turn, client, at, call) {
-            Ok(reply) => Ok((number, reply)),
-            Err(why) => Err(why),
-        }
+        self.act_at(turn, client, at, call)
     }
 
     /// Serves a call at this moment in the client's turn, which ends.
@@ -221,5 +219,16 @@ impl SharedMachine {
         let answer = turn.value().look(at, question);
         turn.leave(&self.lock, client);
         answer
+    }
+}
+
+/// What a try came to that had the turn.
+fn tried<T>(served: Result<T, NoEntry>) -> Result<T, TryFault>
+    ensures ok { IfOk served (λ told. result ≡ Ok told) }
+    ensures err { IfErr served (λ why. result ≡ Err (TryFault.Not why)) }
+{
+    match served {
+        Ok(told) => Ok(told),
+        Err(why) => Err(TryFault::Not(why)),
     }
 }

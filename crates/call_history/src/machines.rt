@@ -5,11 +5,12 @@ ghost use Rattle.drmaa_model.specs.declared.entries.Entry.{Entry};
 ghost use Rattle.drmaa_model.specs.History.{IsLegal};
 ghost use Rattle.turn_lock.specs.Histories.{BeginsWith, left_of};
 ghost use Rattle.turn_lock.specs.Tokens.{BelongsTo, IsFree};
+ghost use Rattle.turn_lock.specs.Views.{opener};
 ghost use Rattle.call_history.specs.Callers.{calls_of};
 ghost use Rattle.call_history.specs.Clients.{seen_of, mine_of, number_of, retired_of, KnowsItsOwn};
 
 use drmaa_machine::{Config, Machine};
-use drmaa_types::Refusal;
+use drmaa_types::{Chronicle, Refusal};
 use std::alloc::Global;
 use std::marker::Model;
 use turn_lock::{NotePass, Opener, Pass, TurnLock};
@@ -26,9 +27,15 @@ pub type Note = NotePass<Machine>;
 
 /// One machine that several threads use, one at a time, in the order in which they came. Contracts see which machine it is and
 /// its configuration.
-#[derive(Drop)]
 pub struct SharedMachine {
     pub(crate) lock: TurnLock<Machine>,
+}
+
+// By hand, so that how its parts are let go is proved here once, and not again in each crate that lets a machine go.
+impl Drop for SharedMachine {
+    fn drop(self) {
+        let SharedMachine { lock: _ } = self;
+    }
 }
 
 impl Model for SharedMachine {
@@ -58,10 +65,8 @@ impl SharedMachine {
         ensures err { IfErr result (λ why. why ≡ Refusal.OutOfMemory) }
     {
         let machine = Machine::new(alloc, config)?;
-        match TurnLock::new(alloc, machine) {
-            Ok((lock, opener)) => Ok((SharedMachine { lock }, opener)),
-            Err(_) => Err(Refusal::OutOfMemory),
-        }
+        let (lock, opener) = locked(alloc, machine)?;
+        Ok((SharedMachine { lock }, opener))
     }
 
     /// The next client: its number is the next one, from 0. It has seen what the opener has, and made nothing. It takes no memory.
@@ -159,6 +164,24 @@ impl SharedMachine {
             calls_of result.ledger.history number ≡ own }
         ensures strangers { (number : ℕ) → length (retired_of opener) ≤ number → calls_of result.ledger.history number ≡ [] }
     {
-        self.lock.close(opener)
+        let SharedMachine { lock } = self;
+        lock.close(opener)
+    }
+}
+
+/// A lock over a value that has served nothing, and its opener.
+fn locked<V: Chronicle + Drop>(alloc: Global, value: V) -> Result<(TurnLock<V>, Opener<V>), Refusal>
+    requires { V.entries value ≡ [] }
+    ensures fixed { IfOk result (λ made. made.0.fixed ≡ V.fixed value) }
+    ensures opener { IfOk result (λ made. made.1.view ≡ opener (V.fixed value)) }
+    ensures belongs { IfOk result (λ made. BelongsTo made.0 made.1) }
+    ensures err { IfErr result (λ why. why ≡ Refusal.OutOfMemory) }
+{
+    match TurnLock::new(alloc, value) {
+        Ok(made) => Ok(made),
+        Err(back) => {
+            drop(back);
+            Err(Refusal::OutOfMemory)
+        }
     }
 }

@@ -43,6 +43,14 @@ pub struct ReservationNumbers {
     pub numbers: IdList,
 }
 
+/// Nothing, where a reply is of another kind.
+fn unasked<T>(other: Reply) -> Option<T>
+    ensures { result ≡ None }
+{
+    drop(other);
+    None
+}
+
 impl Told for () {
     ghost use Rattle.drmaa_model.specs.declared.replies.Reply.TheVariants as reply_is;
     ghost use Rattle.drmaa_model.specs.ReplyKinds.{nothing_told};
@@ -54,7 +62,7 @@ impl Told for () {
     fn of(reply: Reply) -> Option<()> {
         match reply {
             Reply::Unit => Some(()),
-            _ => None,
+            other => unasked(other),
         }
     }
 }
@@ -70,7 +78,7 @@ impl Told for SessionId {
     fn of(reply: Reply) -> Option<SessionId> {
         match reply {
             Reply::Session(session) => Some(session),
-            _ => None,
+            other => unasked(other),
         }
     }
 }
@@ -86,7 +94,7 @@ impl Told for TextList {
     fn of(reply: Reply) -> Option<TextList> {
         match reply {
             Reply::Names(names) => Some(names),
-            _ => None,
+            other => unasked(other),
         }
     }
 }
@@ -102,7 +110,7 @@ impl Told for JobId {
     fn of(reply: Reply) -> Option<JobId> {
         match reply {
             Reply::Job(job) => Some(job),
-            _ => None,
+            other => unasked(other),
         }
     }
 }
@@ -126,7 +134,7 @@ impl Told for SubmittedArray {
                 first,
                 count,
             }),
-            _ => None,
+            other => unasked(other),
         }
     }
 }
@@ -142,7 +150,7 @@ impl Told for JobNumbers {
     fn of(reply: Reply) -> Option<JobNumbers> {
         match reply {
             Reply::Jobs(numbers) => Some(JobNumbers { numbers }),
-            _ => None,
+            other => unasked(other),
         }
     }
 }
@@ -158,7 +166,7 @@ impl Told for JobState {
     fn of(reply: Reply) -> Option<JobState> {
         match reply {
             Reply::State(state) => Some(state),
-            _ => None,
+            other => unasked(other),
         }
     }
 }
@@ -174,7 +182,7 @@ impl Told for JobInfo {
     fn of(reply: Reply) -> Option<JobInfo> {
         match reply {
             Reply::Info(info) => Some(info.into_inner()),
-            _ => None,
+            other => unasked(other),
         }
     }
 }
@@ -188,9 +196,9 @@ impl Told for Reserved {
     ghost kind = { a_reserved };
 
     fn of(reply: Reply) -> Option<Reserved> {
-        match &reply {
-            Reply::Reserved(reserved) => Some(*reserved),
-            _ => None,
+        match reply {
+            Reply::Reserved(reserved) => Some(reserved),
+            other => unasked(other),
         }
     }
 }
@@ -206,7 +214,7 @@ impl Told for ReservationInfo {
     fn of(reply: Reply) -> Option<ReservationInfo> {
         match reply {
             Reply::Reservation(info) => Some(info.into_inner()),
-            _ => None,
+            other => unasked(other),
         }
     }
 }
@@ -222,7 +230,7 @@ impl Told for ReservationNumbers {
     fn of(reply: Reply) -> Option<ReservationNumbers> {
         match reply {
             Reply::Reservations(numbers) => Some(ReservationNumbers { numbers }),
-            _ => None,
+            other => unasked(other),
         }
     }
 }
@@ -238,7 +246,7 @@ impl Told for InfoList {
     fn of(reply: Reply) -> Option<InfoList> {
         match reply {
             Reply::Infos(told) => Some(told),
-            _ => None,
+            other => unasked(other),
         }
     }
 }
@@ -254,7 +262,7 @@ impl Told for ReservationList {
     fn of(reply: Reply) -> Option<ReservationList> {
         match reply {
             Reply::ReservationInfos(told) => Some(told),
-            _ => None,
+            other => unasked(other),
         }
     }
 }
@@ -270,7 +278,7 @@ impl Told for MachineInfo {
     fn of(reply: Reply) -> Option<MachineInfo> {
         match reply {
             Reply::Machine(info) => Some(info),
-            _ => None,
+            other => unasked(other),
         }
     }
 }

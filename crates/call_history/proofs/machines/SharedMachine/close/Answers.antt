@@ -1,14 +1,12 @@
-use Rattle.std.proofs.Common.{◌≡◌, ℕ, List, Option, map, sym, ap, subst, ◌∙◌, length, ◌≤◌}
-use Rattle.std.specs.Prelude.{option_map, None, Some}
+use Rattle.std.proofs.Common.{ℕ, List, map, sym, subst, ◌∙◌, ◌≤◌}
 use Rattle.drmaa_model.specs.declared.entries.Entry.{Entry}
 use Rattle.drmaa_model.specs.History.{IsLegal}
 use Rattle.drmaa_machine.specs.ChronicleLaws.{history-told}
-use Rattle.drmaa_machine.specs.Chronicles.{told, history_of, IsLegalTold}
+use Rattle.drmaa_machine.specs.Chronicles.{told, history_of}
 use Rattle.turn_lock.specs.Histories.{BeginsWith}
 use Rattle.drmaa_model.specs.declared.configs.Config.{Config}
 use Rattle.turn_lock.specs.Tokens.{Named}
 use Rattle.call_history.specs.Clients.{seen_of}
-use Rattle.call_history.specs.Turns.{entries_of, config_of}
 use Rattle.call_history.proofs.Tellings.{legal-history, begins, calls-told, retired-at, told-back, left-same, length-retired}
 use Rattle.call_history.proofs.machines.SharedMachine.close.Goals as goal
 

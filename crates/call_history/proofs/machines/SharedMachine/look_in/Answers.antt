@@ -1,4 +1,4 @@
-use Rattle.std.proofs.Common.{◌≡◌, ℕ, List, [], ◌∷◌, ◌++◌, map, refl, sym, ap, subst, ◌∙◌, append-nil}
+use Rattle.std.proofs.Common.{◌≡◌, List, [], refl, sym, ap, subst, ◌∙◌, append-nil}
 use Rattle.drmaa_model.specs.declared.configs.Config.{Config}
 use Rattle.drmaa_model.specs.declared.entries.Entry.{Entry}
 use Rattle.drmaa_model.specs.History.{IsLegal, replay, now_of}
@@ -7,10 +7,16 @@ use Rattle.drmaa_machine.specs.ChronicleLaws.{history-told}
 use Rattle.drmaa_machine.specs.Chronicles.{history_of}
 use Rattle.drmaa_machine.specs.Looks.{IsAnswer}
 use Rattle.drmaa_machine.specs.View.{View}
-use Rattle.call_history.specs.Clients.{seen_of}
-use Rattle.turn_lock.specs.Tokens.{Named}
+use Rattle.call_history.specs.Clients.{seen_of, number_of}
+use Rattle.turn_lock.specs.Tokens.{Named, IsFree}
 use Rattle.call_history.proofs.Tellings.{own-told, legal-history}
 use Rattle.call_history.proofs.machines.SharedMachine.look_in.Goals as goal
+
+pub returns-clause-client : goal.returns-clause-client
+returns-clause-client g c = subst (λ (n : Named Config). IsFree n c.leave.new.pass) c.self.view_is c.leave.ensures.free
+
+pub returns-clause-number : goal.returns-clause-number
+returns-clause-number g c = ap number_of c.leave.ensures.pass
 
 pub returns-clause-own : goal.returns-clause-own
 returns-clause-own g c = let v = c.leave.new.pass.view in own-told v.seen v.mine v.number c.leave.ensures.own

@@ -1,4 +1,4 @@
-use Rattle.std.proofs.Common.{◌≡◌, ℕ, List, refl, ap, sym, subst, ◌∙◌, true, false, IfErr}
+use Rattle.std.proofs.Common.{◌≡◌, refl, ap, sym, subst, ◌∙◌, true, false, IfErr}
 use Rattle.drmaa_model.specs.declared.calls.Call.{Call}
 use Rattle.drmaa_model.specs.Effects.{not_yet}
 use Rattle.drmaa_model.specs.KeptCalls.{kept}
@@ -10,12 +10,32 @@ use Rattle.drmaa_machine.specs.View.{View}
 use Rattle.drmaa_machine.specs.Waits.{call_of}
 use Rattle.call_history.specs.Calls.{entry_by}
 use Rattle.call_history.specs.Clients.{seen_of, mine_of, number_of, Makes}
-use Rattle.call_history.specs.Clocks.{dial, IsReading}
 use Rattle.drmaa_model.specs.declared.configs.Config.{Config}
-use Rattle.turn_lock.specs.Tokens.{Named}
+use Rattle.turn_lock.specs.Tokens.{Named, IsFree}
 use Rattle.call_history.proofs.Tellings.{own-told, legal-history}
-use Rattle.call_history.proofs.Turning.{unserved-now, sees-now, over-look, decided-now, err-three, if_ok}
+use Rattle.call_history.proofs.Turning.{unserved-now, sees-now, over-look, decided-now, err-three, if_ok, not-over}
 use Rattle.call_history.proofs.machines.SharedMachine.look_in_turn.Goals as goal
+
+pub returns-then-must_wait-clause-client : goal.returns-then-must_wait-clause-client
+returns-then-must_wait-clause-client g c = subst (λ (n : Named Config). IsFree n c.leave.new.pass) c.self.view_is c.leave.ensures.free
+
+pub returns-then-must_wait-clause-number : goal.returns-then-must_wait-clause-number
+returns-then-must_wait-clause-number g c = ap number_of c.leave.ensures.pass
+
+pub returns-then-must_wait-clause-decided : goal.returns-then-must_wait-clause-decided
+returns-then-must_wait-clause-decided g c = λ is. not-over c.args.awaited _ is
+
+pub returns-clause-client : goal.returns-clause-client
+returns-clause-client g c = c.act_at.ensures.client
+
+pub returns-clause-number : goal.returns-clause-number
+returns-clause-number g c = c.act_at.ensures.number
+
+pub returns-clause-own : goal.returns-clause-own
+returns-clause-own g c = c.act_at.ensures.own
+
+pub returns-clause-legal : goal.returns-clause-legal
+returns-clause-legal g c = c.act_at.ensures.legal
 
 pub returns-then-must_wait-clause-own : goal.returns-then-must_wait-clause-own
 returns-then-must_wait-clause-own g c = let v = c.leave.new.pass.view in own-told v.seen v.mine v.number c.leave.ensures.own

@@ -1,4 +1,4 @@
-use Rattle.std.proofs.Common.{sym, ap, ◌∙◌, map}
+use Rattle.std.proofs.Common.{ap, ◌∙◌, map}
 use Rattle.std.specs.Prelude.{option_map}
 use Rattle.drmaa_machine.specs.Chronicles.{history_of}
 use Rattle.call_history.proofs.Tellings.{own-told, clean-told, retired-set}
