@@ -1,7 +1,7 @@
-pub mod Counting
-pub mod Enough
+pub mod Checked
 pub mod Fronts
 pub mod Kept
 pub mod Played
 pub mod Ran
 pub mod Somes
+pub mod Texts

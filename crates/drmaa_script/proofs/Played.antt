@@ -1,15 +1,18 @@
 -- How a play ends, and what was written then.
-use Rattle.std.proofs.Common.{◌≡◌, ℕ, List, Option, Some, None, refl, subst}
+use Rattle.std.proofs.Common.{◌≡◌, ℕ, ◌≤◌, List, Option, Some, None, refl, sym, ap, subst, ◌∙◌}
+use Rattle.std.specs.Io.KnownBytes.{Appends}
 use Rattle.journal_text.specs.declared.journals.Journal.{Journal}
+use Rattle.script_asks.specs.Plays.{serial_play}
 use Rattle.script_text.specs.declared.scripts.Mode.TheVariants as mode
 use Rattle.script_text.specs.declared.scripts.Script.{Script}
+use Rattle.text_codec.specs.Formats.{choose}
 use Rattle.drmaa_script.specs.declared.plays.Output.{Output}
 use Rattle.drmaa_script.specs.declared.plays.Output.TheVariants.{Journal as JournalOutput, Listing}
 use Rattle.drmaa_script.specs.declared.status.Status.{Status}
 use Rattle.drmaa_script.specs.declared.status.Status.TheVariants.{Done, Text, Words, ReadFault, WriteFault, Memory, JournalFull, NotLegal}
 use Rattle.drmaa_script.specs.Statuses.{IsQuiet, HasRead, HasWritten, IsUnread, IsRefused, IsUnstarted, ended_as}
-use Rattle.drmaa_script.specs.Registers.{HasPlayed}
-use Rattle.drmaa_script.specs.Outcomes.{IsScriptText, IsJournalText, PlayEnds, PlayedEnds, CheckEnds, CheckedEnds, HasJournal, WritesPlay}
+use Rattle.drmaa_script.specs.Registers.{HasPlayed, registers_of}
+use Rattle.drmaa_script.specs.Outcomes.{IsScriptText, IsJournalText, PlayEnds, PlayedEnds, CheckEnds, CheckedEnds, HasJournal, WritesPlay, journal_of, play_text}
 
 pub writes_has : (output : Output) (full : Option ℕ) → WritesPlay output (ended_as full) → HasJournal output full
 writes_has JournalOutput full w = tt
@@ -24,13 +27,25 @@ pub ended_begun : (full : Option ℕ) → IsUnstarted (ended_as full) → ⊥
 ended_begun None u = u
 ended_begun (Some size) u = u
 
-pub ended_written : (full : Option ℕ) → HasWritten (ended_as full)
-ended_written None = tt
-ended_written (Some size) = tt
-
 pub ended_no_fault : (full : Option ℕ) → ended_as full ≡ WriteFault → ⊥
 ended_no_fault None e = absurd (cc)
 ended_no_fault (Some size) e = absurd (cc)
+
+pub ended_remembers : (full : Option ℕ) → ended_as full ≡ Memory → ⊥
+ended_remembers None e = absurd (cc)
+ended_remembers (Some size) e = absurd (cc)
+
+-- the status by the size that stopped a script's play
+pub full_is : (s : Script) (status : Status) (full : Option ℕ) → status ≡ ended_as full → full ≡ (serial_play s).full → status ≡ ended_as (serial_play s).full
+full_is s status full e f = e ∙ ap ended_as f
+
+-- the text of a play was written
+pub wrote_play : (own : Script → List ℕ) (callbacks : ℕ) (s : Script) (full : Option ℕ) (old new : Option (List ℕ)) → registers_of s ≤ callbacks → full ≡ (serial_play s).full → Appends old new (play_text own s)
+    → PlayedEnds own callbacks s (ended_as full) old new
+wrote_play own callbacks s None old new enough is written =
+    (enough, sym is, subst (λ (f : Option ℕ). Appends old new (choose f (λ (size : ℕ). journal_of s) (own s))) (sym is) written)
+wrote_play own callbacks s (Some size) old new enough is written =
+    (enough, sym is, subst (λ (f : Option ℕ). Appends old new (choose f (λ (n : ℕ). journal_of s) (own s))) (sym is) written)
 
 -- from the script that was read to the bytes that spell it
 pub played_ends : (own : Script → List ℕ) (callbacks : ℕ) (bytes : List ℕ) (s : Script) (status : Status) (old new : Option (List ℕ)) → IsScriptText mode.Serial bytes s → PlayedEnds own callbacks s status old new

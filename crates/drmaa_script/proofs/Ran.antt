@@ -20,7 +20,7 @@ use Rattle.drmaa_script.specs.declared.status.Status.TheVariants.{Done, Text, Wo
 use Rattle.drmaa_script.specs.Outcomes.{IsScriptText}
 use Rattle.drmaa_script.specs.Registers.{registers_of}
 use Rattle.drmaa_script.specs.Running.{IsTextOfRun, RanEnds}
-use Rattle.drmaa_script.specs.Runs.{RunEnds}
+use Rattle.drmaa_script.specs.Runs.{RunEnds, IsRunEnd, LeavesClocks}
 use Rattle.drmaa_script.specs.Statuses.{IsUnread, ended_as}
 
 module _ {C : Type 0} (given : C → Option (List ℕ)) (s : Script) (old new : Option (List ℕ)) (asked asked_after : Option (List Asked)) (fate : ℕ → Fate) (clocks : List C) where
@@ -108,3 +108,16 @@ hub_hears {B = B} counted told config hub before back begun heard take history r
     let here : HaveHeardAll counted told config history hub.ears.places before back =
     subst (λ (bs : List B). HaveHeardAll counted told config history hub.ears.places bs back) begun (subst (λ (h : List Entry). HaveHeardAll counted told config h hub.ears.places hub.ears.begun back) r.noted_is all) in
     record { as_many = here.as_many; each = λ i d inside. here.each i d inside (r.places.each i) }
+
+-- what is true of a run whose journal was written
+pub ended_run : (full : Option ℕ) → IsRunEnd (ended_as full)
+ended_run None = tt
+ended_run (Some size) = tt
+
+pub ended_clocks : (full : Option ℕ) → LeavesClocks (ended_as full)
+ended_clocks None = tt
+ended_clocks (Some size) = tt
+
+pub ran_no_fault : {C : Type 0} (given : C → Option (List ℕ)) (s : Script) (old new : Option (List ℕ)) (asked asked_after : Option (List Asked)) (fate : ℕ → Fate) (clocks : List C) (callbacks : ℕ) (hears : List Entry → Type 0) (status : Status)
+    → RanEnds given s callbacks hears old new asked asked_after fate clocks status → status ≡ ReadFault → ⊥
+ran_no_fault given s old new asked asked_after fate clocks callbacks hears status ends is = subst (λ (x : Status). RanEnds given s callbacks hears old new asked asked_after fate clocks x) is ends

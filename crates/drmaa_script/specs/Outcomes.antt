@@ -9,7 +9,10 @@ use Rattle.drmaa_model.specs.Infos.{infos}
 use Rattle.journal_text.specs.Journals as journals
 use Rattle.journal_text.specs.Journals.{journal_text}
 use Rattle.journal_text.specs.declared.journals.Journal.{Journal}
+use Rattle.journal_check.specs.declared.checks.Verdict.{Verdict}
+use Rattle.journal_check.specs.declared.checks.Verdict.TheVariants as verdict
 use Rattle.journal_check.specs.Faults.{FirstFault}
+use Rattle.journal_check.specs.Verdicts.{Judges}
 use Rattle.monitor_session.specs.Listings.{listing_text}
 use Rattle.script_asks.specs.Plays.{serial_play}
 use Rattle.script_text.specs.Scripts as scripts
@@ -50,9 +53,12 @@ listing_of script = listing_text (infos (serial_play script).world)
 abbrev pub play_text : (Script → List ℕ) → Script → List ℕ
 play_text own script = choose (serial_play script).full (λ (size : ℕ). journal_of script) (own script)
 
--- what is written of a legal history
+-- what is written of a legal history, which has so many entries
+abbrev pub legal_line : ℕ → List ℕ
+legal_line count = codes "legal " ++ decimal count ++ 10 ∷ []
+
 abbrev pub legal_text : List Entry → List ℕ
-legal_text entries = codes "legal " ++ decimal (length entries) ++ 10 ∷ []
+legal_text entries = legal_line (length entries)
 
 -- ---- commands that play a script
 
@@ -160,3 +166,21 @@ CheckedEnds j WriteFault old new = IsLegal j.config j.entries × AppendsFront ol
 CheckedEnds j Memory old new = Unit {0}
 CheckedEnds j (JournalFull size) old new = ⊥
 CheckedEnds j (NotLegal entry given machine) old new = FirstFault j.config j.entries entry given machine
+
+-- The verdict is that of a journal's entries, unless memory ran out.
+pub record IsVerdictOf (j : Journal) (v : Verdict) : Type 0 where
+  pub judges : Judges j.config j.entries v
+  pub legal : IsLegal j.config j.entries → (v ≡ verdict.Legal) ⊎ (v ≡ verdict.OutOfMemory)
+  pub fault : (entry : ℕ) (given : Reply) (machine : Option Reply) → FirstFault j.config j.entries entry given machine
+      → (v ≡ verdict.NotLegal entry given machine) ⊎ (v ≡ verdict.OutOfMemory)
+
+-- what is written where so many entries were found legal
+abbrev pub LegalEnds : ℕ → Status → Option (List ℕ) → Option (List ℕ) → Type 0
+LegalEnds count Done old new = Appends old new (legal_line count)
+LegalEnds count (Text line) old new = ⊥
+LegalEnds count Words old new = ⊥
+LegalEnds count ReadFault old new = ⊥
+LegalEnds count WriteFault old new = AppendsFront old new (legal_line count)
+LegalEnds count Memory old new = Unit {0}
+LegalEnds count (JournalFull size) old new = ⊥
+LegalEnds count (NotLegal entry given machine) old new = ⊥

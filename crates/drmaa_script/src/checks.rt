@@ -1,12 +1,12 @@
 //! The command that checks a journal.
-ghost use Rattle.std.specs.Prelude.{◌≡◌, ◌≢◌, ◌⊎◌, ◌++◌, ◌∷◌, [], ℕ, Option, IfSome, IfOk, codes, decimal, string_bytes};
+ghost use Rattle.std.specs.Prelude.{◌≡◌, ◌≢◌, ◌⊎◌, ℕ, Option, IfSome, IfOk, string_bytes};
 ghost use Rattle.std.specs.Io.KnownBytes.{IsAtEnd};
 ghost use Rattle.drmaa_types.specs.Counts.{Rose};
 ghost use Rattle.drmaa_model.specs.History.{IsLegal};
 ghost use Rattle.drmaa_model.specs.declared.replies.Reply.{Reply};
 ghost use Rattle.journal_check.specs.Faults.{FirstFault};
 ghost use Rattle.journal_text.specs.Journals.{IsWritable};
-ghost use Rattle.drmaa_script.specs.Outcomes.{CheckEnds, CheckIsWhole, CheckedEnds, IsReadOut};
+ghost use Rattle.drmaa_script.specs.Outcomes.{CheckEnds, CheckIsWhole, CheckedEnds, IsReadOut, IsVerdictOf, LegalEnds, legal_line};
 ghost use Rattle.drmaa_script.specs.Statuses.{IsQuiet, HasRead, HasWritten};
 
 use crate::inputs::read_journal;
@@ -18,9 +18,35 @@ use std::alloc::{AllocError, Global};
 
 /// What is written of a legal history of so many entries.
 fn legal_text(alloc: Global, count: u64) -> Result<String, AllocError>
-    ensures { IfOk result (λ text. string_bytes text ≡ codes "legal " ++ decimal count ++ 10 ∷ []) }
+    ensures { IfOk result (λ text. string_bytes text ≡ legal_line count) }
 {
     format!(in alloc; "legal {count}\n")
+}
+
+/// Writes that a history of so many entries is legal.
+fn write_legal<W: Sink>(alloc: Global, count: u64, sink: &mut W) -> Status
+    ensures ends { LegalEnds count result (W.written sink.old) (W.written sink.new) }
+    ensures finished { HasWritten result → W.finished sink.new }
+    ensures fault { result ≡ Status.WriteFault → Rose (W.faults sink.old) (W.faults sink.new) }
+    ensures untouched { IsQuiet result → sink.new ≡ sink.old }
+    ensures whole { (Rose (W.faults sink.old) (W.faults sink.new) → ⊥) → (result ≡ Status.Done) ⊎ (result ≡ Status.Memory) }
+{
+    let Ok(text) = legal_text(alloc, count) else {
+        return Status::Memory;
+    };
+    match write_all(sink, text.as_bytes()) {
+        Ok(()) => Status::Done,
+        Err(_) => Status::WriteFault,
+    }
+}
+
+/// Whether a journal is legal.
+fn judged(alloc: Global, journal: Journal) -> Verdict
+    requires { IsWritable journal.config journal.entries }
+    ensures { IsVerdictOf journal result }
+{
+    a_writable_journal_keeps_its_calls();
+    check(alloc, journal.config, journal.entries)
 }
 
 /// Checks a journal, and writes that it is legal.
@@ -34,15 +60,9 @@ fn write_check<W: Sink>(alloc: Global, journal: Journal, sink: &mut W) -> Status
     ensures wrong { (entry : ℕ) (given : Reply) (machine : Option Reply) → FirstFault journal.config journal.entries entry given machine
         → (result ≡ Status.NotLegal entry given machine) ⊎ (result ≡ Status.Memory) }
 {
-    a_writable_journal_keeps_its_calls();
-    let Ok(text) = legal_text(alloc, journal.entries.as_slice().len() as u64) else {
-        return Status::Memory;
-    };
-    match check(alloc, journal.config, journal.entries) {
-        Verdict::Legal => match write_all(sink, text.as_bytes()) {
-            Ok(()) => Status::Done,
-            Err(_) => Status::WriteFault,
-        },
+    let count = journal.entries.as_slice().len() as u64;
+    match judged(alloc, journal) {
+        Verdict::Legal => write_legal(alloc, count, sink),
         Verdict::NotLegal {
             entry,
             given,

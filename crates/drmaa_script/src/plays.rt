@@ -88,7 +88,7 @@ fn own_text(
 }
 
 /// What is written of a play: the journal where the play stopped.
-fn text_of(
+fn play_bytes(
     alloc: Global,
     output: Output,
     script: &Script,
@@ -106,6 +106,26 @@ fn text_of(
         Some(_) => journal_of(alloc, script, machine),
         None => own_text(alloc, output, script, machine),
     }
+}
+
+/// What is written of a script's play, and the size that stopped it.
+fn text_of(
+    alloc: Global,
+    output: Output,
+    script: &Script,
+    played: &Played,
+) -> Result<PlayText, AllocError>
+    requires spelled { IsSpelled mode.Serial script.now }
+    requires played { played.now.machine.ledger ≡ record { config = script.now.config; history = (serial_play script.now).entries } }
+    requires world { now_of played.now.machine.ledger ≡ (serial_play script.now).world }
+    requires full { played.now.full ≡ (serial_play script.now).full }
+    ensures text { IfOk result (λ text. text.bytes ≡ play_text (own_of output) script.now) }
+    ensures full { IfOk result (λ text. text.full ≡ (serial_play script.now).full) }
+    ensures writable { HasJournal output (serial_play script.now).full → OnOk result (IsWritten script.now) }
+{
+    let full = played.full;
+    let bytes = play_bytes(alloc, output, script, &played.machine, full)?;
+    Ok(PlayText { bytes, full })
 }
 
 /// Plays a script, which callbacks hear, and gives what is written of the play.
@@ -127,9 +147,8 @@ fn played_text<B: Callback>(
     ensures heard { HaveHeard B.counted B.told ears.new }
 {
     each_script_can_be_played();
-    let Played { machine, full } = play(alloc, script, ears)?;
-    let bytes = text_of(alloc, output, script, &machine, full)?;
-    Ok(PlayText { bytes, full })
+    let played = play(alloc, script, ears)?;
+    text_of(alloc, output, script, &played)
 }
 
 /// How a play ends whose text was written.

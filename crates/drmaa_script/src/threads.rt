@@ -1,5 +1,5 @@
 //! The command that plays a script in threads.
-ghost use Rattle.std.specs.Prelude.{◌≡◌, ◌<◌, ◌≤◌, ℕ, [], length, None, IfSome, IfOk};
+ghost use Rattle.std.specs.Prelude.{◌≡◌, ◌<◌, ◌≤◌, ℕ, [], length, None, IfSome, IfOk, Ok};
 ghost use Rattle.std.specs.Io.KnownBytes.{IsAtEnd};
 ghost use Rattle.drmaa_types.specs.Counts.{Rose};
 ghost use Rattle.notify_hub.specs.Ears.{HaveHeard};
@@ -13,7 +13,7 @@ ghost use Rattle.drmaa_script.specs.Running.{IsTextOfRun, RanEnds};
 ghost use Rattle.drmaa_script.specs.Statuses.{IsQuiet, HasRead, HasWritten, IsUnstarted};
 
 use crate::inputs::read_script;
-use crate::outcomes::{Ended, Outcome, without_clocks};
+use crate::outcomes::Outcome;
 use crate::plays::ended_as;
 use crate::registers::are_enough;
 use crate::status::Status;
@@ -39,6 +39,20 @@ struct RunText<C> {
     clocks: ClockList<C>,
 }
 
+/// The bytes of a run's journal, if there are, with what else the run leaves.
+fn text_with<C: Drop>(
+    bytes: Result<Bytes, AllocError>,
+    run: Run<C>,
+) -> Result<RunText<C>, AllocError>
+    ensures { IfOk result (λ text. (bytes ≡ Ok text.bytes) × (text.full ≡ run.full) × (text.clocks ≡ run.clocks)) }
+{
+    Ok(RunText {
+        bytes: bytes?,
+        full: run.full,
+        clocks: run.clocks,
+    })
+}
+
 /// Plays a script in threads, which the hub's callbacks hear, and gives its journal.
 fn run_text<E: Threads + Wait + Pause + Sync, K: Clocks, S: Spawner + Send, B: Callback + Send>(
     rt: &E,
@@ -58,17 +72,10 @@ fn run_text<E: Threads + Wait + Pause + Sync, K: Clocks, S: Spawner + Send, B: C
     ensures heard { HaveHeard B.counted B.told hub.old.ears → HaveHeard B.counted B.told hub.new.ears }
 {
     a_run_is_printable::<K>();
-    let Run {
-        machine,
-        full,
-        clocks,
-    } = play_threads(rt, alloc, script, clocks, spawner, bell, hub)?;
-    let bytes = journal_bytes(alloc, machine.config(), machine.entries())?;
-    Ok(RunText {
-        bytes,
-        full,
-        clocks,
-    })
+    let played = play_threads(rt, alloc, script, clocks, spawner, bell, hub)?;
+    let machine = &played.machine;
+    let bytes = journal_bytes(alloc, machine.config(), machine.entries());
+    text_with(bytes, played)
 }
 
 /// How a run ended, and the clocks that it leaves.
@@ -165,24 +172,20 @@ fn run_to<
     ensures unheard { IsUnstarted result.status → result.callbacks ≡ callbacks }
 {
     if !are_enough(script, callbacks.as_slice().len()) {
-        return without_clocks(
-            alloc,
-            Ended {
-                status: Status::Words,
-                callbacks,
-            },
-        );
+        return Outcome {
+            status: Status::Words,
+            callbacks,
+            clocks: ClockList::new(alloc),
+        };
     }
     let mut hub = match Hub::new(alloc, callbacks) {
         Ok(hub) => hub,
         Err(callbacks) => {
-            return without_clocks(
-                alloc,
-                Ended {
-                    status: Status::Memory,
-                    callbacks,
-                },
-            );
+            return Outcome {
+                status: Status::Memory,
+                callbacks,
+                clocks: ClockList::new(alloc),
+            };
         }
     };
     let Ran { status, clocks } = write_run(
@@ -232,6 +235,10 @@ pub fn run_threads<
 {
     match read_script(alloc, Mode::Threads, source) {
         Ok(script) => run_to(rt, alloc, &script, sink, clocks, spawner, bell, callbacks),
-        Err(status) => without_clocks(alloc, Ended { status, callbacks }),
+        Err(status) => Outcome {
+            status,
+            callbacks,
+            clocks: ClockList::new(alloc),
+        },
     }
 }

@@ -10,7 +10,7 @@ use Rattle.drmaa_script.specs.declared.status.Status.TheVariants.{Text, ReadFaul
 use Rattle.drmaa_script.specs.Outcomes.{SpellsScript, IsScriptText, IsWritten, PlayIsWhole, own_of}
 use Rattle.drmaa_script.specs.Registers.{end_of}
 use Rattle.drmaa_script.proofs.Kept.{kept_same, same_front}
-use Rattle.drmaa_script.proofs.Played.{unread_ends, unread_refused, unread_played}
+use Rattle.drmaa_script.proofs.Played.{played_ends, read_no_fault, unread_ends, unread_words, unread_reads, unread_written, unread_writes, unread_play, unread_refused, unread_played}
 use Rattle.drmaa_script.proofs.Somes.{some_both, some_all}
 use Rattle.drmaa_script.proofs.plays.run_play.Goals as goal
 
@@ -64,3 +64,41 @@ returns-in-Err-clause-heard_front g c = λ want.
 
 pub returns-in-Err-clause-kept : goal.returns-in-Err-clause-kept
 returns-in-Err-clause-kept g c = kept_same g.B.Callback.counted g.B.Callback.told c.args.callbacks
+
+pub returns-in-Ok-clause-ends : goal.returns-in-Ok-clause-ends
+returns-in-Ok-clause-ends g c =
+    IfSome_then (g.R.Source.left c.args.source.now) c.in-Ok.ensures.found (λ bytes spelled.
+    played_ends (own_of c.args.output) (length c.args.callbacks) bytes c.in-Ok.script c.play_to.result.status _ _ spelled c.play_to.ensures.ends)
+
+pub returns-in-Ok-clause-words : goal.returns-in-Ok-clause-words
+returns-in-Ok-clause-words g c = λ _. c.in-Ok.ensures.end
+
+pub returns-in-Ok-clause-read_whole : goal.returns-in-Ok-clause-read_whole
+returns-in-Ok-clause-read_whole g c = λ _. c.in-Ok.ensures.end
+
+pub returns-in-Ok-clause-read_out : goal.returns-in-Ok-clause-read_out
+returns-in-Ok-clause-read_out g c = λ line e. inl c.in-Ok.ensures.end
+
+pub returns-in-Ok-clause-read_fault : goal.returns-in-Ok-clause-read_fault
+returns-in-Ok-clause-read_fault g c = λ e. absurd (read_no_fault (own_of c.args.output) (length c.args.callbacks) c.in-Ok.script c.play_to.result.status _ _ c.play_to.ensures.ends e)
+
+pub returns-in-Err-clause-words : goal.returns-in-Err-clause-words
+returns-in-Err-clause-words g c = λ e. absurd (unread_words c.in-Err.status c.in-Err.ensures.causes e)
+
+pub returns-in-Err-clause-read_whole : goal.returns-in-Err-clause-read_whole
+returns-in-Err-clause-read_whole g c = λ h. absurd (unread_reads c.in-Err.status c.in-Err.ensures.causes h)
+
+pub returns-in-Err-clause-read_out : goal.returns-in-Err-clause-read_out
+returns-in-Err-clause-read_out g c = λ n e. c.in-Err.ensures.read_out n (err_is c.in-Err.status (Text n) e)
+
+pub returns-in-Err-clause-finished : goal.returns-in-Err-clause-finished
+returns-in-Err-clause-finished g c = λ h. absurd (unread_written c.in-Err.status c.in-Err.ensures.causes h)
+
+pub returns-in-Err-clause-read_fault : goal.returns-in-Err-clause-read_fault
+returns-in-Err-clause-read_fault g c = λ e. c.in-Err.ensures.fault (err_is c.in-Err.status ReadFault e)
+
+pub returns-in-Err-clause-write_fault : goal.returns-in-Err-clause-write_fault
+returns-in-Err-clause-write_fault g c = λ e. absurd (unread_writes c.in-Err.status c.in-Err.ensures.causes e)
+
+pub returns-in-Err-clause-writable : goal.returns-in-Err-clause-writable
+returns-in-Err-clause-writable g c = λ w. absurd (unread_play c.args.output c.in-Err.status c.in-Err.ensures.causes w)

@@ -1,27 +1,15 @@
-use Rattle.std.proofs.Common.{rules, ◌≡◌, List, sym, ap, subst, ◌∙◌}
-use Rattle.drmaa_model.specs.declared.configs.Config.{Config}
-use Rattle.drmaa_model.specs.declared.entries.Entry.{Entry}
-use Rattle.journal_text.specs.Journals.{IsWritable, journal_text}
-use Rattle.journal_text.specs.Printing.{IsPrintable}
+use Rattle.std.proofs.Common.{◌≡◌, sym, ap, ◌∙◌}
+use Rattle.thread_play.specs.Hubs.{HearRun}
+use Rattle.drmaa_script.proofs.Texts.{printed_run}
+use Rattle.drmaa_script.proofs.Somes.{ok_of}
 use Rattle.drmaa_script.proofs.threads.run_text.Goals as goal
-
--- what holds of the script's machine and of its run holds of what is printed
-given : (P : Config → List Entry → Type 0) (a b : Config) (g h : List Entry) → a ≡ b → g ≡ h → P b h → P a g
-given P a b g h e f p = subst (λ (x : Config). P x g) (sym e) (subst (λ (y : List Entry). P b y) (sym f) p)
 
 pub returns-clause-text : goal.returns-clause-text
 returns-clause-text g c =
     let s = c.args.script.now in
-    let h = c.in_ok-machine.field-0.machine.ledger.history in
-    let config : c.config.result.now ≡ s.config = search rules in
-    let entries : c.entries.result.now ≡ h = search rules in
-    let run = c.in_ok-machine.ensures.run in
-    let printable : IsPrintable c.config.result.now c.entries.result.now =
-    given IsPrintable c.config.result.now s.config c.entries.result.now h config entries (c.a_run_is_printable.ensures s h _ _ _ _ _ c.requires.spelled run) in
-    let writable : IsWritable c.config.result.now c.entries.result.now = c.in_ok-bytes.ensures.writable printable in
-    record {
-      history = h;
-      text = c.in_ok-bytes.ensures.written writable ∙ (ap (λ (k : Config). journal_text k c.entries.result.now) config ∙ ap (λ (es : List Entry). journal_text s.config es) entries);
-      run = record { readable = given IsWritable s.config c.config.result.now h c.entries.result.now (sym config) (sym entries) writable; run = run };
-      heard = c.in_ok-machine.ensures.hub;
-    }
+    let played = c.in_ok-played.played in
+    let run = c.in_ok-played.ensures.run in
+    ok_of c.text_with.result _ _ (λ text t. printed_run g.K.One.Clock.given s played.machine.ledger.history _ _ _ played.clocks played.full (λ history. HearRun s.config history c.play_threads.new.hub)
+    c.config.result.now c.entries.result.now c.journal_bytes-bytes.result text.bytes text.clocks text.full (c.config.ensures ∙ c.in_ok-played.ensures.config) c.entries.ensures.entries
+    (c.a_run_is_printable.ensures s played.machine.ledger.history _ _ _ played.clocks played.full c.requires.spelled run) c.journal_bytes-bytes.ensures.writable c.journal_bytes-bytes.ensures.written
+    t.0 run c.in_ok-played.ensures.hub t.2 t.1) c.text_with.ensures

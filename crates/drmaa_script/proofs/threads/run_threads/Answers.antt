@@ -8,8 +8,9 @@ use Rattle.drmaa_script.specs.declared.status.Status.TheVariants.{Text, Words, R
 use Rattle.drmaa_script.specs.Outcomes.{SpellsScript, IsScriptText}
 use Rattle.drmaa_script.specs.Runs.{RunEnds, RunIsWhole, IsRunEnd}
 use Rattle.drmaa_script.specs.Registers.{registers_of}
-use Rattle.drmaa_script.proofs.Played.{unread_refused}
-use Rattle.drmaa_script.proofs.Ran.{unread_run, ran_ends}
+use Rattle.drmaa_script.proofs.Kept.{kept_same}
+use Rattle.drmaa_script.proofs.Played.{unread_words, unread_reads, unread_written, unread_writes, unread_refused}
+use Rattle.drmaa_script.proofs.Ran.{unread_run, ran_ends, ran_no_fault}
 use Rattle.drmaa_script.proofs.Somes.{some_both, some_all}
 use Rattle.drmaa_script.proofs.threads.run_threads.Goals as goal
 
@@ -30,18 +31,48 @@ returns-in-Ok-clause-whole g c = λ calm quiet.
       other = λ none. absurd (none c.in-Ok.script spelled);
     }) c.in-Ok.ensures.found c.in-Ok.ensures.only
 
+pub returns-in-Ok-clause-words : goal.returns-in-Ok-clause-words
+returns-in-Ok-clause-words g c = λ _. c.in-Ok.ensures.end
+
+pub returns-in-Ok-clause-read_whole : goal.returns-in-Ok-clause-read_whole
+returns-in-Ok-clause-read_whole g c = λ _. c.in-Ok.ensures.end
+
+pub returns-in-Ok-clause-read_out : goal.returns-in-Ok-clause-read_out
+returns-in-Ok-clause-read_out g c = λ line e. inl c.in-Ok.ensures.end
+
+pub returns-in-Ok-clause-read_fault : goal.returns-in-Ok-clause-read_fault
+returns-in-Ok-clause-read_fault g c = λ e.
+    absurd (ran_no_fault g.K.One.Clock.given c.in-Ok.script (g.W.Sink.written c.args.sink.now) (g.W.Sink.written c.run_to.new.sink) (g.S.Spawner.asked c.args.spawner.now) (g.S.Spawner.asked c.run_to.new.spawner) (g.S.Spawner.fate c.run_to.new.spawner)
+    c.run_to.result.clocks (length c.args.callbacks) _ c.run_to.result.status c.run_to.ensures.ends e)
+
 pub returns-in-Err-clause-ends : goal.returns-in-Err-clause-ends
 returns-in-Err-clause-ends g c =
     let left = g.R.Source.left c.args.source.now in
     IfSome_then left (some_all left (λ n. ◌≡◌ {A = Result Script Status} (Err c.in-Err.status) (Err (Text n))) (λ n bytes. IsFirstBad (SpellsScript mode.Threads) 16_777_216 bytes n) c.in-Err.ensures.line) (λ bytes line.
-    subst (λ (s : Status). RunEnds g.B.Callback.counted g.B.Callback.told g.K.One.Clock.given bytes (g.W.Sink.written c.args.sink.now) (g.W.Sink.written c.args.sink.now) (g.S.Spawner.asked c.args.spawner.now) (g.S.Spawner.asked c.args.spawner.now)
-    (g.S.Spawner.fate c.args.spawner.now) c.without_clocks.result.clocks c.args.callbacks c.without_clocks.result.callbacks s) (sym c.without_clocks.ensures.status)
-    (unread_run g.B.Callback.counted g.B.Callback.told g.K.One.Clock.given bytes (g.W.Sink.written c.args.sink.now) (g.W.Sink.written c.args.sink.now) (g.S.Spawner.asked c.args.spawner.now) (g.S.Spawner.asked c.args.spawner.now)
-    (g.S.Spawner.fate c.args.spawner.now) c.without_clocks.result.clocks c.args.callbacks c.without_clocks.result.callbacks c.in-Err.status c.in-Err.ensures.causes (λ n e. line n (err_is c.in-Err.status (Text n) e))))
+    unread_run g.B.Callback.counted g.B.Callback.told g.K.One.Clock.given bytes (g.W.Sink.written c.args.sink.now) (g.W.Sink.written c.args.sink.now) (g.S.Spawner.asked c.args.spawner.now) (g.S.Spawner.asked c.args.spawner.now)
+    (g.S.Spawner.fate c.args.spawner.now) c.new.result c.args.callbacks c.args.callbacks c.in-Err.status c.in-Err.ensures.causes (λ n e. line n (err_is c.in-Err.status (Text n) e)))
+
+pub returns-in-Err-clause-words : goal.returns-in-Err-clause-words
+returns-in-Err-clause-words g c = λ e. absurd (unread_words c.in-Err.status c.in-Err.ensures.causes e)
+
+pub returns-in-Err-clause-read_whole : goal.returns-in-Err-clause-read_whole
+returns-in-Err-clause-read_whole g c = λ h. absurd (unread_reads c.in-Err.status c.in-Err.ensures.causes h)
+
+pub returns-in-Err-clause-read_out : goal.returns-in-Err-clause-read_out
+returns-in-Err-clause-read_out g c = λ n e. c.in-Err.ensures.read_out n (err_is c.in-Err.status (Text n) e)
+
+pub returns-in-Err-clause-finished : goal.returns-in-Err-clause-finished
+returns-in-Err-clause-finished g c = λ h. absurd (unread_written c.in-Err.status c.in-Err.ensures.causes h)
+
+pub returns-in-Err-clause-read_fault : goal.returns-in-Err-clause-read_fault
+returns-in-Err-clause-read_fault g c = λ e. c.in-Err.ensures.fault (err_is c.in-Err.status ReadFault e)
+
+pub returns-in-Err-clause-write_fault : goal.returns-in-Err-clause-write_fault
+returns-in-Err-clause-write_fault g c = λ e. absurd (unread_writes c.in-Err.status c.in-Err.ensures.causes e)
 
 pub returns-in-Err-clause-whole : goal.returns-in-Err-clause-whole
 returns-in-Err-clause-whole g c = λ calm quiet.
-    IfSome_then (g.R.Source.left c.args.source.now) c.in-Err.ensures.only (λ bytes only. subst (λ (status : Status). RunIsWhole (length c.args.callbacks) bytes status) (sym c.without_clocks.ensures.status) (record {
+    IfSome_then (g.R.Source.left c.args.source.now) c.in-Err.ensures.only (λ bytes only. record {
       script = λ s t enough. (elim (only s t) as (λ _. IsRunEnd c.in-Err.status) [
         | inl e ↦ absurd (calm (c.in-Err.ensures.fault (err_is c.in-Err.status ReadFault e)))
         | inr e ↦ subst IsRunEnd (sym e) tt
@@ -51,4 +82,7 @@ returns-in-Err-clause-whole g c = λ calm quiet.
         | inr e ↦ inr e
       ]);
       other = λ none. unread_refused c.in-Err.status c.in-Err.ensures.causes (λ e. calm (c.in-Err.ensures.fault (err_is c.in-Err.status ReadFault e)));
-    }))
+    })
+
+pub returns-in-Err-clause-kept : goal.returns-in-Err-clause-kept
+returns-in-Err-clause-kept g c = kept_same g.B.Callback.counted g.B.Callback.told c.args.callbacks
