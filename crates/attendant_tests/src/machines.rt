@@ -6,7 +6,7 @@ ghost use Rattle.call_history.specs.Clients.{retired_of};
 use crate::asking::text;
 use call_history::{Bell, Config, Desk, Machine, MachineOpener, SharedMachine};
 use child_spawner::{Fate, FateList, MemorySpawner};
-use drmaa_types::{Exit, Moment, PlaceList, StepClock};
+use drmaa_types::{Exit, Moment, PlaceList, QueueList, StepClock};
 use std::alloc::Global;
 use std::process::Abort;
 
@@ -20,6 +20,7 @@ pub fn open_machine(rt: &impl Abort, alloc: Global, journal: u64) -> (SharedMach
         name: text(alloc, "node1"),
         suspend: true,
         journal: journal.clamp(1, 4_000_000),
+        queues: QueueList::new(alloc),
     };
     match SharedMachine::new(alloc, config) {
         Ok(made) => made,

@@ -1,5 +1,6 @@
 //! The machine behind its lock: who opens it to clients, what clients tell each other, and how it is closed.
-ghost use Rattle.std.specs.Prelude.{◌≡◌, ℕ, ◌<◌, ◌≤◌, List, [], ◌∷◌, ◌++◌, length, IfOk, IfErr, Some, None, slice_set, slice_index_or};
+ghost use Rattle.std.specs.Prelude.{◌≡◌, ℕ, ◌<◌, ◌≤◌, List, [], ◌∷◌, ◌++◌, length, IfOk, IfErr, Some, None, true, slice_set, slice_index_or};
+ghost use Rattle.drmaa_types.specs.Queues.{are_queues};
 ghost use Rattle.drmaa_types.specs.declared.refusals.Refusal.{Refusal};
 ghost use Rattle.drmaa_model.specs.declared.entries.Entry.{Entry};
 ghost use Rattle.drmaa_model.specs.History.{IsLegal};
@@ -48,7 +49,8 @@ impl Model for SharedMachine {
 }
 
 impl SharedMachine {
-    /// A machine that has served nothing, and its opener. Slots are from 1 to 65,535, and the journal size from 1 to 4,000,000.
+    /// A machine that has served nothing, and its opener. Slots are from 1 to 65,535, and the journal size from 1 to 4,000,000. There
+    /// are at most 16 queues, with distinct names of 1 to 255 bytes and limits from 1 to the slots (`drmaa_types::are_queues`).
     ///
     /// # Errors
     ///
@@ -58,6 +60,7 @@ impl SharedMachine {
         requires most_slots { config.slots ≤ 65_535 }
         requires least_journal { 1 ≤ config.journal }
         requires most_journal { config.journal ≤ 4_000_000 }
+        requires queues { are_queues config.slots config.queues ≡ true }
         ensures config { IfOk result (λ made. made.0.fixed ≡ config) }
         ensures opener { IfOk result (λ made. BelongsTo made.0 made.1) }
         ensures seen { IfOk result (λ made. seen_of made.1 ≡ []) }

@@ -8,14 +8,14 @@ ghost use Rattle.client_sessions.specs.Machines.{plain_config};
 
 use crate::templates::text_of;
 use call_history::{Bell, Config, Desk, MachineOpener, SharedMachine};
-use drmaa_types::{Clock, Moment, Refusal, StepClock};
+use drmaa_types::{Clock, Moment, QueueList, Refusal, StepClock};
 use std::alloc::Global;
 
 /// The greatest journal size that a machine may have.
 const JOURNAL_SIZE: u64 = 4_000_000;
 
 /// A machine that has served nothing, with so many slots, from 1 to 65,535, and this name, and its opener. Its jobs can be
-/// suspended, and its journal may have the greatest size.
+/// suspended, its journal may have the greatest size, and it has no queues.
 ///
 /// # Errors
 ///
@@ -38,6 +38,7 @@ pub fn plain_machine(
         name: text_of(alloc, name)?,
         suspend: true,
         journal: JOURNAL_SIZE,
+        queues: QueueList::new(alloc),
     };
     SharedMachine::new(alloc, config)
 }

@@ -1,6 +1,7 @@
 //! The machine: a history, and the world that it leads to.
 ghost use Rattle.std.specs.Prelude.{◌≡◌, ◌≢◌, ◌+◌, ◌≤◌, ◌↔◌, ◌⊎◌, ℕ, [], IfOk, IfErr, IsOk, OnOk, OnErr, IsTrue, true, None, Some, length};
 ghost use Rattle.std.specs.Option.{option_map};
+ghost use Rattle.drmaa_types.specs.Queues.{are_queues};
 ghost use Rattle.drmaa_types.specs.declared.refusals.Refusal.{Refusal};
 ghost use Rattle.drmaa_model.specs.declared.rows.Row.{Row};
 ghost use Rattle.drmaa_model.specs.Consistent.{IsConsistent};
@@ -61,7 +62,8 @@ impl Model for Machine {
 }
 
 impl Machine {
-    /// A machine that has served nothing. Slots are from 1 to 65,535, and the journal size from 1 to 4,000,000.
+    /// A machine that has served nothing. Slots are from 1 to 65,535, and the journal size from 1 to 4,000,000. There are at most 16
+    /// queues, with distinct names of 1 to 255 bytes and limits from 1 to the slots (`drmaa_types::are_queues`).
     ///
     /// # Errors
     ///
@@ -71,23 +73,27 @@ impl Machine {
         requires most_slots { config.slots ≤ 65_535 }
         requires least_journal { 1 ≤ config.journal }
         requires most_journal { config.journal ≤ 4_000_000 }
+        requires queues { are_queues config.slots config.queues ≡ true }
         ensures ok { IfOk result (λ machine. machine.ledger ≡ record { config = config; history = [] }) }
         ensures err { IfErr result (λ why. why ≡ Refusal.OutOfMemory) }
     {
-        match SessionTable::new(alloc) {
-            Ok(sessions) => Ok(Machine {
-                store: Store {
-                    alloc,
-                    core: Core::new(alloc, config.slots),
-                    config,
-                    sessions,
-                    registrations: 0,
-                    entries: 0,
-                    history: Vec::new(alloc),
-                },
-            }),
-            Err(_) => Err(Refusal::OutOfMemory),
-        }
+        let Ok(sessions) = SessionTable::new(alloc) else {
+            return Err(Refusal::OutOfMemory);
+        };
+        let Ok(queues) = config.queues.clone() else {
+            return Err(Refusal::OutOfMemory);
+        };
+        Ok(Machine {
+            store: Store {
+                alloc,
+                core: Core::new(alloc, config.slots, queues),
+                config,
+                sessions,
+                registrations: 0,
+                entries: 0,
+                history: Vec::new(alloc),
+            },
+        })
     }
 
     /// Serves a call, as one step and one entry; a refusal is a reply too. The entry has the call as it is kept: a limit whose

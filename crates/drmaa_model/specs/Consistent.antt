@@ -24,6 +24,8 @@ pub record IsConsistent (w : World) : Type 0 where
   pub fit : IsFit w.plan
   -- the plan is for the machine's slots
   pub total : w.plan.total ≡ w.config.slots
+  -- and has the machine's queues
+  pub queues : w.plan.queues ≡ w.config.queues
   pub few : AreFew w.plan.rows w.plan.reservations
   pub sessions : AreSound w.sessions
   -- an entry submits at most 10,000 jobs, and takes at most one of each other number

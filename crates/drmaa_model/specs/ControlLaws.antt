@@ -5,6 +5,7 @@ use Rattle.std.specs.List.{AllByRecursion, flat_map}
 use Rattle.std.specs.Option.{option_map, option_map_or}
 use Rattle.std.proofs.lemmas.Bool.{and_parts, false≢true, not-false}
 use Rattle.std.proofs.lemmas.List.Sums.{sum_by-cons}
+use Rattle.drmaa_types.specs.Queues.{queue_at}
 use Rattle.drmaa_types.specs.States.{is_started, has_terminated, after_control}
 use Rattle.drmaa_types.specs.declared.identifiers.ArrayId.{ArrayId}
 use Rattle.drmaa_types.specs.declared.identifiers.JobId.{JobId}
@@ -24,9 +25,9 @@ use Rattle.drmaa_model.specs.declared.rows.Row.{Row}
 use Rattle.drmaa_model.specs.Controlling.{permits, is_controlled, controlled_row, control_step, orders_for, asked_orders, control, is_done, reap}
 use Rattle.drmaa_model.specs.Courses.{failed, called, may_kill, terminated, controlled, asked_for}
 use Rattle.drmaa_model.specs.Fit.{number_of, IsSound, IsFor, IsFit, IsBound, IsAlike, launched_at}
-use Rattle.drmaa_model.specs.FitLaws.{Eases, eases-same, eases-failed, eases-asked, eased, SameKind, same-kind, ends-waiting, orders-lasting, all-append, bound-under}
+use Rattle.drmaa_model.specs.FitLaws.{queue-under, Eases, eases-same, eases-failed, eases-asked, eased, SameKind, same-kind, ends-waiting, orders-lasting, all-append, bound-under}
 use Rattle.drmaa_model.specs.Launching.{is_alive}
-use Rattle.drmaa_model.specs.Load.{uses_at, is_using, held_inside, in_reservation, holds_in}
+use Rattle.drmaa_model.specs.Load.{in_queue, held_in_queue, uses_at, is_using, held_inside, in_reservation, holds_in}
 use Rattle.drmaa_model.specs.OperationLaws.{KeepsFit}
 use Rattle.drmaa_model.specs.OrderLaws.{rising-filter}
 use Rattle.drmaa_model.specs.Plan.{Plan}
@@ -261,6 +262,7 @@ fewer-rows-fit test stops p fit = record {
   books = fit.books;
   inside = all-implied (λ (a : Accepted). in_reservation a.reservation p.rows ≤ a.slots) (λ (a : Accepted). in_reservation a.reservation (filter test p.rows) ≤ a.slots)
       (λ a h. (let u = sum-fewer (held_inside a.reservation) test p.rows in omega arith)) p.reservations fit.inside;
+  queued = λ place. queue-under (queue_at place p.queues) (in_queue place p.rows) (in_queue place (filter test p.rows)) (sum-fewer (held_in_queue place) test p.rows) (fit.queued place);
   bounds = all-filter (IsBound (filter test p.rows)) test p.rows
       (all-implied (IsBound p.rows) (IsBound (filter test p.rows)) (λ r h. bound-under r.wants p.rows (filter test p.rows) (λ array. sum-fewer (holds_in array) test p.rows) h) p.rows fit.bounds);
   alike = all-filter (λ (r : Row). AllByRecursion (IsAlike r) (filter test p.rows)) test p.rows

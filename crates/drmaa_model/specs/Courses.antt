@@ -1,7 +1,8 @@
 -- What a job asks of the scheduler, and how it goes on: GFD.231, section 8.1, and our profile.
-use Rattle.std.specs.Prelude.{ℕ, ◌+◌, Bool, true, false, ◌&&◌, nat_le, Option, Some, None, if◌then◌else◌}
+use Rattle.std.specs.Prelude.{ℕ, ◌+◌, Bool, true, false, ◌&&◌, nat_le, List, Option, Some, None, if◌then◌else◌}
 use Rattle.drmaa_types.specs.Moments.{greatest}
 use Rattle.drmaa_types.specs.States.{after_exit, after_start_failure, has_terminated, is_started}
+use Rattle.drmaa_types.specs.declared.queues.QueueSpec.{QueueSpec}
 use Rattle.drmaa_types.specs.declared.moments.End.{End}
 use Rattle.drmaa_types.specs.declared.moments.End.TheVariants.{At, Never}
 use Rattle.drmaa_types.specs.declared.identifiers.ArrayId.{ArrayId}
@@ -15,7 +16,7 @@ use Rattle.drmaa_types.specs.declared.states.Note.{Note}
 use Rattle.drmaa_types.specs.declared.states.Exit.{Exit}
 use Rattle.drmaa_types.specs.declared.states.Note.TheVariants as note
 use Rattle.job_template.specs.declared.templates.JobTemplate.{JobTemplate}
-use Rattle.job_template.specs.Wants.{min_slots, max_slots, priority, wallclock_limit}
+use Rattle.job_template.specs.Wants.{queue_of, min_slots, max_slots, priority, wallclock_limit}
 use Rattle.drmaa_model.specs.declared.courses.Course.{Course}
 use Rattle.drmaa_model.specs.declared.courses.Kill.{Kill}
 use Rattle.drmaa_model.specs.declared.courses.Kill.TheVariants as kill
@@ -28,9 +29,9 @@ pub record Membership : Type 0 where
   pub index : Option ℕ
   pub bound : Option ℕ
 
--- What a job asks for: what its template says, with the unset ones filled in, and its place in an array.
-abbrev pub wants_of : JobTemplate → Membership → Wants
-wants_of t m = record {
+-- What a job asks for on a machine with these queues: what its template says, with the unset ones filled in, and its place in an array.
+abbrev pub wants_of : List QueueSpec → JobTemplate → Membership → Wants
+wants_of queues t m = record {
   min = min_slots t;
   max = max_slots t;
   priority = priority t;
@@ -38,6 +39,7 @@ wants_of t m = record {
   deadline = t.deadline_time;
   limit = wallclock_limit t;
   reservation = t.reservation_id;
+  queue = queue_of queues t;
   array = m.array;
   index = m.index;
   bound = m.bound;

@@ -1,6 +1,6 @@
 -- What a call that is not refused answers, and what it does: GFD.231 (SessionManager, JobSession, Job, JobArray,
 -- ReservationSession, Reservation, MonitoringSession), and our profile.
-use Rattle.std.specs.Prelude.{ℕ, Bool, ◌+◌, not, ◌&&◌, List, [], ◌∷◌, map, filter, Option, Some, None, if◌then◌else◌}
+use Rattle.std.specs.Prelude.{ℕ, Bool, ◌+◌, not, ◌&&◌, List, map, filter, Option, Some, None, if◌then◌else◌}
 use Rattle.std.specs.Option.{option_map_or}
 use Rattle.session_table.specs.Sessions.{Sessions, created, opened, closed, destroyed, home_of, names_of}
 use Rattle.drmaa_types.specs.declared.identifiers.JobId.{JobId}
@@ -18,7 +18,7 @@ use Rattle.drmaa_model.specs.declared.reservations.Accepted.{Accepted}
 use Rattle.drmaa_model.specs.declared.rows.Row.{Row}
 use Rattle.drmaa_model.specs.Controlling.{control, reap, is_done}
 use Rattle.drmaa_model.specs.Homes.{home_number, own_rows, own_reservations, is_same_home}
-use Rattle.drmaa_model.specs.Infos.{info, filtered, numbers, reservation_numbers, reservation_info, machine_info, default_queue}
+use Rattle.drmaa_model.specs.Infos.{info, filtered, numbers, reservation_numbers, reservation_info, machine_info, queue_names}
 use Rattle.drmaa_model.specs.Launching.{launch, signal}
 use Rattle.drmaa_model.specs.Load.{is_member, reservation_of}
 use Rattle.drmaa_model.specs.Operation.{Operation}
@@ -127,7 +127,7 @@ effect at w (call.GetReservations session) = makes (reply.Reservations (reservat
 effect at w (call.EndReservation session number) = through unit (end_reservation number) w
 effect at w (call.AllJobs session f) = makes (reply.Infos (map (info w) (filtered w f w.plan.rows))) w
 effect at w (call.AllReservations session) = makes (reply.ReservationInfos (map (reservation_info w) w.plan.reservations)) w
-effect at w (call.AllQueues session) = makes (reply.Names (default_queue ∷ [])) w
+effect at w (call.AllQueues session) = makes (reply.Names (queue_names w.plan.queues)) w
 effect at w (call.AllMachines session) = makes (reply.Machine (machine_info w)) w
 effect at w call.Register = makes (reply.Callback (w.registrations + 1)) (record w { registrations = w.registrations + 1 })
 effect at w call.TakeLaunch = through_some reply.Launch launch w

@@ -1,6 +1,8 @@
 -- What is true of every plan that a legal history leads to: our profile.
-use Rattle.drmaa_model.specs.Load.{load, booked, in_reservation, in_array}
+use Rattle.drmaa_model.specs.Load.{load, booked, in_reservation, in_queue, in_array}
 use Rattle.drmaa_types.specs.Moments.{greatest}
+use Rattle.drmaa_types.specs.Queues.{queue_at}
+use Rattle.drmaa_types.specs.declared.queues.QueueSpec.{QueueSpec}
 use Rattle.drmaa_model.specs.declared.reservations.Accepted.{Accepted}
 use Rattle.drmaa_types.specs.declared.identifiers.ArrayId.{ArrayId}
 use Rattle.std.specs.Prelude.{◌≡◌, ◌≢◌, ℕ, ◌<◌, ◌≤◌, true, false, List, [], ◌∷◌, length, Some, None, IfSome, IsSome}
@@ -88,6 +90,8 @@ pub record IsFit (p : Plan) : Type 0 where
   pub books : (x : ℕ) → x ≤ greatest → booked p.reservations x ≤ p.total
   -- the jobs that name a reservation hold no more than it has
   pub inside : AllByRecursion (λ (a : Accepted). in_reservation a.reservation p.rows ≤ a.slots) p.reservations
+  -- the ordinary jobs of a queue hold no more than its limit
+  pub queued : (place : ℕ) → IfSome (queue_at place p.queues) (λ (queue : QueueSpec). in_queue place p.rows ≤ queue.limit)
   pub bounds : AllByRecursion (IsBound p.rows) p.rows
   pub alike : AllByRecursion (λ (row : Row). AllByRecursion (IsAlike row) p.rows) p.rows
   pub accepted : AreNumbered reservation_number p.next_reservation p.reservations

@@ -1,9 +1,11 @@
 -- What keeps a plan fit: time, and each operation that is not refused.
 use Rattle.drmaa_model.specs.SumLaws.{sum-filter, sum-same}
 use Rattle.drmaa_types.specs.Moments.{greatest}
+use Rattle.drmaa_types.specs.Queues.{queue_at}
+use Rattle.drmaa_types.specs.declared.queues.QueueSpec.{QueueSpec}
 use Rattle.drmaa_types.specs.declared.changes.Change.{Change}
 use Rattle.drmaa_types.specs.declared.identifiers.ArrayId.{ArrayId}
-use Rattle.drmaa_model.specs.Load.{uses_at, used, in_reservation, held_inside, in_array, holds_in, ends_after, is_ordinary, slots_at, booked, load, is_using}
+use Rattle.drmaa_model.specs.Load.{uses_at, used, in_reservation, held_inside, in_queue, held_in_queue, in_array, holds_in, ends_after, is_ordinary, slots_at, booked, load, is_using}
 use Rattle.std.proofs.Common.{◌≡◌, ◌≢◌, ℕ, ◌+◌, ◌<◌, ◌≤◌, Bool, true, false, cond, eqb, not, ◌&&◌, List, [], ◌∷◌, ◌++◌, map, filter, length, max, sum_by, Option, Some, None, refl, sym, ◌∙◌, ap, subst, arith, length-append, leb, ltb}
 use Rattle.std.specs.Prelude.{IfSome}
 use Rattle.std.specs.List.{AllByRecursion, flat_map}
@@ -94,6 +96,11 @@ bound-under w rows after under =
           ])
     ])
 
+-- a queue of which no more is held
+pub queue-under : (o : Option QueueSpec) (n m : ℕ) → m ≤ n → IfSome o (λ (queue : QueueSpec). n ≤ queue.limit) → IfSome o (λ (queue : QueueSpec). m ≤ queue.limit)
+queue-under None n m less h = tt
+queue-under (Some queue) n m less h = omega arith
+
 module _ (f : Row → Row) (same : (r : Row) → (f r).job ≡ r.job) (rows : List Row) (eases : AllByRecursion (λ r. Eases r (f r)) rows) where
   pub held-eased : (xs : List Row) → AllByRecursion (λ r. Eases r (f r)) xs → held (map f xs) ≡ held xs
   held-eased [] all = refl
@@ -113,6 +120,9 @@ module _ (f : Row → Row) (same : (r : Row) → (f r).job ≡ r.job) (rows : Li
 
   pub inside-eased : (number : ReservationId) → in_reservation number (map f rows) ≡ in_reservation number rows
   inside-eased number = sum-eased (held_inside number) (λ r e. (let w = e.wants in let h = e.held in cc)) rows eases
+
+  pub queue-eased : (place : ℕ) → in_queue place (map f rows) ≡ in_queue place rows
+  queue-eased place = sum-eased (held_in_queue place) (λ r e. (let w = e.wants in let h = e.held in cc)) rows eases
 
   pub array-eased : (array : ArrayId) → in_array array (map f rows) ≡ in_array array rows
   array-eased array = sum-eased (holds_in array) (λ r e. (let w = e.wants in let h = e.held in cc)) rows eases
@@ -156,6 +166,7 @@ eased f same wants p fit eases changes more orders asked =
       books = fit.books;
       inside = all-implied (λ (a : Accepted). in_reservation a.reservation p.rows ≤ a.slots) (λ (a : Accepted). in_reservation a.reservation (map f p.rows) ≤ a.slots)
           (λ a h. (let u = inside-eased f same p.rows eases a.reservation in omega arith)) p.reservations fit.inside;
+      queued = λ place. (let same = queue-eased f same p.rows eases place in queue-under (queue_at place p.queues) (in_queue place p.rows) (in_queue place (map f p.rows)) (omega arith) (fit.queued place));
       bounds = all-eased f same p.rows eases (IsBound p.rows) (IsBound (map f p.rows)) (bound-eased f same p.rows eases) p.rows eases fit.bounds;
       alike = alike-map f wants p.rows fit.alike;
       accepted = fit.accepted;
@@ -311,6 +322,7 @@ fewer-fit m test p later fit = record {
   loads = λ x low high. (let l = fit.loads x (omega arith) high in let b = booked-fewer test p.reservations x in omega arith);
   books = λ x high. (let l = fit.books x high in let b = booked-fewer test p.reservations x in omega arith);
   inside = all-filter (λ (a : Accepted). in_reservation a.reservation p.rows ≤ a.slots) test p.reservations fit.inside;
+  queued = fit.queued;
   bounds = fit.bounds;
   alike = fit.alike;
   accepted = record { rising = above-fewer test p.reservations fit.accepted.rising; below = all-filter (λ (a : Accepted). reservation_number a < p.next_reservation) test p.reservations fit.accepted.below };
@@ -338,7 +350,13 @@ pub record GoesOn (entry : ℕ) (p : Plan) (row : Row) (next : Course) : Type 0 
   pub dispatched : launched_at next ≤ p.moment
   pub loads : (x : ℕ) → p.moment ≤ x → x ≤ greatest → load p x + uses_at x (record row { course = next }) ≤ p.total + uses_at x row
   pub inside : AllByRecursion (λ (a : Accepted). in_reservation a.reservation p.rows + held_inside a.reservation (record row { course = next }) ≤ a.slots + held_inside a.reservation row) p.reservations
+  pub queued : (place : ℕ) → IfSome (queue_at place p.queues) (λ (queue : QueueSpec). in_queue place p.rows + held_in_queue place (record row { course = next }) ≤ queue.limit + held_in_queue place row)
   pub bounds : AllByRecursion (λ (r : Row). IfSome r.wants.bound (λ (bound : ℕ). IfSome r.wants.array (λ (array : ArrayId). in_array array p.rows + holds_in array (record row { course = next }) ≤ bound + holds_in array row))) p.rows
+
+-- what a queue holds goes on by what its job holds
+queue-then : (o : Option QueueSpec) (before after own next : ℕ) → after + own ≡ before + next → IfSome o (λ (queue : QueueSpec). before + next ≤ queue.limit + own) → IfSome o (λ (queue : QueueSpec). after ≤ queue.limit)
+queue-then None before after own next sum h = tt
+queue-then (Some queue) before after own next sum h = omega arith
 
 module _ (entry : ℕ) (p : Plan) (row : Row) (next : Course) (fit : IsFit p) (on : GoesOn entry p row next) where
   bound-then : (w : Wants) → IfSome w.bound (λ (bound : ℕ). IfSome w.array (λ (array : ArrayId). in_array array p.rows + holds_in array (record row { course = next }) ≤ bound + holds_in array row))
@@ -378,6 +396,8 @@ module _ (entry : ℕ) (p : Plan) (row : Row) (next : Course) (fit : IsFit p) (o
         inside = all-implied (λ (a : Accepted). in_reservation a.reservation p.rows + held_inside a.reservation (record row { course = next }) ≤ a.slots + held_inside a.reservation row)
             (λ (a : Accepted). in_reservation a.reservation (map (with_course row.job next) p.rows) ≤ a.slots)
             (λ a h. (let u = sum_with_course row.job next (held_inside a.reservation) p.rows row fit.jobs.rising on.found in omega arith)) p.reservations on.inside;
+        queued = λ place. queue-then (queue_at place p.queues) (in_queue place p.rows) (in_queue place (map (with_course row.job next) p.rows)) (held_in_queue place row) (held_in_queue place (record row { course = next }))
+            (sum_with_course row.job next (held_in_queue place) p.rows row fit.jobs.rising on.found) (on.queued place);
         bounds = all-map (IsBound (map (with_course row.job next) p.rows)) (with_course row.job next) p.rows
             (all-implied (λ (r : Row). IfSome r.wants.bound (λ (bound : ℕ). IfSome r.wants.array (λ (array : ArrayId). in_array array p.rows + holds_in array (record row { course = next }) ≤ bound + holds_in array row)))
             (λ (r : Row). IsBound (map (with_course row.job next) p.rows) (with_course row.job next r))
@@ -523,6 +543,9 @@ inside-advance number entry at p fit = kept-advance (held_inside number) (λ r q
 
 pub array-advance : (array : ArrayId) (entry at : ℕ) (p : Plan) → IsFit p → in_array array (advance_plan entry at p).rows ≡ in_array array p.rows
 array-advance array entry at p fit = kept-advance (holds_in array) (λ r q e. (let w = e.wants in let h = e.held in cc)) entry at p fit
+
+pub queue-advance : (place entry at : ℕ) (p : Plan) → IsFit p → in_queue place (advance_plan entry at p).rows ≡ in_queue place p.rows
+queue-advance place entry at p fit = kept-advance (held_in_queue place) (λ r q e. (let w = e.wants in let h = e.held in cc)) entry at p fit
 
 pub used-advance : (x entry at : ℕ) (p : Plan) → IsFit p → used (advance_plan entry at p).rows x ≡ used p.rows x
 used-advance x entry at p fit = kept-advance (uses_at x) (λ r q e. e.uses x) entry at p fit

@@ -42,6 +42,7 @@ left-reservations-fit home p fit =
       loads = λ x low high. (let l = fit.loads x low high in let b = books x in omega arith);
       books = λ x high. (let l = fit.books x high in let b = books x in omega arith);
       inside = all-map (λ (a : Accepted). in_reservation a.reservation p.rows ≤ a.slots) (left_reservation home) p.reservations fit.inside;
+      queued = fit.queued;
       bounds = fit.bounds;
       alike = fit.alike;
       accepted = numbered-map reservation_number (left_reservation home) (λ a. refl) p.next_reservation p.reservations fit.accepted;

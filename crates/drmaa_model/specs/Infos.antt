@@ -1,8 +1,10 @@
 -- What is told of jobs, reservations and the machine: GFD.231, JobInfo, ReservationInfo, MachineInfo; the values are our profile.
-use Rattle.std.specs.Prelude.{ℕ, ◌-◌, List, map, filter, codes, Option, if◌then◌else◌}
+use Rattle.std.specs.Prelude.{ℕ, ◌-◌, List, [], ◌∷◌, map, filter, codes, Option, if◌then◌else◌}
 use Rattle.std.specs.Option.{option_map, option_map_or, option_and_then}
 use Rattle.session_table.specs.Sessions.{Sessions, name_of}
 use Rattle.drmaa_types.specs.Filters.{matches}
+use Rattle.drmaa_types.specs.Queues.{queue_at}
+use Rattle.drmaa_types.specs.declared.queues.QueueSpec.{QueueSpec}
 use Rattle.drmaa_types.specs.States.{is_waiting}
 use Rattle.drmaa_types.specs.declared.filters.JobFilter.{JobFilter}
 use Rattle.drmaa_types.specs.declared.infos.JobInfo.{JobInfo}
@@ -14,9 +16,18 @@ use Rattle.drmaa_model.specs.declared.rows.Row.{Row}
 use Rattle.drmaa_model.specs.Order.{held}
 use Rattle.drmaa_model.specs.World.{World}
 
--- the one queue of this profile
+-- the name that stands for a queue where there are none
 abbrev pub default_queue : List ℕ
 default_queue = codes "default"
+
+-- the name of the queue of a job
+abbrev pub queue_name : List QueueSpec → Option ℕ → List ℕ
+queue_name queues place = option_map_or (λ (queue : QueueSpec). queue.name) (option_and_then (λ (n : ℕ). queue_at n queues) place) default_queue
+
+-- the names of all queues, in order
+abbrev pub queue_names : List QueueSpec → List (List ℕ)
+queue_names [] = default_queue ∷ []
+queue_names (first ∷ others) = map (λ (queue : QueueSpec). queue.name) (first ∷ others)
 
 -- the name of a home, where its named session is still there
 abbrev pub home_name : Sessions → Option ℕ → Option (List ℕ)
@@ -39,7 +50,7 @@ info w row = record {
   index = row.wants.index;
   state = row.course.state;
   slots = row.course.last_slots;
-  queue = default_queue;
+  queue = queue_name w.plan.queues row.wants.queue;
   wallclock = wallclock w.plan.moment row.course;
   submitted = row.submitted;
   dispatched = row.course.dispatched;

@@ -4,7 +4,9 @@ use Rattle.std.specs.Prelude.{IfSome, is_some}
 use Rattle.std.specs.List.{AllByRecursion, flat_map}
 use Rattle.std.specs.Option.{option_map_or}
 use Rattle.std.proofs.lemmas.Bool.{and_parts, false≢true, eqb-true, eq-eqb, ltb-true, leb-true, ne_eqb}
+use Rattle.drmaa_types.specs.Queues.{queue_at}
 use Rattle.drmaa_types.specs.States.{is_state, is_waiting}
+use Rattle.drmaa_types.specs.declared.queues.QueueSpec.{QueueSpec}
 use Rattle.drmaa_types.specs.declared.identifiers.ArrayId.{ArrayId}
 use Rattle.drmaa_types.specs.declared.identifiers.ReservationId.{ReservationId}
 use Rattle.drmaa_types.specs.declared.moments.End.{End}
@@ -17,10 +19,10 @@ use Rattle.drmaa_model.specs.Courses.{launched, planned_end}
 use Rattle.drmaa_model.specs.Fit.{IsRising, IsSound, IsFit, IsBound, IsAlike, reservation_number}
 use Rattle.drmaa_model.specs.FitLaws.{GoesOn, go_on-fit, orders-kept, idle-not_alive, unused}
 use Rattle.drmaa_model.specs.Launching.{launch, launch_row}
-use Rattle.drmaa_model.specs.Load.{names, held_inside, holds_in, is_member, in_reservation, in_array, is_ordinary, ends_after, covers, load, reservation_of, fits}
+use Rattle.drmaa_model.specs.Load.{is_in_queue, in_queue, held_in_queue, names, held_inside, holds_in, is_member, in_reservation, in_array, is_ordinary, ends_after, covers, load, reservation_of, fits}
 use Rattle.drmaa_model.specs.MomentLaws.{fits-at, ends-before}
 use Rattle.drmaa_model.specs.OperationLaws.{KeepsFit, row-sound}
-use Rattle.drmaa_model.specs.Order.{next_launch, has_slots, has_slots_in, has_turn}
+use Rattle.drmaa_model.specs.Order.{next_launch, has_slots, has_slots_in, has_slots_free, has_room_in, has_turn}
 use Rattle.drmaa_model.specs.OrderLaws.{IsNextLaunch, next_launch-is, ready-parts}
 use Rattle.drmaa_model.specs.Plan.{Plan}
 use Rattle.drmaa_model.specs.RowLaws.{all-implied, all-both, row_of-all, changes_with_course}
@@ -51,19 +53,52 @@ sound-launched moment slots row sound least most = record {
   limit = sound.limit;
 }
 
--- an ordinary job that is ready fits the calendar
-pub ordinary-fits : (p : Plan) (slots : ℕ) (row : Row) → is_ordinary row ≡ true → has_slots p slots row ≡ true → fits p slots p.moment (planned_end row.wants p.moment) ≡ true
-ordinary-fits p slots row =
-    elim row.wants.reservation as (λ o. not (is_some o) ≡ true → option_map_or (has_slots_in p slots) o (fits p slots p.moment (planned_end row.wants p.moment)) ≡ true → fits p slots p.moment (planned_end row.wants p.moment) ≡ true) [
+-- an ordinary job that is ready has slots that are free
+ordinary-free : (p : Plan) (slots : ℕ) (row : Row) → is_ordinary row ≡ true → has_slots p slots row ≡ true → has_slots_free p slots row ≡ true
+ordinary-free p slots row =
+    elim row.wants.reservation as (λ o. not (is_some o) ≡ true → option_map_or (has_slots_in p slots) o (has_slots_free p slots row) ≡ true → has_slots_free p slots row ≡ true) [
       | None ↦ λ ordinary has. has
       | Some n ↦ λ ordinary has. absurd (cc)
     ]
+
+own-queue : (p : Plan) (slots place : ℕ) (o : Option ℕ) (q : Option QueueSpec) → queue_at place p.queues ≡ q → option_map_or (λ (own : ℕ). eqb own place) o false ≡ true → option_map_or (has_room_in p slots) o true ≡ true
+    → IfSome q (λ (queue : QueueSpec). in_queue place p.rows + slots ≤ queue.limit)
+own-queue p slots place None q is own room = absurd (cc)
+own-queue p slots place (Some n) None is own room = tt
+own-queue p slots place (Some n) (Some queue) is own room =
+    let same : n ≡ place = eqb-true n place own in
+    let test : leb (in_queue place p.rows + slots) queue.limit ≡ true =
+    sym (ap (λ (o : Option QueueSpec). option_map_or (λ (q : QueueSpec). leb (in_queue place p.rows + slots) q.limit) o true) is) ∙ subst (λ (m : ℕ). has_room_in p slots m ≡ true) same room in
+    leb-true (in_queue place p.rows + slots) queue.limit test
+
+-- an ordinary job that is ready keeps its queue within the limit
+launch-queued : (p : Plan) (slots place : ℕ) (row : Row) → has_slots p slots row ≡ true → IfSome (queue_at place p.queues) (λ (queue : QueueSpec). in_queue place p.rows ≤ queue.limit)
+    → IfSome (queue_at place p.queues) (λ (queue : QueueSpec). in_queue place p.rows + cond (is_in_queue place row) slots 0 ≤ queue.limit)
+launch-queued p slots place row has =
+    (elim (is_in_queue place row) as (λ b. is_in_queue place row ≡ b → IfSome (queue_at place p.queues) (λ (queue : QueueSpec). in_queue place p.rows ≤ queue.limit) → IfSome (queue_at place p.queues) (λ (queue : QueueSpec). in_queue place p.rows + cond b slots 0 ≤ queue.limit)) [
+      | true ↦ λ e h.
+          (let parts = and_parts (is_ordinary row) (option_map_or (λ (own : ℕ). eqb own place) row.wants.queue false) e in
+          let free = and_parts (fits p slots p.moment (planned_end row.wants p.moment)) (option_map_or (has_room_in p slots) row.wants.queue true) (ordinary-free p slots row parts.0 has) in
+          own-queue p slots place row.wants.queue (queue_at place p.queues) refl parts.1 free.1)
+      | false ↦ λ e h. queue-same (queue_at place p.queues) (in_queue place p.rows) h
+    ]) refl where
+      queue-same : (o : Option QueueSpec) (n : ℕ) → IfSome o (λ (queue : QueueSpec). n ≤ queue.limit) → IfSome o (λ (queue : QueueSpec). n + 0 ≤ queue.limit)
+      queue-same None n h = tt
+      queue-same (Some queue) n h = omega arith
+
+queue-more : (o : Option QueueSpec) (n k own : ℕ) → IfSome o (λ (queue : QueueSpec). n + k ≤ queue.limit) → IfSome o (λ (queue : QueueSpec). n + k ≤ queue.limit + own)
+queue-more None n k own h = tt
+queue-more (Some queue) n k own h = omega arith
+
+-- an ordinary job that is ready fits the calendar
+pub ordinary-fits : (p : Plan) (slots : ℕ) (row : Row) → is_ordinary row ≡ true → has_slots p slots row ≡ true → fits p slots p.moment (planned_end row.wants p.moment) ≡ true
+ordinary-fits p slots row ordinary has = (and_parts (fits p slots p.moment (planned_end row.wants p.moment)) (option_map_or (has_room_in p slots) row.wants.queue true) (ordinary-free p slots row ordinary has)).0
 
 -- a job that names a reservation and is ready fits it
 pub named-fits : (p : Plan) (slots : ℕ) (row : Row) (a : Accepted) → names a.reservation row ≡ true → reservation_of a.reservation p.reservations ≡ Some a → has_slots p slots row ≡ true
     → in_reservation a.reservation p.rows + slots ≤ a.slots
 named-fits p slots row a named found has =
-    (elim row.wants.reservation as (λ o. option_map_or (λ (n : ReservationId). eqb n.0 a.reservation.0) o false ≡ true → option_map_or (has_slots_in p slots) o (fits p slots p.moment (planned_end row.wants p.moment)) ≡ true
+    (elim row.wants.reservation as (λ o. option_map_or (λ (n : ReservationId). eqb n.0 a.reservation.0) o false ≡ true → option_map_or (has_slots_in p slots) o (has_slots_free p slots row) ≡ true
     → in_reservation a.reservation p.rows + slots ≤ a.slots) [
       | None ↦ λ is h. absurd (cc)
       | Some n ↦ λ is h.
@@ -159,6 +194,8 @@ launch_row-fit entry p row slots fit next =
           (λ a both. (let fits = launch-inside (in_reservation a.reservation p.rows) slots a.slots (names a.reservation row) both.0 (λ named. named-fits p slots row a named both.1 parts.has) in omega arith))
           p.reservations (all-both (λ (a : Accepted). in_reservation a.reservation p.rows ≤ a.slots) (λ (a : Accepted). reservation_of a.reservation p.reservations ≡ Some a) p.reservations fit.inside
           (reservations-found p.reservations fit.accepted.rising));
+      queued = λ place. queue-more (queue_at place p.queues) (in_queue place p.rows) (held_in_queue place (record row { course = course })) (held_in_queue place row)
+          (launch-queued p slots place row parts.has (fit.queued place));
       bounds = all-implied (λ (r : Row). IsBound p.rows r × IsAlike r row) (λ (r : Row). IfSome r.wants.bound (λ (bound : ℕ). IfSome r.wants.array (λ (array : ArrayId). in_array array p.rows + holds_in array (record row { course = course }) ≤ bound + holds_in array row)))
           (λ r both. launch-bound p row (record row { course = course }) r refl parts.turn both) p.rows
           (all-both (IsBound p.rows) (λ (r : Row). IsAlike r row) p.rows fit.bounds

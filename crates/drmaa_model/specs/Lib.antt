@@ -32,6 +32,7 @@ pub mod Order
 pub mod OrderLaws
 pub mod Plan
 pub mod PlanSteps
+pub mod QueueLaws
 pub mod ReadyLaws
 pub mod Refusals
 pub mod ReplyKinds

@@ -63,6 +63,17 @@ held_inside number row = if names number row then row.course.held else 0
 abbrev pub in_reservation : ReservationId → List Row → ℕ
 in_reservation number rows = sum_by (held_inside number) rows
 
+-- the job is an ordinary one of the queue at this place
+abbrev pub is_in_queue : ℕ → Row → Bool
+is_in_queue place row = is_ordinary row && option_map_or (λ (own : ℕ). own == place) row.wants.queue false
+
+abbrev pub held_in_queue : ℕ → Row → ℕ
+held_in_queue place row = if is_in_queue place row then row.course.held else 0
+
+-- the slots held by the ordinary jobs of a queue
+abbrev pub in_queue : ℕ → List Row → ℕ
+in_queue place rows = sum_by (held_in_queue place) rows
+
 -- the job is a member of this array
 abbrev pub is_member : ArrayId → Row → Bool
 is_member array row = option_map_or (λ (a : ArrayId). a.0 == array.0) row.wants.array false

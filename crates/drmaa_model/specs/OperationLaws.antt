@@ -4,11 +4,13 @@ use Rattle.std.specs.Prelude.{IfSome, Result, Ok, Err}
 use Rattle.std.specs.List.{flat_map}
 use Rattle.std.specs.Option.{option_map_or}
 use Rattle.std.proofs.lemmas.Bool.{ltb-true, lt-ltb}
+use Rattle.drmaa_types.specs.Queues.{queue_at}
 use Rattle.drmaa_types.specs.Refusals.{first_refusal}
 use Rattle.drmaa_types.specs.States.{is_started}
 use Rattle.drmaa_types.specs.declared.identifiers.ArrayId.{ArrayId}
 use Rattle.drmaa_types.specs.declared.identifiers.JobId.{JobId}
 use Rattle.drmaa_types.specs.declared.identifiers.ReservationId.{ReservationId}
+use Rattle.drmaa_types.specs.declared.queues.QueueSpec.{QueueSpec}
 use Rattle.drmaa_types.specs.declared.refusals.Refusal.{Refusal}
 use Rattle.drmaa_model.specs.declared.courses.Course.{Course}
 use Rattle.drmaa_model.specs.declared.reservations.Accepted.{Accepted}
@@ -16,7 +18,7 @@ use Rattle.drmaa_model.specs.declared.rows.Row.{Row}
 use Rattle.drmaa_model.specs.declared.rows.Wants.{Wants}
 use Rattle.drmaa_model.specs.Fit.{IsSound, IsFit, IsBound, launched_at}
 use Rattle.drmaa_model.specs.FitLaws.{GoesOn, unused}
-use Rattle.drmaa_model.specs.Load.{uses_at, names, held_inside, holds_in, is_member, in_reservation, in_array}
+use Rattle.drmaa_model.specs.Load.{is_in_queue, in_queue, held_in_queue, uses_at, names, held_inside, holds_in, is_member, in_reservation, in_array}
 use Rattle.drmaa_model.specs.Operation.{Operation, Outcome, outcome, Meets}
 use Rattle.drmaa_model.specs.Operation.Meets.{served, full, short}
 use Rattle.drmaa_model.specs.Order.{held}
@@ -88,6 +90,13 @@ pub record TakesNoMore (row : Row) (next : Course) : Type 0 where
 inside-less : (number : ReservationId) (row : Row) (next : Course) → next.held ≤ row.course.held → held_inside number (record row { course = next }) ≤ held_inside number row
 inside-less number row next less = elim (names number row) as (λ b. cond b next.held 0 ≤ cond b row.course.held 0) [ true ↦ less | false ↦ omega arith ]
 
+queue-less : (place : ℕ) (row : Row) (next : Course) → next.held ≤ row.course.held → held_in_queue place (record row { course = next }) ≤ held_in_queue place row
+queue-less place row next less = elim (is_in_queue place row) as (λ b. cond b next.held 0 ≤ cond b row.course.held 0) [ true ↦ less | false ↦ omega arith ]
+
+queue-room : (o : Option QueueSpec) (held next own : ℕ) → next ≤ own → IfSome o (λ (queue : QueueSpec). held ≤ queue.limit) → IfSome o (λ (queue : QueueSpec). held + next ≤ queue.limit + own)
+queue-room None held next own less h = tt
+queue-room (Some queue) held next own less h = omega arith
+
 array-cases : (a b : ℕ) (m : Bool) → a ≤ b → cond {A = ℕ} (m && ltb 0 a) 1 0 ≤ cond {A = ℕ} (m && ltb 0 b) 1 0
 array-cases a b false less = omega arith
 array-cases a b true less =
@@ -130,6 +139,7 @@ goes-on entry p row next fit found sound takes attempt dispatched =
       loads = λ x low high. (let l = fit.loads x low high in let u = takes.uses x in omega arith);
       inside = all-implied (λ (a : Accepted). in_reservation a.reservation p.rows ≤ a.slots) (λ (a : Accepted). in_reservation a.reservation p.rows + held_inside a.reservation (record row { course = next }) ≤ a.slots + held_inside a.reservation row)
           (λ a h. (let u = inside-less a.reservation row next less in omega arith)) p.reservations fit.inside;
+      queued = λ place. queue-room (queue_at place p.queues) (in_queue place p.rows) (held_in_queue place (record row { course = next })) (held_in_queue place row) (queue-less place row next less) (fit.queued place);
       bounds = all-implied (IsBound p.rows) (λ (r : Row). IfSome r.wants.bound (λ (bound : ℕ). IfSome r.wants.array (λ (array : ArrayId). in_array array p.rows + holds_in array (record row { course = next }) ≤ bound + holds_in array row)))
           (λ r h. bound-less r.wants p.rows row (record row { course = next }) (λ array. array-less array row next less) h) p.rows fit.bounds;
     }

@@ -57,6 +57,7 @@ use Rattle.drmaa_model.specs.TimeLaws.{lapsed-cases, called-cases, timed, row_of
 -- what a step of a plan keeps
 pub record PlanStep (entry : ℕ) (p q : Plan) : Type 0 where
   pub total : q.total ≡ p.total
+  pub queues : q.queues ≡ p.queues
   pub moment : q.moment ≡ p.moment
   pub few : AreFew p.rows p.reservations → AreFew q.rows q.reservations
   pub jobs : q.next_job ≤ p.next_job + most_members
@@ -189,6 +190,7 @@ rows-step entry p f orders fit same goes =
     let edges = rows-edges entry p f fit.jobs.rising goes in
     record {
       total = refl;
+      queues = refl;
       moment = refl;
       few = few-map f same p.rows p.reservations;
       jobs = omega arith;
@@ -217,6 +219,7 @@ control-step t what entry p fit =
 pub reap-step : (t : Target) (entry : ℕ) (p : Plan) → PlanStep entry p ((reap t).effect entry p)
 reap-step t entry p = record {
   total = refl;
+  queues = refl;
   moment = refl;
   few = few-rows (λ (row : Row). not (is_meant t row && is_done row)) p.rows p.reservations;
   jobs = omega arith;
@@ -229,6 +232,7 @@ reap-step t entry p = record {
 orders-step : (entry : ℕ) (p : Plan) (orders : List Order) → PlanStep entry p (record p { orders = orders })
 orders-step entry p orders = record {
   total = refl;
+  queues = refl;
   moment = refl;
   few = λ few. few;
   jobs = omega arith;
@@ -312,6 +316,7 @@ submit-step home t indices entry p free =
     let kept : kept_text rows ≡ new_text ms = new-kept home p p.next_job ms in
     record {
       total = refl;
+      queues = refl;
       moment = refl;
       few = λ few. record {
         jobs = omega (arith, length-append p.rows rows);
@@ -334,6 +339,7 @@ request-step home t entry p free =
     let below = leb-false most_reservations (length p.reservations) (no_test first_test (second_test ∷ []) room).0 in
     record {
       total = refl;
+      queues = refl;
       moment = refl;
       few = λ few. record { jobs = few.jobs; text = few.text; reserved = omega (arith, length_push p.reservations (accepted_at home t p (chosen_start t p))) };
       jobs = omega arith;
@@ -371,6 +377,7 @@ end-step number entry p fit =
     let step = rules-step entry p.moment rs p fit.jobs.rising (few-reservations (is_other number) p.rows p.reservations) in
     record {
       total = refl;
+      queues = refl;
       moment = refl;
       few = step.few;
       jobs = omega arith;
@@ -391,6 +398,7 @@ forget-step home entry p =
     let left : Row → Row = λ (row : Row). record row { home = left_by home row.home } in
     record {
       total = refl;
+      queues = refl;
       moment = refl;
       few = λ few.
           (let rows = few-map left (λ r. refl) (filter stays p.rows) p.reservations (few-rows stays p.rows p.reservations few) in

@@ -4,7 +4,9 @@ use Rattle.std.specs.Prelude.{IfSome}
 use Rattle.std.specs.Option.{option_map_or}
 use Rattle.std.proofs.lemmas.Bool.{leb-false, lt-ltb}
 use Rattle.drmaa_types.specs.Moments.{greatest}
+use Rattle.drmaa_types.specs.Queues.{queue_at}
 use Rattle.drmaa_types.specs.States.{is_waiting}
+use Rattle.drmaa_types.specs.declared.queues.QueueSpec.{QueueSpec}
 use Rattle.drmaa_types.specs.declared.identifiers.ArrayId.{ArrayId}
 use Rattle.drmaa_types.specs.declared.identifiers.ReservationId.{ReservationId}
 use Rattle.drmaa_types.specs.declared.moments.End.{End}
@@ -14,10 +16,10 @@ use Rattle.drmaa_model.specs.declared.rows.Row.{Row}
 use Rattle.drmaa_model.specs.declared.rows.Wants.{Wants}
 use Rattle.drmaa_model.specs.Courses.{planned_end, limit_end, lesser_end, optional_end}
 use Rattle.drmaa_model.specs.Fit.{IsFit}
-use Rattle.drmaa_model.specs.FitLaws.{held-advance, inside-advance, array-advance, load-advance, load-let_go}
-use Rattle.drmaa_model.specs.Load.{ends_after, covers, in_reservation, in_array, reservation_of, fits}
+use Rattle.drmaa_model.specs.FitLaws.{held-advance, inside-advance, queue-advance, array-advance, load-advance, load-let_go}
+use Rattle.drmaa_model.specs.Load.{ends_after, covers, in_reservation, in_queue, in_array, reservation_of, fits}
 use Rattle.drmaa_model.specs.MomentLaws.{LoadsAlike, fits-same, greatest_from-same}
-use Rattle.drmaa_model.specs.Order.{held, is_queued, is_reached, has_turn, has_slots_in, has_slots, may_come, is_ready, slots_for}
+use Rattle.drmaa_model.specs.Order.{held, is_queued, is_reached, has_turn, has_slots_in, has_slots_free, has_room_in, has_slots, may_come, is_ready, slots_for}
 use Rattle.drmaa_model.specs.Plan.{Plan}
 use Rattle.drmaa_model.specs.Time.{come_to, let_go, is_late, is_stranded, lapses, lapsed, advance_plan}
 use Rattle.drmaa_model.specs.TimeLaws.{timed, lapsed-cases, called-cases}
@@ -29,6 +31,8 @@ pub record SeenAlike (p q : Plan) : Type 0 where
   pub held : held p.rows ≡ held q.rows
   pub inside : (number : ReservationId) → in_reservation number p.rows ≡ in_reservation number q.rows
   pub members : (array : ArrayId) → in_array array p.rows ≡ in_array array q.rows
+  pub queues : p.queues ≡ q.queues
+  pub queued : (place : ℕ) → in_queue place p.rows ≡ in_queue place q.rows
   pub loads : LoadsAlike p q p.moment
 
 turn-same : (p q : Plan) (row : Row) → SeenAlike p q → has_turn p.rows row ≡ has_turn q.rows row
@@ -48,10 +52,22 @@ inside-same p q slots n alike =
     ∙ ap (λ (m : ℕ). option_map_or (λ (a : Accepted). covers m a && leb (in_reservation n p.rows + slots) a.slots) (reservation_of n q.reservations) false) alike.moment
     ∙ ap (λ (k : ℕ). option_map_or (λ (a : Accepted). covers q.moment a && leb (k + slots) a.slots) (reservation_of n q.reservations) false) (alike.inside n)
 
+room-same : (p q : Plan) (slots place : ℕ) → SeenAlike p q → has_room_in p slots place ≡ has_room_in q slots place
+room-same p q slots place alike =
+    ap (λ (qs : List QueueSpec). option_map_or (λ (queue : QueueSpec). leb (in_queue place p.rows + slots) queue.limit) (queue_at place qs) true) alike.queues
+    ∙ ap (λ (n : ℕ). option_map_or (λ (queue : QueueSpec). leb (n + slots) queue.limit) (queue_at place q.queues) true) (alike.queued place)
+
+free-same : (p q : Plan) (slots : ℕ) (row : Row) → SeenAlike p q → has_slots_free p slots row ≡ has_slots_free q slots row
+free-same p q slots row alike =
+    ap (λ b. b && option_map_or (has_room_in p slots) row.wants.queue true)
+    (fits-same p q slots p.moment (planned_end row.wants p.moment) p.moment alike.loads (omega arith) ∙ ap (λ (m : ℕ). fits q slots m (planned_end row.wants m)) alike.moment)
+    ∙ ap (λ b. fits q slots q.moment (planned_end row.wants q.moment) && b)
+    (elim row.wants.queue as (λ o. option_map_or (has_room_in p slots) o true ≡ option_map_or (has_room_in q slots) o true) [ None ↦ refl | Some place ↦ room-same p q slots place alike ])
+
 pub slots-same : (p q : Plan) (slots : ℕ) (row : Row) → SeenAlike p q → has_slots p slots row ≡ has_slots q slots row
 slots-same p q slots row alike =
-    elim row.wants.reservation as (λ o. option_map_or (has_slots_in p slots) o (fits p slots p.moment (planned_end row.wants p.moment)) ≡ option_map_or (has_slots_in q slots) o (fits q slots q.moment (planned_end row.wants q.moment))) [
-      | None ↦ fits-same p q slots p.moment (planned_end row.wants p.moment) p.moment alike.loads (omega arith) ∙ ap (λ (m : ℕ). fits q slots m (planned_end row.wants m)) alike.moment
+    elim row.wants.reservation as (λ o. option_map_or (has_slots_in p slots) o (has_slots_free p slots row) ≡ option_map_or (has_slots_in q slots) o (has_slots_free q slots row)) [
+      | None ↦ free-same p q slots row alike
       | Some n ↦ inside-same p q slots n alike
     ]
 
@@ -79,6 +95,8 @@ seen-advance entry at p fit = record {
   held = held-advance entry at p fit;
   inside = λ number. inside-advance number entry at p fit;
   members = λ array. array-advance array entry at p fit;
+  queues = refl;
+  queued = λ place. queue-advance place entry at p fit;
   loads = record { total = refl; loads = λ x later. load-advance entry at p fit x later ∙ sym (load-let_go at p x later) };
 }
 

@@ -228,6 +228,7 @@ orders-fit p orders fit asked = record {
   loads = fit.loads;
   books = fit.books;
   inside = fit.inside;
+  queued = fit.queued;
   bounds = fit.bounds;
   alike = fit.alike;
   accepted = fit.accepted;

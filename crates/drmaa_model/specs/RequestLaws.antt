@@ -89,6 +89,7 @@ accepted-fit p a fit number fits = record {
       omega arith);
   inside = all-push (λ (b : Accepted). in_reservation b.reservation p.rows ≤ b.slots) p.reservations a fit.inside
       (let none : in_reservation a.reservation p.rows ≡ 0 = ap (λ (n : ReservationId). in_reservation n p.rows) number ∙ none-names p.next_reservation p.rows fit.reserved in omega arith);
+  queued = fit.queued;
   bounds = fit.bounds;
   alike = fit.alike;
   accepted = numbered-push reservation_number p.next_reservation p.reservations a fit.accepted (ap (λ (n : ReservationId). n.0) number);

@@ -9,12 +9,13 @@ use Rattle.job_template.specs.declared.templates.JobTemplate.{JobTemplate}
 use Rattle.job_template.specs.declared.templates.ReservationTemplate.{ReservationTemplate}
 use Rattle.job_template.specs.Expand.{expanded}
 use Rattle.job_template.specs.Frames.{frame_of, frame_tests}
-use Rattle.job_template.specs.JobTests.{is_bad_deadline, slot_tests}
+use Rattle.job_template.specs.JobTests.{is_bad_deadline, is_bad_least, slot_tests}
 use Rattle.job_template.specs.Wants.{min_slots, max_slots}
 use Rattle.drmaa_types.specs.Refusals.{first_refusal}
 use Rattle.drmaa_types.specs.States.{is_waiting, is_started}
 use Rattle.drmaa_types.specs.declared.identifiers.ReservationId.{ReservationId}
 use Rattle.drmaa_types.specs.declared.identifiers.JobId.{JobId}
+use Rattle.drmaa_types.specs.declared.queues.QueueSpec.{QueueSpec}
 use Rattle.drmaa_types.specs.declared.refusals.Refusal.{Refusal}
 use Rattle.drmaa_types.specs.declared.refusals.Refusal.TheVariants.{DeniedByDrms, InvalidArgument, OutOfResource, Timeout}
 use Rattle.drmaa_types.specs.declared.refusals.Limit.TheVariants as resource
@@ -196,11 +197,11 @@ not-late now start None ok = refl
 not-late now start (Some d) ok = (or_parts (leb d now) (option_map_or (leb d) start false) ok).0
 
 -- the deadline of a job that may be submitted is ahead
-deadline-ahead : (slots now : ℕ) (t : JobTemplate) → first_refusal (slot_tests slots now t) ≡ None → is_bad_deadline now t ≡ false
-deadline-ahead slots now t free =
+deadline-ahead : (slots : ℕ) (queues : List QueueSpec) (now : ℕ) (t : JobTemplate) → first_refusal (slot_tests slots queues now t) ≡ None → is_bad_deadline now t ≡ false
+deadline-ahead slots queues now t free =
     let third : Bool × Refusal = (is_bad_deadline now t, InvalidArgument which.DeadlineTime) in
     let second : Bool × Refusal = (ltb (max_slots t) (min_slots t), InvalidArgument which.MaxSlots) in
-    let one = no_test ((eqb (min_slots t) 0) || ltb slots (min_slots t), InvalidArgument which.MinSlots) (second ∷ third ∷ []) free in
+    let one = no_test (is_bad_least slots queues t, InvalidArgument which.MinSlots) (second ∷ third ∷ []) free in
     (no_test third [] (no_test second (third ∷ []) one.1).1).0
 
 -- a job that is submitted with this template, in whatever place
@@ -221,11 +222,11 @@ all-new home p n [] suits = tt
 all-new home p n (m ∷ ms) suits = (new-rests home p n m suits.0, all-new home p (n + 1) ms suits.1)
 
 suit-now : (t : JobTemplate) (indices : Option Indices) (p : Plan) → MaySubmit t indices p → AllByRecursion (SuitsNow p) (members t indices p)
-suit-now t None p may = (record { late = not-late p.moment t.start_time t.deadline_time (deadline-ahead p.total p.moment t may.slots); stranded = may.named }, tt)
+suit-now t None p may = (record { late = not-late p.moment t.start_time t.deadline_time (deadline-ahead p.total p.queues p.moment t may.slots); stranded = may.named }, tt)
 suit-now t (Some i) p may =
     let made : ℕ → Member = λ index. record { template = expanded index t; membership = membership i p index } in
     all-map (SuitsNow p) made (indices_of i)
-    (all-each (λ (index : ℕ). SuitsNow p (made index)) (λ index. record { late = not-late p.moment t.start_time t.deadline_time (deadline-ahead p.total p.moment t may.slots); stranded = may.named }) (indices_of i))
+    (all-each (λ (index : ℕ). SuitsNow p (made index)) (λ index. record { late = not-late p.moment t.start_time t.deadline_time (deadline-ahead p.total p.queues p.moment t may.slots); stranded = may.named }) (indices_of i))
 
 submits-rest : (home : ℕ) (t : JobTemplate) (indices : Option Indices) (entry : ℕ) (p : Plan) → IsResting p → first_refusal (submit_tests t indices p) ≡ None → IsResting ((submit home t indices).effect entry p)
 submits-rest home t indices entry p rests free =

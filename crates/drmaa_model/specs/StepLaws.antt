@@ -1,12 +1,14 @@
 -- A step keeps a world consistent, adds edges alone, and makes one entry.
 use Rattle.std.proofs.Common.{◌≡◌, ℕ, ◌+◌, ◌<◌, ◌≤◌, Bool, true, false, cond, leb, not, List, [], ◌∷◌, length, Option, Some, None, refl, sym, ◌∙◌, ap, subst, arith}
-use Rattle.std.specs.Prelude.{is_some, IsTrue, max}
+use Rattle.std.specs.Prelude.{is_some, IsTrue, IfSome, max}
 use Rattle.std.specs.Option.{option_map, option_map_or}
 use Rattle.std.proofs.lemmas.Bool.{leb-false}
 use Rattle.session_table.specs.Permitted.{may_create}
 use Rattle.session_table.specs.SessionLaws.{IsSound-opening, IsSound-opened, IsSound-created, IsSound-closed, IsSound-destroyed, bound-found}
 use Rattle.session_table.specs.Sessions.{Sessions, IsSound as AreSound, created, opened, closed, destroyed, has_names, is_bound, home_of, in_use, chosen_name, create_refusal, open_refusal, monitor_refusal, most_sessions}
+use Rattle.drmaa_types.specs.Queues.{queue_at}
 use Rattle.drmaa_types.specs.Refusals.{first_refusal}
+use Rattle.drmaa_types.specs.declared.queues.QueueSpec.{QueueSpec}
 use Rattle.drmaa_types.specs.declared.refusals.Refusal.{Refusal}
 use Rattle.drmaa_types.specs.declared.refusals.Refusal.TheVariants.{InvalidArgument, OutOfResource, Timeout}
 use Rattle.drmaa_types.specs.declared.refusals.Limit.TheVariants as resource
@@ -113,6 +115,7 @@ module _ (v : World) (ok : IsConsistent v) where
         consistent = record {
           fit = fit;
           total = plan.total ∙ ok.total;
+          queues = plan.queues ∙ ok.queues;
           few = plan.few ok.few;
           sessions = sessions.sound;
           jobs = omega arith;
@@ -252,6 +255,7 @@ advance-consistent w at ok =
     record {
       fit = advance-fit (w.entries + 1) at w.plan ok.fit;
       total = ok.total;
+      queues = ok.queues;
       few = step.few ok.few;
       sessions = ok.sessions;
       jobs = ok.jobs;
@@ -299,8 +303,12 @@ step-moment w entry next ok step = (step-keeps w entry next ok step).moment_is
 
 -- ---- histories
 
-pub opening-fit : (total : ℕ) → IsFit (opening_plan total)
-opening-fit total = record {
+queue-empty : (o : Option QueueSpec) → IfSome o (λ (queue : QueueSpec). 0 ≤ queue.limit)
+queue-empty None = tt
+queue-empty (Some queue) = omega arith
+
+pub opening-fit : (total : ℕ) (queues : List QueueSpec) → IsFit (opening_plan total queues)
+opening-fit total queues = record {
   within = omega arith;
   sound = tt;
   jobs = record { rising = tt; below = tt };
@@ -311,6 +319,7 @@ opening-fit total = record {
   loads = λ x low high. omega arith;
   books = λ x high. omega arith;
   inside = tt;
+  queued = λ place. queue-empty (queue_at place queues);
   bounds = tt;
   alike = tt;
   accepted = record { rising = tt; below = tt };
@@ -319,8 +328,9 @@ opening-fit total = record {
 
 pub opening-consistent : (config : Config) → IsConsistent (opening_world config)
 opening-consistent config = record {
-  fit = opening-fit config.slots;
+  fit = opening-fit config.slots config.queues;
   total = refl;
+  queues = refl;
   few = record { jobs = omega arith; text = omega arith; reserved = omega arith };
   sessions = IsSound-opening;
   jobs = omega arith;

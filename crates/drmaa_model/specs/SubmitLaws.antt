@@ -9,13 +9,15 @@ use Rattle.std.proofs.lemmas.List.Sums.{sum_by_push, sum_by-cons}
 use Rattle.job_template.specs.declared.templates.JobTemplate.{JobTemplate}
 use Rattle.job_template.specs.declared.templates.ResourceLimit.{ResourceLimit}
 use Rattle.job_template.specs.Expand.{expanded}
-use Rattle.job_template.specs.JobTests.{command_tests, path_tests, slot_tests, limit_tests, job_tests, is_bad_deadline}
+use Rattle.job_template.specs.JobTests.{command_tests, path_tests, slot_tests, limit_tests, job_tests, is_bad_deadline, is_bad_least}
 use Rattle.job_template.specs.Unsupported.{other_tests, other_limit}
-use Rattle.job_template.specs.Wants.{is_wallclock, min_slots, max_slots, wallclock_limit}
+use Rattle.job_template.specs.Wants.{is_wallclock, min_slots, max_slots, queue_limit, wallclock_limit}
+use Rattle.drmaa_types.specs.Queues.{queue_at}
 use Rattle.drmaa_types.specs.Refusals.{first_refusal}
 use Rattle.drmaa_types.specs.States.{is_started}
 use Rattle.drmaa_types.specs.declared.identifiers.ArrayId.{ArrayId}
 use Rattle.drmaa_types.specs.declared.identifiers.ReservationId.{ReservationId}
+use Rattle.drmaa_types.specs.declared.queues.QueueSpec.{QueueSpec}
 use Rattle.drmaa_types.specs.declared.refusals.Refusal.{Refusal}
 use Rattle.drmaa_types.specs.declared.refusals.Refusal.TheVariants.{InvalidArgument, OutOfResource}
 use Rattle.drmaa_types.specs.declared.refusals.Limit.TheVariants as resource
@@ -27,9 +29,9 @@ use Rattle.drmaa_model.specs.declared.rows.Row.{Row}
 use Rattle.drmaa_model.specs.declared.rows.Wants.{Wants}
 use Rattle.drmaa_model.specs.Courses.{submitted_course}
 use Rattle.drmaa_model.specs.Fit.{number_of, reservation_number, IsSound, IsFor, IsFit, IsBound, IsAlike, launched_at}
-use Rattle.drmaa_model.specs.FitLaws.{bound-under, unused}
+use Rattle.drmaa_model.specs.FitLaws.{bound-under, queue-under, unused}
 use Rattle.drmaa_model.specs.Launching.{is_alive}
-use Rattle.drmaa_model.specs.Load.{uses_at, held_inside, holds_in, is_member, in_reservation, in_array}
+use Rattle.drmaa_model.specs.Load.{is_in_queue, in_queue, held_in_queue, uses_at, held_inside, holds_in, is_member, in_reservation, in_array}
 use Rattle.drmaa_model.specs.OperationLaws.{KeepsFit, refusal-append, no_test}
 use Rattle.drmaa_model.specs.Plan.{Plan}
 use Rattle.drmaa_model.specs.RowLaws.{all-each, all-push, all-map, all-implied, all-both, numbered-push}
@@ -77,6 +79,9 @@ held-none : (row : Row) (number : ReservationId) → row.course.held ≡ 0 → h
 held-none row number none = ap (λ (n : ℕ). cond (option_map_or (λ (r : ReservationId). eqb r.0 number.0) row.wants.reservation false) n 0) none
     ∙ (elim (option_map_or (λ (r : ReservationId). eqb r.0 number.0) row.wants.reservation false) as (λ b. cond {A = ℕ} b 0 0 ≡ 0) [ true ↦ refl | false ↦ refl ])
 
+queue-none : (row : Row) (place : ℕ) → row.course.held ≡ 0 → held_in_queue place row ≡ 0
+queue-none row place none = ap (λ (n : ℕ). cond (is_in_queue place row) n 0) none ∙ (elim (is_in_queue place row) as (λ b. cond {A = ℕ} b 0 0 ≡ 0) [ true ↦ refl | false ↦ refl ])
+
 holds-none : (row : Row) (array : ArrayId) → row.course.held ≡ 0 → holds_in array row ≡ 0
 holds-none row array none = ap (λ (n : ℕ). cond {A = ℕ} (is_member array row && ltb 0 n) 1 0) none
     ∙ (elim (is_member array row) as (λ b. cond {A = ℕ} (b && false) 1 0 ≡ 0) [ true ↦ refl | false ↦ refl ])
@@ -98,6 +103,8 @@ join-fit p row fit joins =
       books = fit.books;
       inside = all-implied (λ (a : Accepted). in_reservation a.reservation p.rows ≤ a.slots) (λ (a : Accepted). in_reservation a.reservation (p.rows ++ row ∷ []) ≤ a.slots)
           (λ a h. (let u = sum_by_push (held_inside a.reservation) p.rows row in let zero = held-none row a.reservation none in omega arith)) p.reservations fit.inside;
+      queued = λ place. (let u = sum_by_push (held_in_queue place) p.rows row in let zero = queue-none row place none in
+          queue-under (queue_at place p.queues) (in_queue place p.rows) (in_queue place (p.rows ++ row ∷ [])) (omega arith) (fit.queued place));
       bounds = all-push (IsBound (p.rows ++ row ∷ [])) p.rows row (all-implied (IsBound p.rows) (IsBound (p.rows ++ row ∷ [])) bounds p.rows fit.bounds) (bounds row joins.bound);
       alike = all-push (λ (r : Row). AllByRecursion (IsAlike r) (p.rows ++ row ∷ [])) p.rows row
           (all-implied (λ (r : Row). AllByRecursion (IsAlike r) p.rows × IsAlike row r) (λ (r : Row). AllByRecursion (IsAlike r) (p.rows ++ row ∷ []))
@@ -229,7 +236,7 @@ or-false false b h = (refl, h)
 -- what is known of a submission that is not refused
 pub record MaySubmit (t : JobTemplate) (indices : Option Indices) (p : Plan) : Type 0 where
   pub bulk : first_refusal (bulk_tests indices) ≡ None
-  pub slots : first_refusal (slot_tests p.total p.moment t) ≡ None
+  pub slots : first_refusal (slot_tests p.total p.queues p.moment t) ≡ None
   pub limits : first_refusal (limit_tests false t.resource_limits) ≡ None
   pub named : names_none t p ≡ false
   pub room : first_refusal (room_tests (members t indices p) p) ≡ None
@@ -239,11 +246,11 @@ may-submit t indices p free =
     let rest : List (Bool × Refusal) = room_tests (members t indices p) p in
     let second : Bool × Refusal = (option_map_or (λ (slots : ℕ). ltb slots (min_slots t)) (named_slots t p) false, InvalidArgument which.MinSlots) in
     let first : Bool × Refusal = (names_none t p, InvalidArgument which.Reservation) in
-    let all = refusal-append (bulk_tests indices ++ job_tests p.total p.moment t) (first ∷ second ∷ rest) free in
-    let front = refusal-append (bulk_tests indices) (job_tests p.total p.moment t) all.0 in
-    let job = refusal-append (command_tests t ++ path_tests t ++ slot_tests p.total p.moment t ++ limit_tests false t.resource_limits) (other_tests t.others) front.1 in
-    let limits = refusal-append (command_tests t ++ path_tests t ++ slot_tests p.total p.moment t) (limit_tests false t.resource_limits) job.0 in
-    let slots = refusal-append (command_tests t ++ path_tests t) (slot_tests p.total p.moment t) limits.0 in
+    let all = refusal-append (bulk_tests indices ++ job_tests p.total p.queues p.moment t) (first ∷ second ∷ rest) free in
+    let front = refusal-append (bulk_tests indices) (job_tests p.total p.queues p.moment t) all.0 in
+    let job = refusal-append (command_tests t ++ path_tests p.queues t ++ slot_tests p.total p.queues p.moment t ++ limit_tests false t.resource_limits) (other_tests t.others) front.1 in
+    let limits = refusal-append (command_tests t ++ path_tests p.queues t ++ slot_tests p.total p.queues p.moment t) (limit_tests false t.resource_limits) job.0 in
+    let slots = refusal-append (command_tests t ++ path_tests p.queues t) (slot_tests p.total p.queues p.moment t) limits.0 in
     let named = no_test first (second ∷ rest) all.1 in
     record { bulk = front.0; slots = slots.1; limits = limits.1; named = named.0; room = (no_test second rest named.1).1 }
 
@@ -252,13 +259,13 @@ pub record AskSlots (t : JobTemplate) : Type 0 where
   pub least : 1 ≤ min_slots t
   pub order : min_slots t ≤ max_slots t
 
-ask-slots : (slots now : ℕ) (t : JobTemplate) → first_refusal (slot_tests slots now t) ≡ None → AskSlots t
-ask-slots slots now t free =
+ask-slots : (slots : ℕ) (queues : List QueueSpec) (now : ℕ) (t : JobTemplate) → first_refusal (slot_tests slots queues now t) ≡ None → AskSlots t
+ask-slots slots queues now t free =
     let third : Bool × Refusal = (is_bad_deadline now t, InvalidArgument which.DeadlineTime) in
     let second : Bool × Refusal = (ltb (max_slots t) (min_slots t), InvalidArgument which.MaxSlots) in
-    let one = no_test ((eqb (min_slots t) 0) || ltb slots (min_slots t), InvalidArgument which.MinSlots) (second ∷ third ∷ []) free in
+    let one = no_test (is_bad_least slots queues t, InvalidArgument which.MinSlots) (second ∷ third ∷ []) free in
     let two = no_test second (third ∷ []) one.1 in
-    let some = eqb-false (min_slots t) 0 (or-false (eqb (min_slots t) 0) (ltb slots (min_slots t)) one.0).0 in
+    let some = eqb-false (min_slots t) 0 (or-false (eqb (min_slots t) 0) (ltb slots (min_slots t)) (or-false ((eqb (min_slots t) 0) || ltb slots (min_slots t)) (option_map_or (λ (limit : ℕ). ltb limit (min_slots t)) (queue_limit queues t) false) one.0).0).0 in
     record { least = omega arith; order = ltb-false (max_slots t) (min_slots t) two.0 }
 
 limit-some : (ls : List ResourceLimit) → first_refusal (limit_tests false ls) ≡ None → IfSome (option_map (λ (l : ResourceLimit). l.value) (find is_wallclock ls)) (λ (seconds : ℕ). 1 ≤ seconds)
@@ -288,12 +295,12 @@ named-below (Some n) p fit free = accepted-below p.reservations n p.next_reserva
 -- each job suits
 suits-alone : (t : JobTemplate) (p : Plan) → IsFit p → MaySubmit t None p → AllByRecursion (Suits p.next_reservation None None) (members t None p)
 suits-alone t p fit may =
-    let slots = ask-slots p.total p.moment t may.slots in
+    let slots = ask-slots p.total p.queues p.moment t may.slots in
     (record { least = slots.least; order = slots.order; limit = limit-some t.resource_limits may.limits; reserved = named-below t.reservation_id p fit may.named; array_is = refl; bound_is = refl }, tt)
 
 suits-members : (t : JobTemplate) (i : Indices) (p : Plan) → IsFit p → MaySubmit t (Some i) p → AllByRecursion (Suits p.next_reservation (Some (record { 0 = p.next_array })) i.bound) (members t (Some i) p)
 suits-members t i p fit may =
-    let slots = ask-slots p.total p.moment t may.slots in
+    let slots = ask-slots p.total p.queues p.moment t may.slots in
     let Fits : Member → Type 0 = Suits p.next_reservation (Some (record { 0 = p.next_array })) i.bound in
     let made : ℕ → Member = λ index. record { template = expanded index t; membership = membership i p index } in
     all-map Fits made (indices_of i)
@@ -324,6 +331,7 @@ arrays-fit p k fit = record {
   loads = fit.loads;
   books = fit.books;
   inside = fit.inside;
+  queued = fit.queued;
   bounds = fit.bounds;
   alike = fit.alike;
   accepted = fit.accepted;

@@ -94,7 +94,7 @@ room_tests ms p =
 
 abbrev pub submit_tests : JobTemplate → Option Indices → Plan → List (Bool × Refusal)
 submit_tests t indices p =
-    bulk_tests indices ++ job_tests p.total p.moment t ++
+    bulk_tests indices ++ job_tests p.total p.queues p.moment t ++
     (names_none t p, InvalidArgument which.Reservation) ∷
     (option_map_or (λ (slots : ℕ). nat_lt slots (min_slots t)) (named_slots t p) false, InvalidArgument which.MinSlots) ∷
     room_tests (members t indices p) p
@@ -106,7 +106,7 @@ new_row home p number m = record {
   job = record { 0 = number };
   home = Some home;
   template = m.template;
-  wants = wants_of m.template m.membership;
+  wants = wants_of p.queues m.template m.membership;
   submitted = p.moment;
   course = submitted_course m.template.submit_as_hold;
 }

@@ -1,9 +1,15 @@
 //! What is true of every plan, of every world and of every step. Each law is the contract of a function that does
 //! nothing: the clause speaks of all plans, calls, moments and worlds.
-ghost use Rattle.std.specs.Prelude.{◌≡◌, ◌≢◌, ◌+◌, ◌≤◌, ℕ, List, Option, Some, None, length, max, true};
+ghost use Rattle.std.specs.Prelude.{◌≡◌, ◌≢◌, ◌+◌, ◌≤◌, ◌==◌, ◌||◌, ◌∷◌, [], ℕ, List, Option, Some, None, IfSome, codes, is_some, length, max, nat_lt, true};
 ghost use Rattle.drmaa_types.specs.declared.identifiers.JobId.{JobId};
 ghost use Rattle.drmaa_types.specs.declared.identifiers.ReservationId.{ReservationId};
+ghost use Rattle.drmaa_types.specs.Queues.{queue_at};
+ghost use Rattle.drmaa_types.specs.declared.queues.QueueSpec.{QueueSpec};
+ghost use Rattle.drmaa_types.specs.declared.refusals.Attribute.TheVariants as attribute;
+ghost use Rattle.drmaa_types.specs.declared.refusals.Refusal.TheVariants.{UnsupportedAttribute};
 ghost use Rattle.drmaa_types.specs.declared.states.Control.{Control};
+ghost use Rattle.job_template.specs.JobTests.{is_bad_least, queue_test};
+ghost use Rattle.job_template.specs.Wants.{min_slots};
 ghost use Rattle.job_template.specs.declared.templates.JobTemplate.{JobTemplate};
 ghost use Rattle.job_template.specs.declared.templates.ReservationTemplate.{ReservationTemplate};
 ghost use Rattle.drmaa_model.specs.declared.calls.Indices.{Indices};
@@ -21,11 +27,14 @@ ghost use Rattle.drmaa_model.specs.Effects.{gives, through, unit, forget_home};
 ghost use Rattle.drmaa_model.specs.Fit.{IsFit};
 ghost use Rattle.drmaa_model.specs.Growth.{growth, is_of_run};
 ghost use Rattle.drmaa_model.specs.History.{IsLegal, replay};
+ghost use Rattle.drmaa_model.specs.Infos.{queue_name, queue_names};
 ghost use Rattle.drmaa_model.specs.Launching.{launch, signal};
+ghost use Rattle.drmaa_model.specs.Load.{fits, in_queue};
 ghost use Rattle.drmaa_model.specs.Moving.{MovesOne, ReportMoves};
 ghost use Rattle.drmaa_model.specs.OperationLaws.{KeepsFit};
-ghost use Rattle.drmaa_model.specs.Order.{next_launch};
+ghost use Rattle.drmaa_model.specs.Order.{has_slots_free, next_launch};
 ghost use Rattle.drmaa_model.specs.Plan.{Plan};
+ghost use Rattle.drmaa_model.specs.QueueLaws.{ArePlaced, AreQueueless};
 ghost use Rattle.drmaa_model.specs.Reporting.{report_of};
 ghost use Rattle.drmaa_model.specs.Requests.{request, end_reservation};
 ghost use Rattle.drmaa_model.specs.Resting.{IsResting};
@@ -112,4 +121,29 @@ pub fn a_launch_or_a_report_moves_one_job()
         ReportMoves report p ((report_of report).effect entry p) }
     ensures others { (p q : Plan) (row : Row) (course : Course) (job : JobId) → MovesOne p q row course → row.job.0 ≢ job.0 →
         row_of job q.rows ≡ row_of job p.rows }
+{}
+
+/// At no point of a legal history do the ordinary jobs of a queue hold more slots than its limit.
+pub fn no_queue_is_passed()
+    ensures { (config : Config) (history : List Entry) → IsLegal config history → (place : ℕ) →
+        IfSome (queue_at place config.queues) (λ (queue : QueueSpec). in_queue place (replay config history).plan.rows ≤ queue.limit) }
+{}
+
+/// At each point of a legal history each job is of a queue of the machine, and of none only where there are none.
+pub fn each_job_is_of_a_queue()
+    ensures { (config : Config) (history : List Entry) → IsLegal config history →
+        ArePlaced config.queues (replay config history).plan.rows }
+{}
+
+/// A machine without queues has none of their rules. No job is of a queue at any point of a legal history, and such a job needs
+/// the calendar alone. A least number of slots is bad where it is 0 or above the machine's slots, and a template may name no
+/// queue. The name that is told of a job's queue, and the only one that is listed, is `default`.
+pub fn a_machine_without_queues_has_none_of_their_rules()
+    ensures rows { (config : Config) (history : List Entry) → config.queues ≡ [] → IsLegal config history →
+        AreQueueless (replay config history).plan.rows }
+    ensures slots { (p : Plan) (slots : ℕ) (row : Row) → row.wants.queue ≡ None →
+        has_slots_free p slots row ≡ fits p slots p.moment (planned_end row.wants p.moment) }
+    ensures least { (slots : ℕ) (t : JobTemplate) → is_bad_least slots [] t ≡ (min_slots t == 0 || nat_lt slots (min_slots t)) }
+    ensures named { (t : JobTemplate) → queue_test [] t ≡ (is_some t.queue_name, UnsupportedAttribute attribute.QueueName) }
+    ensures told { (queue_name [] None ≡ codes "default") × (queue_names [] ≡ codes "default" ∷ []) }
 {}

@@ -4,6 +4,7 @@ pub mod Filters
 pub mod Moments
 pub mod Notifications
 pub mod Readings
+pub mod Queues
 pub mod RefusalLaws
 pub mod Refusals
 pub mod States

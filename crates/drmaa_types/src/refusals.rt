@@ -24,6 +24,7 @@ pub enum Which {
     DeadlineTime,
     ResourceLimits,
     ReservationName,
+    QueueName,
     StartTime,
     EndTime,
     Duration,

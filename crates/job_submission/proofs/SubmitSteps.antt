@@ -8,6 +8,7 @@ use Rattle.std.specs.Str.{bytes_eq}
 use Rattle.std.proofs.lemmas.Bool.{lt-ltb, le-ltb}
 use Rattle.drmaa_types.specs.Refusals.{first_refusal}
 use Rattle.drmaa_types.specs.States.{is_waiting}
+use Rattle.drmaa_types.specs.declared.queues.QueueSpec.{QueueSpec}
 use Rattle.drmaa_types.specs.declared.refusals.Attribute.{Attribute}
 use Rattle.drmaa_types.specs.declared.refusals.Refusal.{Refusal}
 use Rattle.drmaa_types.specs.declared.refusals.Refusal.TheVariants.{InvalidArgument, OutOfResource, UnsupportedAttribute}
@@ -15,7 +16,7 @@ use Rattle.drmaa_types.specs.declared.refusals.Which.TheVariants as which
 use Rattle.drmaa_types.specs.declared.refusals.Limit.TheVariants as resource
 use Rattle.job_template.specs.declared.templates.JobTemplate.{JobTemplate}
 use Rattle.job_template.specs.declared.templates.ResourceLimit.{ResourceLimit}
-use Rattle.job_template.specs.JobTests.{command_tests, path_tests, slot_tests, limit_tests, job_tests}
+use Rattle.job_template.specs.JobTests.{command_tests, path_tests, slot_tests, limit_tests, job_tests, queue_test}
 use Rattle.job_template.specs.Texts.{text_length}
 use Rattle.job_template.specs.Unsupported.{other_tests, other_limits}
 use Rattle.job_template.specs.Wants.{is_wallclock}
@@ -51,7 +52,7 @@ text_test t indices p = (nat_lt most_kept_text (kept_text p.rows + new_text (mem
 
 early-then : (t : JobTemplate) (indices : Option Indices) (p : Plan) → submit_tests t indices p ≡ early_tests t indices p ++ text_test t indices p ∷ []
 early-then t indices p =
-    let front = bulk_tests indices ++ job_tests p.total p.moment t in
+    let front = bulk_tests indices ++ job_tests p.total p.queues p.moment t in
     let named = named_tests t p in
     let text = text_test t indices p in
     let jobs : ℕ → Bool × Refusal = λ n. (nat_lt most_jobs (length p.rows + n), OutOfResource resource.Jobs) in
@@ -113,20 +114,24 @@ other-answers : (others : List Attribute) → Answering (other_tests others)
 other-answers [] = tt
 other-answers (a ∷ others) = (refl, other-answers others)
 
-job-answers : (slots now : ℕ) (t : JobTemplate) → Answering (job_tests slots now t)
-job-answers slots now t =
-    both-answer (command_tests t ++ path_tests t ++ slot_tests slots now t ++ limit_tests false t.resource_limits) (other_tests t.others)
-    (both-answer (command_tests t ++ path_tests t ++ slot_tests slots now t) (limit_tests false t.resource_limits)
-    (refl, (refl, (refl, (refl, (refl, (refl, (refl, (refl, (refl, (refl, (refl, (refl, (refl, tt)))))))))))))
+queue-answers : (queues : List QueueSpec) (t : JobTemplate) → is_answer (queue_test queues t).1 ≡ true
+queue-answers [] t = refl
+queue-answers (first ∷ others) t = refl
+
+job-answers : (slots : ℕ) (queues : List QueueSpec) (now : ℕ) (t : JobTemplate) → Answering (job_tests slots queues now t)
+job-answers slots queues now t =
+    both-answer (command_tests t ++ path_tests queues t ++ slot_tests slots queues now t ++ limit_tests false t.resource_limits) (other_tests t.others)
+    (both-answer (command_tests t ++ path_tests queues t ++ slot_tests slots queues now t) (limit_tests false t.resource_limits)
+    (refl, (refl, (refl, (refl, (refl, (refl, (refl, (refl, (refl, (queue-answers queues t, (refl, (refl, (refl, tt)))))))))))))
     (limit-answers false t.resource_limits))
     (other-answers t.others)
 
 pub early-answers : (t : JobTemplate) (indices : Option Indices) (p : Plan) (why : Refusal) → first_refusal (early_tests t indices p) ≡ Some why → is_answer why ≡ true
 early-answers t indices p why is =
     first-answers (early_tests t indices p) why
-    (both-answer (bulk_tests indices ++ job_tests p.total p.moment t ++ named_tests t p) (jobs_tests indices p)
-    (both-answer (bulk_tests indices ++ job_tests p.total p.moment t) (named_tests t p)
-    (both-answer (bulk_tests indices) (job_tests p.total p.moment t) (bulk-answers indices) (job-answers p.total p.moment t))
+    (both-answer (bulk_tests indices ++ job_tests p.total p.queues p.moment t ++ named_tests t p) (jobs_tests indices p)
+    (both-answer (bulk_tests indices ++ job_tests p.total p.queues p.moment t) (named_tests t p)
+    (both-answer (bulk_tests indices) (job_tests p.total p.queues p.moment t) (bulk-answers indices) (job-answers p.total p.queues p.moment t))
     (refl, (refl, tt)))
     (refl, tt)) is
 
@@ -136,15 +141,15 @@ batch-members : (home : ℕ) (p : Plan) (t : JobTemplate) (indices : Option Indi
 batch-members home p t None = refl
 batch-members home p t (Some i) = refl
 
-batch-rows : (home : ℕ) (p : Plan) (number : ℕ) (ms : List Member) → batch_rows (batch_of home p) number ms ≡ new_rows home p number ms
+batch-rows : (home : ℕ) (p : Plan) (number : ℕ) (ms : List Member) → batch_rows p.queues (batch_of home p) number ms ≡ new_rows home p number ms
 batch-rows home p number [] = refl
-batch-rows home p number (m ∷ ms) = ap (λ (rows : List Row). batch_row (batch_of home p) number m ∷ rows) (batch-rows home p (number + 1) ms)
+batch-rows home p number (m ∷ ms) = ap (λ (rows : List Row). batch_row p.queues (batch_of home p) number m ∷ rows) (batch-rows home p (number + 1) ms)
 
 -- the rows of the jobs that are asked for
 pub asked-rows : (home : ℕ) (p : Plan) (t : JobTemplate) (indices : Option Indices)
-    → batch_rows (batch_of home p) p.next_job (batch_members (batch_of home p) t indices) ≡ new_rows home p p.next_job (members t indices p)
+    → batch_rows p.queues (batch_of home p) p.next_job (batch_members (batch_of home p) t indices) ≡ new_rows home p p.next_job (members t indices p)
 asked-rows home p t indices =
-    ap (batch_rows (batch_of home p) p.next_job) (batch-members home p t indices) ∙ batch-rows home p p.next_job (members t indices p)
+    ap (batch_rows p.queues (batch_of home p) p.next_job) (batch-members home p t indices) ∙ batch-rows home p p.next_job (members t indices p)
 
 pub asked-text : (home : ℕ) (p : Plan) (t : JobTemplate) (indices : Option Indices) → new_text (batch_members (batch_of home p) t indices) ≡ new_text (members t indices p)
 asked-text home p t indices = ap new_text (batch-members home p t indices)

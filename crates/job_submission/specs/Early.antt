@@ -41,4 +41,4 @@ jobs_tests indices p = (nat_lt most_jobs (length p.rows + asked indices), OutOfR
 
 -- all that is asked before the rows are made
 abbrev pub early_tests : JobTemplate → Option Indices → Plan → List (Bool × Refusal)
-early_tests t indices p = bulk_tests indices ++ job_tests p.total p.moment t ++ named_tests t p ++ jobs_tests indices p
+early_tests t indices p = bulk_tests indices ++ job_tests p.total p.queues p.moment t ++ named_tests t p ++ jobs_tests indices p

@@ -1,18 +1,19 @@
 //! The rows of the jobs of one submission. They are made whole, with the memory that they want, before anything changes.
-ghost use Rattle.std.specs.Prelude.{◌≡◌, ◌≤◌, ◌<◌, ◌+◌, ◌*◌, ◌^◌, None, Some, IfOk, IfErr};
+ghost use Rattle.std.specs.Prelude.{◌≡◌, ◌≤◌, ◌<◌, ◌+◌, ◌*◌, ◌^◌, None, Some, IfOk, IfErr, length};
+ghost use Rattle.drmaa_types.specs.Queues.{most_queues};
 ghost use Rattle.drmaa_types.specs.Refusals.{first_refusal};
 ghost use Rattle.drmaa_model.specs.Courses.{wants_of};
 ghost use Rattle.drmaa_model.specs.Submitting.{bulk_tests, index_count, kept_text, new_text, most_kept_text};
 ghost use Rattle.drmaa_model.specs.Time.{advance_plan};
-ghost use Rattle.plan_book.specs.Book.{plan_of};
+ghost use Rattle.plan_book.specs.Book.{IsKept, plan_of};
 ghost use Rattle.job_submission.specs.Early.{AreSteps, asked};
 ghost use Rattle.job_submission.specs.Batches.{place, placed, batch_of, batch_row, batch_rows, batch_member, batch_members};
 
 use crate::bulks::{index_at, index_count};
 use crate::texts::{without_rows, without_template};
 use drmaa_model::{Indices, Row, Wants};
-use drmaa_types::{ArrayId, JobId, Moment};
-use job_template::{JobTemplate, expand};
+use drmaa_types::{ArrayId, JobId, Moment, QueueList};
+use job_template::{JobTemplate, expand, queue_of};
 use plan_book::Book;
 use plan_book::courses::submitted;
 use std::alloc::Global;
@@ -53,6 +54,7 @@ pub fn batch_of(book: &Book, at: Moment, home: u64) -> Batch
 
 /// The row of a job, with its place in an array where it is a member of one.
 fn row_of(
+    queues: &QueueList,
     b: &Batch,
     number: u64,
     template: JobTemplate,
@@ -60,26 +62,29 @@ fn row_of(
     index: Option<u32>,
     bound: Option<u32>,
 ) -> Row
-    ensures { result ≡ batch_row b.now number (placed template array index bound) }
+    requires few { length queues.now ≤ most_queues }
+    ensures { result ≡ batch_row queues.now b.now number (placed template array index bound) }
 {
     Row {
         job: JobId(number),
         home: Some(b.home),
-        wants: wants_of(&template, array, index, bound),
+        wants: wants_of(queues, &template, array, index, bound),
         submitted: b.moment,
         course: submitted(template.submit_as_hold),
         template,
     }
 }
 
-/// What a job asks for: what its template says, and its place in an array.
+/// What a job asks for on a machine with these queues: what its template says, and its place in an array.
 fn wants_of(
+    queues: &QueueList,
     t: &JobTemplate,
     array: Option<ArrayId>,
     index: Option<u32>,
     bound: Option<u32>,
 ) -> Wants
-    ensures { result ≡ wants_of t.now (place array index bound) }
+    requires few { length queues.now ≤ most_queues }
+    ensures { result ≡ wants_of queues.now t.now (place array index bound) }
 {
     Wants {
         min: t.min_slots(),
@@ -89,6 +94,7 @@ fn wants_of(
         deadline: t.deadline_time,
         limit: t.wallclock_limit(),
         reservation: t.reservation_id,
+        queue: queue_of(queues, t),
         array,
         index,
         bound,
@@ -99,6 +105,7 @@ fn wants_of(
 /// The row of the member in this place of an array, from 0.
 fn member_row(
     alloc: Global,
+    queues: &QueueList,
     b: &Batch,
     t: &JobTemplate,
     i: &Indices,
@@ -107,14 +114,23 @@ fn member_row(
     requires steps { AreSteps i.now }
     requires place { place < index_count i.now }
     requires number { b.now.first + place < 2 ^ 64 }
-    ensures row { IfOk result (λ row. row ≡ batch_row b.now (b.now.first + place) (batch_member b.now t.now i.now (i.now.begin + place * i.now.step))) }
+    requires few { length queues.now ≤ most_queues }
+    ensures row { IfOk result (λ row. row ≡ batch_row queues.now b.now (b.now.first + place) (batch_member b.now t.now i.now (i.now.begin + place * i.now.step))) }
     ensures err { IfErr result (λ why. why ≡ Unmade.OutOfMemory) }
 {
     let number = b.first + u64::from(place);
     let array = ArrayId(b.array);
     let index = index_at(i, place);
     match expand(alloc, t, index) {
-        Ok(template) => Ok(row_of(b, number, template, Some(array), Some(index), i.bound)),
+        Ok(template) => Ok(row_of(
+            queues,
+            b,
+            number,
+            template,
+            Some(array),
+            Some(index),
+            i.bound,
+        )),
         Err(_) => Err(Unmade::OutOfMemory),
     }
 }
@@ -122,6 +138,7 @@ fn member_row(
 /// The rows of all members of an array, whose templates have this room.
 fn array_rows(
     alloc: Global,
+    queues: &QueueList,
     b: &Batch,
     t: &JobTemplate,
     i: &Indices,
@@ -129,7 +146,8 @@ fn array_rows(
 ) -> Result<Vec<Row>, Unmade>
     requires steps { AreSteps i.now }
     requires numbers { b.now.first + index_count i.now < 2 ^ 64 }
-    ensures rows { IfOk result (λ rows. rows.items ≡ batch_rows b.now b.now.first (batch_members b.now t.now (Some i.now))) }
+    requires few { length queues.now ≤ most_queues }
+    ensures rows { IfOk result (λ rows. rows.items ≡ batch_rows queues.now b.now b.now.first (batch_members b.now t.now (Some i.now))) }
     ensures fits { IfOk result (λ rows. new_text (batch_members b.now t.now (Some i.now)) ≤ room) }
     ensures err { IfErr result (λ why. why ≡ Unmade.TooMuchText → room < new_text (batch_members b.now t.now (Some i.now))) }
 {
@@ -139,7 +157,7 @@ fn array_rows(
     };
     let mut room = room;
     for place in 0..count {
-        let row = member_row(alloc, b, t, i, place)?;
+        let row = member_row(alloc, queues, b, t, i, place)?;
         let Some(left) = without_template(room, &row.template) else {
             return Err(Unmade::TooMuchText);
         };
@@ -154,11 +172,13 @@ fn array_rows(
 /// The row of the one job, whose template has this room.
 fn single_rows(
     alloc: Global,
+    queues: &QueueList,
     b: &Batch,
     template: JobTemplate,
     room: usize,
 ) -> Result<Vec<Row>, Unmade>
-    ensures rows { IfOk result (λ rows. rows.items ≡ batch_rows b.now b.now.first (batch_members b.now template None)) }
+    requires few { length queues.now ≤ most_queues }
+    ensures rows { IfOk result (λ rows. rows.items ≡ batch_rows queues.now b.now b.now.first (batch_members b.now template None)) }
     ensures fits { IfOk result (λ rows. new_text (batch_members b.now template None) ≤ room) }
     ensures err { IfErr result (λ why. why ≡ Unmade.TooMuchText → room < new_text (batch_members b.now template None)) }
 {
@@ -168,7 +188,7 @@ fn single_rows(
     let Ok(mut rows) = Vec::with_capacity(alloc, 1) else {
         return Err(Unmade::OutOfMemory);
     };
-    let row = row_of(b, b.first, template, None, None, None);
+    let row = row_of(queues, b, b.first, template, None, None, None);
     if rows.push(row).is_err() {
         return Err(Unmade::OutOfMemory);
     }
@@ -187,7 +207,8 @@ pub fn rows_of(
 ) -> Result<Vec<Row>, Unmade>
     requires bulk { first_refusal (bulk_tests indices) ≡ None }
     requires numbers { b.now.first + asked indices < 2 ^ 64 }
-    ensures rows { IfOk result (λ rows. rows.items ≡ batch_rows b.now b.now.first (batch_members b.now template indices)) }
+    requires kept { IsKept book.now }
+    ensures rows { IfOk result (λ rows. rows.items ≡ batch_rows (plan_of book.now).queues b.now b.now.first (batch_members b.now template indices)) }
     ensures fits { IfOk result (λ rows. kept_text (plan_of book.now).rows + new_text (batch_members b.now template indices) ≤ most_kept_text) }
     ensures err { IfErr result (λ why. why ≡ Unmade.TooMuchText → most_kept_text < kept_text (plan_of book.now).rows + new_text (batch_members b.now template indices)) }
 {
@@ -195,7 +216,7 @@ pub fn rows_of(
         return Err(Unmade::TooMuchText);
     };
     match indices {
-        None => single_rows(alloc, b, template, room),
-        Some(i) => array_rows(alloc, b, &template, &i, room),
+        None => single_rows(alloc, book.queues(), b, template, room),
+        Some(i) => array_rows(alloc, book.queues(), b, &template, &i, room),
     }
 }

@@ -29,7 +29,7 @@ pub fn refusal_of(
     if let Some(why) = bulk_refusal(indices) {
         return Some(why);
     }
-    if let Err(why) = validate_job(template, book.total(), book.moment_at(at)) {
+    if let Err(why) = validate_job(template, book.total(), book.queues(), book.moment_at(at)) {
         return Some(why);
     }
     if let Some(why) = named_refusal(book, at, template) {

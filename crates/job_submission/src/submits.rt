@@ -1,5 +1,5 @@
 //! The submission of a job, or of an array of jobs.
-ghost use Rattle.std.specs.Prelude.{◌≡◌, ◌≢◌, ◌≤◌, ◌+◌, ◌*◌, None, IsSome, Err, OnErr};
+ghost use Rattle.std.specs.Prelude.{◌≡◌, ◌≢◌, ◌≤◌, ◌+◌, ◌*◌, [], None, IsSome, Err, OnErr};
 ghost use Rattle.drmaa_types.specs.Refusals.{first_refusal};
 ghost use Rattle.drmaa_model.specs.Operation.{Meets, outcome};
 ghost use Rattle.drmaa_model.specs.Submitting.{array_number, arrays_used, bulk_tests, submit};
@@ -113,7 +113,7 @@ fn told_of(b: &Batch, indices: Option<Indices>) -> Submitted
 
 /// The number of the array, where one is asked for.
 fn array_of(b: &Batch, indices: Option<Indices>) -> Option<ArrayId>
-    ensures { result ≡ array_number indices (plan_in b.now) }
+    ensures { result ≡ array_number indices (plan_in [] b.now) }
 {
     match indices {
         None => None,

@@ -12,7 +12,11 @@ pub refused_second : (ts us : List (Bool × Refusal)) (why : Refusal) → first_
 refused_second ts us why h k = passed_first ts us h ∙ k
 
 module _ {X : Type 0} (a b c d e : List (Bool × Refusal)) (x : X) (why : Refusal) where
-  -- the second, third or fourth group refuses where those before it do not
+  -- the first, second, third or fourth group refuses where those before it do not
+  pub refused_1 : first_refusal a ≡ Some why → refused_or (first_refusal (a ++ b ++ c ++ d ++ e)) x ≡ Err why
+  refused_1 h = ap (λ o. refused_or o x)
+      (refused_first (a ++ b ++ c ++ d) e why (refused_first (a ++ b ++ c) d why (refused_first (a ++ b) c why (refused_first a b why h))))
+
   pub refused_2 : first_refusal a ≡ None → first_refusal b ≡ Some why → refused_or (first_refusal (a ++ b ++ c ++ d ++ e)) x ≡ Err why
   refused_2 h k = ap (λ o. refused_or o x)
       (refused_first (a ++ b ++ c ++ d) e why (refused_first (a ++ b ++ c) d why (refused_first (a ++ b) c why (refused_second a b why h k))))

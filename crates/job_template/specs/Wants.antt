@@ -1,7 +1,9 @@
 -- What a template asks for where it leaves an attribute unset (GFD.231, JobTemplate): our profile.
-use Rattle.std.specs.Prelude.{ℕ, ℤ, pos, Bool, find, codes, Option, unwrap_or}
-use Rattle.std.specs.Option.{option_map}
+use Rattle.std.specs.Prelude.{ℕ, ℤ, pos, Bool, List, [], ◌∷◌, find, codes, Option, Some, None, is_some, unwrap_or, if◌then◌else◌}
+use Rattle.std.specs.Option.{option_map, option_map_or, option_and_then}
 use Rattle.std.specs.Str.{bytes_eq}
+use Rattle.drmaa_types.specs.Queues.{queue_at, place_of}
+use Rattle.drmaa_types.specs.declared.queues.QueueSpec.{QueueSpec}
 use Rattle.job_template.specs.declared.templates.JobTemplate.{JobTemplate}
 use Rattle.job_template.specs.declared.templates.ResourceLimit.{ResourceLimit}
 
@@ -31,3 +33,14 @@ is_wallclock l = bytes_eq l.name (codes "WALLCLOCK_TIME")
 -- how many seconds a launch of the job may last
 abbrev pub wallclock_limit : JobTemplate → Option ℕ
 wallclock_limit t = option_map (λ (l : ResourceLimit). l.value) (find is_wallclock t.resource_limits)
+
+-- the place of a job's queue among these: of the one that it names, and of the first where it names none
+abbrev pub queue_of : List QueueSpec → JobTemplate → Option ℕ
+queue_of [] t = None
+queue_of (first ∷ others) t = option_map_or (λ (name : List ℕ). place_of name (first ∷ others)) t.queue_name (Some 1)
+
+-- the limit of its queue, which binds a job that names no reservation
+abbrev pub queue_limit : List QueueSpec → JobTemplate → Option ℕ
+queue_limit queues t =
+    if is_some t.reservation_id then None
+    else option_map (λ (queue : QueueSpec). queue.limit) (option_and_then (λ (place : ℕ). queue_at place queues) (queue_of queues t))

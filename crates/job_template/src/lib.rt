@@ -8,6 +8,7 @@ mod expansion;
 mod frames;
 mod jobs;
 mod launch;
+mod queues;
 mod templates;
 mod texts;
 mod variables;
@@ -17,6 +18,7 @@ pub use expansion::expand;
 pub use frames::validate_reservation;
 pub use jobs::validate_job;
 pub use launch::launch_words;
+pub use queues::{queue_limit, queue_of};
 pub use templates::{
     Frame, JobTemplate, LimitList, Pair, PairList, ReservationTemplate, ResourceLimit, Start,
 };

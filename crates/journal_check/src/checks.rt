@@ -1,6 +1,7 @@
 //! The check of a whole journal.
-ghost use Rattle.std.specs.Prelude.{◌≡◌, ◌≤◌, ◌⊎◌, ℕ, [], Option};
+ghost use Rattle.std.specs.Prelude.{◌≡◌, ◌≤◌, ◌⊎◌, ℕ, true, [], Option};
 ghost use Rattle.std.specs.List.{AllByRecursion};
+ghost use Rattle.drmaa_types.specs.Queues.{are_queues};
 ghost use Rattle.drmaa_model.specs.KeptCalls.{kept};
 ghost use Rattle.drmaa_model.specs.History.{IsLegal};
 ghost use Rattle.drmaa_model.specs.declared.entries.Entry.{Entry};
@@ -61,6 +62,7 @@ pub fn check(alloc: Global, config: Config, entries: EntryList) -> Verdict
     requires most_slots { config.slots ≤ 65_535 }
     requires least_journal { 1 ≤ config.journal }
     requires most_journal { config.journal ≤ 4_000_000 }
+    requires queues { are_queues config.slots config.queues ≡ true }
     requires kept { AllByRecursion (λ (e : Entry). kept e.call ≡ e.call) entries }
     ensures legal { result ≡ Verdict.Legal → IsLegal config entries }
     ensures fault { (number : ℕ) (given : Reply) (machine : Option Reply)

@@ -7,7 +7,7 @@ use Rattle.std.proofs.lemmas.Option.{none-some, same_Some, cond_some}
 use Rattle.drmaa_model.specs.declared.configs.Config.{Config}
 use Rattle.drmaa_model.specs.declared.entries.Entry.{Entry}
 use Rattle.text_codec.specs.Lexical.{IsClean}
-use Rattle.text_codec.specs.Formats.{strip, number, pair, behind, checked, read_line}
+use Rattle.text_codec.specs.Formats.{strip, number, pair, list_of, behind, checked, read_line}
 use Rattle.text_codec.specs.Quotes.{text}
 use Rattle.text_codec.specs.StepLaws.{bind, chosen, strip_found}
 use Rattle.text_codec.specs.FormatLaws.{line_found, line_again}
@@ -15,7 +15,8 @@ use Rattle.text_codec.specs.BaseLaws.{number_laws_64}
 use Rattle.text_lines.specs.Lines.{kept, ended, whole_lines, AreLines, GoesOn, IsTextOf}
 use Rattle.text_lines.specs.LineLaws.{ended_text, ended_utf8, lines_again, one_text}
 use Rattle.text_lines.specs.Automata.{Runs, Reads, GoesBy, from}
-use Rattle.journal_text.specs.Journals.{header, title, journal_size, suspend, entry, closing, entry_lines, journal_lines, journal_text, IsEntry, IsWritable, Spells}
+use Rattle.journal_text.specs.Queues.{queues}
+use Rattle.journal_text.specs.Journals.{header, title, machine, journal_size, suspend, entry, closing, entry_lines, journal_lines, journal_text, IsEntry, IsWritable, Spells}
 use Rattle.journal_text.specs.LineLaws.{header_laws, entry_laws, closing_laws, entry_valid, entry_number, entry_is, number_is, closing_is, entry_no_end}
 use Rattle.journal_text.specs.Reading.{journal_of, next, ends, reading}
 use Rattle.journal_text.specs.declared.journals.Journal.{Journal}
@@ -159,11 +160,11 @@ journal_utf8 c es w = ended_utf8 (journal_lines c es) (journal_is_clean c es w)
 
 -- a machine
 some_config : Config
-some_config = record { slots = 1; name = 109 ∷ []; suspend = true; journal = journal_size }
+some_config = record { slots = 1; name = 109 ∷ []; suspend = true; journal = journal_size; queues = [] }
 
 some_valid : header.valid some_config
-unfolding header title checked behind pair number text suspend some_config lib.Utf8.encode
-some_valid = (((lit< tt, (is_utf8_m, refl)), refl), refl)
+unfolding header title checked behind machine queues list_of pair number text suspend some_config lib.Utf8.encode
+some_valid = ((((lit< tt, (is_utf8_m, refl)), tt), refl), refl)
   where
     is_utf8_m : IsUtf8 (109 ∷ [])
     is_utf8_m = (109 ∷ [], (refl, refl))

@@ -1,7 +1,9 @@
 -- Journals: the machine, a line for each entry of its history, and their count. Our profile.
 use Rattle.std.specs.Prelude.{◌≡◌, ℕ, ◌+◌, ◌<◌, ◌^◌, ◌&&◌, nat_le, Bool, true, false, List, [], ◌∷◌, ◌++◌, length, Option, Some, codes}
 use Rattle.std.specs.List.{AllByRecursion}
+use Rattle.drmaa_types.specs.Queues.{are_queues}
 use Rattle.drmaa_types.specs.declared.identifiers.CallerId.{CallerId}
+use Rattle.drmaa_types.specs.declared.queues.QueueSpec.{QueueSpec}
 use Rattle.drmaa_model.specs.declared.configs.Config.{Config}
 use Rattle.drmaa_model.specs.declared.entries.Entry.{Entry}
 use Rattle.drmaa_model.specs.declared.calls.Call.{Call}
@@ -14,6 +16,7 @@ use Rattle.text_words.specs.Numbers.{caller_id}
 use Rattle.text_lines.specs.Lines.{ended}
 use Rattle.journal_forms.specs.Calls.{calls}
 use Rattle.journal_forms.specs.Replies.{replies}
+use Rattle.journal_text.specs.Queues.{queues}
 use Rattle.journal_text.specs.declared.journals.Journal.{Journal}
 use Rattle.journal_text.specs.declared.titles.TheConstants.{SUSPENDS}
 
@@ -29,24 +32,35 @@ suspend_text false = codes "nosuspend"
 unfoldable pub suspend : Format Bool
 suspend = one_of suspend_text SUSPENDS
 
--- the machine of a journal: from 1 to 65,535 slots, and a name of 1 to 255 bytes
-abbrev pub is_machine : ℕ × (List ℕ × Bool) → Bool
-is_machine m = nat_le 1 m.0 && (nat_le m.0 65535 && (nat_le 1 (length m.1.0) && nat_le (length m.1.0) 255))
-
-unfoldable pub title : Format (ℕ × (List ℕ × Bool))
-title = checked is_machine (behind (codes "drmaa-journal 1 ") (pair (number (2 ^ 32)) (pair text suspend)))
-
-abbrev pub config_of : ℕ × (List ℕ × Bool) → Config
-config_of m = record { slots = m.0; name = m.1.0; suspend = m.1.1; journal = journal_size }
+-- a machine without its queues: its slots, its name, and whether jobs can be suspended
+unfoldable pub machine : Format (ℕ × (List ℕ × Bool))
+machine = pair (number (2 ^ 32)) (pair text suspend)
 
 abbrev pub machine_of : Config → ℕ × (List ℕ × Bool)
 machine_of c = (c.slots, (c.name, c.suspend))
 
+-- the machine of a journal: from 1 to 65,535 slots, and a name of 1 to 255 bytes
+abbrev pub is_machine : ℕ × (List ℕ × Bool) → Bool
+is_machine m = nat_le 1 m.0 && (nat_le m.0 65535 && (nat_le 1 (length m.1.0) && nat_le (length m.1.0) 255))
+
+-- and its queues, which a machine of so many slots may have
+abbrev pub is_title : (ℕ × (List ℕ × Bool)) × List QueueSpec → Bool
+is_title m = is_machine m.0 && are_queues m.0.0 m.1
+
+unfoldable pub title : Format ((ℕ × (List ℕ × Bool)) × List QueueSpec)
+title = checked is_title (behind (codes "drmaa-journal 2 ") (pair machine queues))
+
+abbrev pub config_of : (ℕ × (List ℕ × Bool)) × List QueueSpec → Config
+config_of m = record { slots = m.0.0; name = m.0.1.0; suspend = m.0.1.1; journal = journal_size; queues = m.1 }
+
+abbrev pub title_of : Config → (ℕ × (List ℕ × Bool)) × List QueueSpec
+title_of c = (machine_of c, c.queues)
+
 -- the first line
 unfoldable pub header : Format Config
 header = record {
-  spell = λ c. title.spell (machine_of c);
-  valid = λ c. title.valid (machine_of c) × (c.journal ≡ journal_size);
+  spell = λ c. title.spell (title_of c);
+  valid = λ c. title.valid (title_of c) × (c.journal ≡ journal_size);
   read = λ bs. title.read bs >>= λ p. Some (config_of p.0, p.1);
 }
 
@@ -96,7 +110,8 @@ pub record IsEntry (e : Entry) : Type 0 where
   pub call : calls.body.valid e.call
   pub reply : replies.valid e.reply
 
--- the journals that are written and read
+-- The journals that are written and read: their machine has a name of 1 to 255 bytes, from 1 to 65,535 slots, queues that it may
+-- have, and the journal size 4,000,000; their entries are spelled, and fewer than 2^64.
 pub record IsWritable (c : Config) (es : List Entry) : Type 0 where
   pub config : header.valid c
   pub each : AllByRecursion IsEntry es

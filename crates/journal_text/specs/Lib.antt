@@ -1,3 +1,5 @@
+pub mod Queues
+pub mod QueueLaws
 pub mod Journals
 pub mod LineLaws
 pub mod Reading

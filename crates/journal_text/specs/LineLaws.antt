@@ -17,26 +17,32 @@ use Rattle.journal_forms.specs.CallLaws.{calls_laws}
 use Rattle.journal_forms.specs.Replies.{replies}
 use Rattle.journal_forms.specs.ReplyLaws.{replies_laws}
 use Rattle.journal_text.specs.declared.titles.TheConstants.{SUSPENDS}
-use Rattle.journal_text.specs.Journals.{journal_size, suspend_text, suspend, is_machine, title, config_of, machine_of, header, stamp, answered, make_entry, entry_parts, entry_with, entry, closing, IsEntry}
+use Rattle.journal_text.specs.Queues.{queues}
+use Rattle.journal_text.specs.QueueLaws.{queues_laws}
+use Rattle.journal_text.specs.Journals.{journal_size, suspend_text, suspend, machine, is_title, title, config_of, title_of, header, stamp, answered, make_entry, entry_parts, entry_with, entry, closing, IsEntry}
 
 pub suspend_laws : IsFormat suspend
 unfolding suspend
 suspend_laws = one_of_laws suspend_text SUSPENDS refl
 
+pub machine_laws : IsFormat machine
+unfolding machine
+machine_laws = pair_laws _ _ number_laws_32 (pair_laws text suspend text_laws suspend_laws)
+
 pub title_laws : IsFormat title
 unfolding title
-title_laws = checked_laws is_machine _ (behind_laws (codes "drmaa-journal 1 ") _ refl (pair_laws _ _ number_laws_32 (pair_laws text suspend text_laws suspend_laws)))
+title_laws = checked_laws is_title _ (behind_laws (codes "drmaa-journal 2 ") _ refl (pair_laws machine queues machine_laws queues_laws))
 
 pub header_laws : IsFormat header
 unfolding header
 header_laws = record {
   found = λ bs r e. bind (title.read bs) _ r e (λ p a d.
       let h = title_laws.found bs p a in
-      subst (λ s. (title.valid (machine_of s.0) × (s.0.journal ≡ journal_size)) × (bs ≡ title.spell (machine_of s.0) ++ s.1)) (same_Some _ _ d) ((h.0, refl), h.1));
+      subst (λ s. (title.valid (title_of s.0) × (s.0.journal ≡ journal_size)) × (bs ≡ title.spell (title_of s.0) ++ s.1)) (same_Some _ _ d) ((h.0, refl), h.1));
   again = λ c rest v p.
-      let same : config_of (machine_of c) ≡ c = ap (λ n. record c { journal = n }) (sym v.1) in
-      rw (title_laws.again (machine_of c) rest v.0 p) (ap (λ k. Some (k, rest)) same);
-  clean = λ c v. title_laws.clean (machine_of c) v.0;
+      let same : config_of (title_of c) ≡ c = ap (λ n. record c { journal = n }) (sym v.1) in
+      rw (title_laws.again (title_of c) rest v.0 p) (ap (λ k. Some (k, rest)) same);
+  clean = λ c v. title_laws.clean (title_of c) v.0;
 }
 
 pub stamp_laws : IsFormat stamp

@@ -1,5 +1,6 @@
 -- The laws of printed journals.
 use Rattle.std.proofs.Common.{◌≡◌, ℕ, suc, ◌<◌, ◌^◌, Bool, true, false, List, [], ◌∷◌, ◌++◌, length, map, Some, refl, sym, ap, subst, ◌∙◌, append_assoc, append-nil}
+use Rattle.std.specs.Cmp.Derive.{both_true}
 use Rattle.std.specs.List.{AllByRecursion}
 use Rattle.std.proofs.lemmas.Grind.{flat_map-append}
 use Rattle.drmaa_model.specs.declared.calls.Call.{Call}
@@ -20,7 +21,7 @@ use Rattle.text_lines.specs.Lines.{ended}
 use Rattle.journal_forms.specs.Calls.{call_form, calls_with, calls, running, bulk, requested, has_others}
 use Rattle.journal_forms.specs.Replies.{reply_form, reply_sum, replies, may_answer}
 use Rattle.journal_text.specs.declared.titles.TheConstants.{SUSPENDS}
-use Rattle.journal_text.specs.Journals.{suspend_text, header, title, machine_of, is_machine, journal_size, entry_with, answered, stamp, entry, closing, entry_lines, journal_text, IsEntry, IsWritable, kept_entry}
+use Rattle.journal_text.specs.Journals.{suspend_text, header, title, title_of, is_title, journal_size, entry_with, answered, stamp, entry, closing, entry_lines, journal_text, IsEntry, IsWritable, kept_entry}
 use Rattle.journal_text.specs.Printing.{any_entry, IsRanged, MayStand, IsPrintable}
 
 -- a call is spelled alike whatever attributes its template has
@@ -128,13 +129,13 @@ all_entries : (es : List Entry) → AllByRecursion MayStand es → AllByRecursio
 all_entries [] m r = tt
 all_entries (e ∷ es) m r = (is_entry e r.0 m.0, all_entries es m.1 r.1)
 
-header_is : (c : Config) → title.valid (machine_of c) → c.journal ≡ journal_size → header.valid c
+header_is : (c : Config) → title.valid (title_of c) → c.journal ≡ journal_size → header.valid c
 unfolding header
 header_is c v e = (v, e)
 
-pub is_writable : (c : Config) (es : List Entry) → IsPrintable c es → (is_machine (machine_of c) ≡ true → title.valid (machine_of c)) → AllByRecursion IsRanged (map kept_entry es) → length es < 2 ^ 64 → IsWritable c es
-is_writable c es p machine ranged few = record {
-  config = header_is c (machine p.machine) p.size;
+pub is_writable : (c : Config) (es : List Entry) → IsPrintable c es → (is_title (title_of c) ≡ true → title.valid (title_of c)) → AllByRecursion IsRanged (map kept_entry es) → length es < 2 ^ 64 → IsWritable c es
+is_writable c es p titled ranged few = record {
+  config = header_is c (titled (both_true p.machine p.queues)) p.size;
   each = all_entries es p.entries (subst (AllByRecursion IsRanged) (kept_is es p.entries) ranged);
   few = few;
 }

@@ -1,6 +1,7 @@
 -- Printed journals: what is printed is the text of the kept entries, and when that is the text of a writable journal.
 use Rattle.std.specs.Prelude.{◌≡◌, ℕ, true, List}
 use Rattle.std.specs.List.{AllByRecursion}
+use Rattle.drmaa_types.specs.Queues.{are_queues}
 use Rattle.drmaa_model.specs.declared.configs.Config.{Config}
 use Rattle.drmaa_model.specs.declared.entries.Entry.{Entry}
 use Rattle.drmaa_model.specs.KeptCalls.{kept}
@@ -29,8 +30,10 @@ pub record MayStand (e : Entry) : Type 0 where
   pub others : has_others e.call ≡ true
   pub reply : may_answer e.reply ≡ true
 
--- Which journals may be printed and read again: their machine is one of a journal, and so are their entries.
+-- Which journals may be printed and read again: their machine is one of a journal, with queues that it may have, and so are
+-- their entries.
 pub record IsPrintable (c : Config) (es : List Entry) : Type 0 where
   pub machine : is_machine (machine_of c) ≡ true
+  pub queues : are_queues c.slots c.queues ≡ true
   pub size : c.journal ≡ journal_size
   pub entries : AllByRecursion MayStand es

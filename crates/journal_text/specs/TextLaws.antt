@@ -16,9 +16,7 @@ use Rattle.text_codec.specs.Lexical.{IsClean}
 use Rattle.text_codec.specs.Formats.{IsFormat, number, pair, mapped, behind, checked}
 use Rattle.text_codec.specs.Fields.{joined}
 use Rattle.text_codec.specs.FormatLaws.{pair_laws}
-use Rattle.text_codec.specs.BaseLaws.{text_laws, number_laws_32}
 use Rattle.text_codec.specs.CleanLaws.{clean_both, clean_behind, plain_clean}
-use Rattle.text_codec.specs.Quotes.{text}
 use Rattle.text_codec.specs.Sums.{sum_of}
 use Rattle.text_codec.specs.SumLaws.{keyed_stands}
 use Rattle.text_words.specs.declared.call_words.CallWord.TheVariants as word
@@ -35,18 +33,20 @@ use Rattle.journal_forms.specs.Calls.{indices, running, bulk, requested, call_fo
 use Rattle.journal_forms.specs.CallLaws.{indices_laws, calls_laws}
 use Rattle.journal_forms.specs.Replies.{reply_form, reply_sum, replies, may_answer}
 use Rattle.journal_forms.specs.ReplyLaws.{replies_laws}
-use Rattle.journal_text.specs.Journals.{suspend, title, machine_of, header, stamp, answered, entry_with, entry, closing, entry_lines, journal_lines, journal_text}
-use Rattle.journal_text.specs.LineLaws.{suspend_laws, stamp_laws}
+use Rattle.journal_text.specs.Journals.{machine, title, title_of, header, stamp, answered, entry_with, entry, closing, entry_lines, journal_lines, journal_text}
+use Rattle.journal_text.specs.LineLaws.{machine_laws, stamp_laws}
+use Rattle.journal_text.specs.Queues.{queues}
+use Rattle.journal_text.specs.QueueLaws.{queues_laws}
 use Rattle.journal_text.specs.JournalLaws.{both_clean, closing_is_clean}
 use Rattle.journal_text.specs.Printing.{any_entry, IsRanged}
 use Rattle.journal_text.specs.PrintLaws.{same_entry}
 
--- the machine, whatever its slots and its name
-pub title_clean : (c : Config) → (pair (number (2 ^ 32)) (pair text suspend)).valid (machine_of c) → IsClean (title.spell (machine_of c))
+-- the machine, whatever its slots, its name and its queues
+pub title_clean : (c : Config) → (pair machine queues).valid (title_of c) → IsClean (title.spell (title_of c))
 unfolding title checked behind
 title_clean c v =
-    clean_behind (codes "drmaa-journal 1 ") ((pair (number (2 ^ 32)) (pair text suspend)).spell (machine_of c)) refl
-    ((pair_laws (number (2 ^ 32)) (pair text suspend) number_laws_32 (pair_laws text suspend text_laws suspend_laws)).clean (machine_of c) v)
+    clean_behind (codes "drmaa-journal 2 ") ((pair machine queues).spell (title_of c)) refl
+    ((pair_laws machine queues machine_laws queues_laws).clean (title_of c) v)
 
 -- a call, whatever attributes its template has under `other`
 running_laws : IsFormat (running any_template)

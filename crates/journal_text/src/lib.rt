@@ -4,6 +4,7 @@
 mod entries;
 mod journals;
 mod laws;
+mod queues;
 mod reading;
 mod titles;
 

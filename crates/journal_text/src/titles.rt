@@ -1,14 +1,20 @@
 //! The first line of a journal: the machine.
-ghost use Rattle.std.specs.Prelude.{◌≡◌, ◌∷◌, [], ◌++◌, ◌^◌, true, OnOk};
-ghost use Rattle.text_codec.specs.Formats.{Answers, Says, first_spelled, number, pair, read_line};
+ghost use Rattle.std.specs.Prelude.{◌≡◌, ◌∷◌, [], ◌++◌, true, OnOk};
+ghost use Rattle.text_codec.specs.Formats.{Answers, Says, first_spelled, pair, read_line};
 ghost use Rattle.text_codec.specs.Lexical.{IsClean};
 ghost use Rattle.text_codec.specs.Quotes.{text};
 ghost use Rattle.journal_text.specs.Journals as journals;
+ghost use Rattle.journal_text.specs.Queues.{queues};
 
+use crate::queues::{push_queues, queues_at};
 use drmaa_model::Config;
+use drmaa_types::{Text, are_queues};
 use std::alloc::{AllocError, Global};
 use text_codec::{Cursor, Unread};
 use text_words::PrintForm;
+
+/// Slots, a name, and whether jobs can be suspended.
+type Machine = (u32, (Text, bool));
 
 /// Whether jobs can be suspended: both answers.
 pub const SUSPENDS: [bool; 2] = [true, false];
@@ -44,7 +50,7 @@ fn suspend_at(cursor: &mut Cursor) -> Result<bool, Unread>
     }
 }
 
-/// Whether a machine of a journal may be so.
+/// Whether a machine of a journal may be so, its queues apart.
 fn is_machine(config: &Config) -> bool
     ensures { result ≡ journals.is_machine (journals.machine_of config.now) }
 {
@@ -52,24 +58,43 @@ fn is_machine(config: &Config) -> bool
     1 <= config.slots && config.slots <= 65535 && 1 <= name.len() && name.len() <= 255
 }
 
-/// Reads the first line.
-#[tactic(auto, unfolding(crate::specs::Journals::header, crate::specs::Journals::title, text_codec::specs::Formats::checked, text_codec::specs::Formats::behind, text_codec::specs::Formats::pair))]
-fn header_at(cursor: &mut Cursor) -> Result<Config, Unread>
-    ensures { Answers journals.header.read cursor.old result cursor.new }
+/// Whether a machine of a journal may be so, with its queues.
+fn is_title(config: &Config) -> bool
+    ensures { result ≡ journals.is_title (journals.title_of config.now) }
 {
-    cursor.expect(b"drmaa-journal 1 ")?;
+    is_machine(config) && are_queues(config.slots, &config.queues)
+}
+
+/// Reads a machine without its queues.
+#[tactic(auto, unfolding(crate::specs::Journals::machine, text_codec::specs::Formats::pair))]
+fn machine_at(cursor: &mut Cursor) -> Result<Machine, Unread>
+    ensures { Answers journals.machine.read cursor.old result cursor.new }
+{
     let slots = cursor.u32()?;
     cursor.expect(b" ")?;
     let name = cursor.text()?;
     cursor.expect(b" ")?;
     let suspend = suspend_at(cursor)?;
+    Ok((slots, (name, suspend)))
+}
+
+/// Reads the first line.
+#[tactic(auto, unfolding(crate::specs::Journals::header, crate::specs::Journals::title, text_codec::specs::Formats::checked, text_codec::specs::Formats::behind, text_codec::specs::Formats::pair))]
+fn header_at(cursor: &mut Cursor) -> Result<Config, Unread>
+    ensures { Answers journals.header.read cursor.old result cursor.new }
+{
+    cursor.expect(b"drmaa-journal 2 ")?;
+    let (slots, (name, suspend)) = machine_at(cursor)?;
+    cursor.expect(b" ")?;
+    let queues = queues_at(cursor)?;
     let config = Config {
         slots,
         name,
         suspend,
         journal: JOURNAL_SIZE,
+        queues,
     };
-    if is_machine(&config) {
+    if is_title(&config) {
         Ok(config)
     } else {
         Err(Unread::Unspelled)
@@ -106,33 +131,44 @@ fn push_name(out: &mut Vec<u8>, config: &Config) -> Result<(), AllocError>
     push_suspend(out, config.suspend)
 }
 
-/// Prints the machine: its slots, its name, and whether jobs can be suspended.
-#[tactic(auto, unfolding(text_codec::specs::Formats::pair))]
+/// Prints the machine without its queues.
+#[tactic(auto, unfolding(crate::specs::Journals::machine, text_codec::specs::Formats::pair))]
 fn push_machine(out: &mut Vec<u8>, config: &Config) -> Result<(), AllocError>
-    ensures text { OnOk result (out.new.items ≡ out.old.items ++ (pair (number (2 ^ 32)) (pair text journals.suspend)).spell (journals.machine_of config.now)) }
-    ensures valid { OnOk result ((pair (number (2 ^ 32)) (pair text journals.suspend)).valid (journals.machine_of config.now)) }
+    ensures text { OnOk result (out.new.items ≡ out.old.items ++ journals.machine.spell (journals.machine_of config.now)) }
+    ensures valid { OnOk result (journals.machine.valid (journals.machine_of config.now)) }
 {
     config.slots.push(out)?;
     out.extend_from_slice(b" ")?;
     push_name(out, config)
 }
 
-/// Prints the version and the machine of the first line.
+/// Prints the machine, and its queues.
+#[tactic(auto, unfolding(text_codec::specs::Formats::pair))]
+fn push_parts(out: &mut Vec<u8>, config: &Config) -> Result<(), AllocError>
+    ensures text { OnOk result (out.new.items ≡ out.old.items ++ (pair journals.machine queues).spell (journals.title_of config.now)) }
+    ensures valid { OnOk result ((pair journals.machine queues).valid (journals.title_of config.now)) }
+{
+    push_machine(out, config)?;
+    out.extend_from_slice(b" ")?;
+    push_queues(out, &config.queues)
+}
+
+/// Prints the version, the machine and its queues.
 #[tactic(auto, unfolding(crate::specs::Journals::title, text_codec::specs::Formats::checked, text_codec::specs::Formats::behind))]
 fn push_title(out: &mut Vec<u8>, config: &Config) -> Result<(), AllocError>
-    ensures text { OnOk result (out.new.items ≡ out.old.items ++ journals.title.spell (journals.machine_of config.now)) }
-    ensures valid { journals.is_machine (journals.machine_of config.now) ≡ true → OnOk result (journals.title.valid (journals.machine_of config.now)) }
-    ensures clean { OnOk result (IsClean (journals.title.spell (journals.machine_of config.now))) }
+    ensures text { OnOk result (out.new.items ≡ out.old.items ++ journals.title.spell (journals.title_of config.now)) }
+    ensures valid { journals.is_title (journals.title_of config.now) ≡ true → OnOk result (journals.title.valid (journals.title_of config.now)) }
+    ensures clean { OnOk result (IsClean (journals.title.spell (journals.title_of config.now))) }
 {
-    out.extend_from_slice(b"drmaa-journal 1 ")?;
-    push_machine(out, config)
+    out.extend_from_slice(b"drmaa-journal 2 ")?;
+    push_parts(out, config)
 }
 
 /// Prints the first line.
 #[tactic(auto, unfolding(crate::specs::Journals::header))]
 pub(crate) fn push_header(out: &mut Vec<u8>, config: &Config) -> Result<(), AllocError>
     ensures text { OnOk result (out.new.items ≡ out.old.items ++ (journals.header.spell config.now ++ 10 ∷ [])) }
-    ensures valid { journals.is_machine (journals.machine_of config.now) ≡ true → OnOk result (journals.title.valid (journals.machine_of config.now)) }
+    ensures valid { journals.is_title (journals.title_of config.now) ≡ true → OnOk result (journals.title.valid (journals.title_of config.now)) }
     ensures clean { OnOk result (IsClean (journals.header.spell config.now)) }
 {
     push_title(out, config)?;

@@ -192,11 +192,11 @@ name-at at p job row found =
 
 -- what is told of facts is the info of their row
 pub facts-info : (w : World) (row : Row) (facts : RowFacts) (name : Option (List ℕ)) (moment : ℕ) → facts ≡ row_facts row → name ≡ row.template.job_name → moment ≡ w.plan.moment
-    → told_of facts (home_name w.sessions facts.home) name moment ≡ info w row
+    → told_of w.plan.queues facts (home_name w.sessions facts.home) name moment ≡ info w row
 facts-info w row facts name moment is name_is moment_is =
-    ap (λ n. told_of facts (home_name w.sessions facts.home) n moment) name_is
-    ∙ ap (λ m. told_of facts (home_name w.sessions facts.home) row.template.job_name m) moment_is
-    ∙ ap (λ (f : RowFacts). told_of f (home_name w.sessions f.home) row.template.job_name w.plan.moment) is
+    ap (λ n. told_of w.plan.queues facts (home_name w.sessions facts.home) n moment) name_is
+    ∙ ap (λ m. told_of w.plan.queues facts (home_name w.sessions facts.home) row.template.job_name m) moment_is
+    ∙ ap (λ (f : RowFacts). told_of w.plan.queues f (home_name w.sessions f.home) row.template.job_name w.plan.moment) is
 
 -- ---- as they are now
 

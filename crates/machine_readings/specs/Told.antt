@@ -3,8 +3,9 @@ use Rattle.std.specs.Prelude.{ℕ, List, Option}
 use Rattle.std.specs.Option.{option_and_then}
 use Rattle.drmaa_types.specs.declared.identifiers.JobId.{JobId}
 use Rattle.drmaa_types.specs.declared.infos.JobInfo.{JobInfo}
+use Rattle.drmaa_types.specs.declared.queues.QueueSpec.{QueueSpec}
 use Rattle.drmaa_model.specs.declared.rows.Row.{Row}
-use Rattle.drmaa_model.specs.Infos.{default_queue}
+use Rattle.drmaa_model.specs.Infos.{queue_name}
 use Rattle.drmaa_model.specs.Rows.{row_of}
 use Rattle.scheduler_core.specs.declared.facts.RowFacts.{RowFacts}
 use Rattle.machine_readings.specs.Clocks.{clock_of}
@@ -13,9 +14,9 @@ use Rattle.machine_readings.specs.Clocks.{clock_of}
 abbrev pub name_in : JobId → List Row → Option (List ℕ)
 name_in job rows = option_and_then (λ (row : Row). row.template.job_name) (row_of job rows)
 
--- with the name of its session and its own, at a moment
-abbrev pub told_of : RowFacts → Option (List ℕ) → Option (List ℕ) → ℕ → JobInfo
-told_of facts session name moment = record {
+-- on a machine with these queues, with the name of its session and its own, at a moment
+abbrev pub told_of : List QueueSpec → RowFacts → Option (List ℕ) → Option (List ℕ) → ℕ → JobInfo
+told_of queues facts session name moment = record {
   job = facts.job;
   session = session;
   name = name;
@@ -23,7 +24,7 @@ told_of facts session name moment = record {
   index = facts.index;
   state = facts.state;
   slots = facts.last_slots;
-  queue = default_queue;
+  queue = queue_name queues facts.queue;
   wallclock = clock_of moment facts.state facts.finished facts.dispatched;
   submitted = facts.submitted;
   dispatched = facts.dispatched;

@@ -3,7 +3,7 @@ ghost use Rattle.std.specs.Prelude.{◌≡◌, false, max, Some, IfOk};
 ghost use Rattle.std.specs.Option.{option_map, option_map_or};
 ghost use Rattle.drmaa_types.specs.Filters.{matches};
 ghost use Rattle.drmaa_model.specs.declared.rows.Row.{Row};
-ghost use Rattle.drmaa_model.specs.Infos.{default_queue, home_name, info, machine_info};
+ghost use Rattle.drmaa_model.specs.Infos.{home_name, info, machine_info};
 ghost use Rattle.drmaa_model.specs.Rows.{row_of};
 ghost use Rattle.drmaa_model.specs.Time.{rows_at};
 ghost use Rattle.scheduler_core.specs.Facts.{row_facts};
@@ -15,7 +15,7 @@ use crate::store::Store;
 use drmaa_types::{JobFilter, JobId, JobInfo, MachineInfo, Moment, Text};
 use plan_book::states::is_waiting;
 use scheduler_core::RowFacts;
-use std::alloc::{AllocError, Global};
+use std::alloc::AllocError;
 
 impl Store {
     /// What is told of a job, if it is kept.
@@ -39,11 +39,11 @@ impl Store {
 
     /// What is told of a kept job at a moment, by its facts.
     pub fn told_at(&self, moment: Moment, facts: &RowFacts) -> Result<JobInfo, AllocError>
-        ensures { IfOk result (λ i. i ≡ told_of facts.now (home_name self.now.sessions facts.now.home) (name_in facts.now.job self.now.core.plan.rows) moment) }
+        ensures { IfOk result (λ i. i ≡ told_of self.now.core.plan.queues facts.now (home_name self.now.sessions facts.now.home) (name_in facts.now.job self.now.core.plan.rows) moment) }
     {
         let session = self.home_name(facts.home)?;
         let name = self.job_name(facts.job)?;
-        let queue = default_queue(self.alloc)?;
+        let queue = self.queue_name(facts.queue)?;
         Ok(JobInfo {
             job: facts.job,
             session,
@@ -133,13 +133,6 @@ fn lets_through(filter: &JobFilter, info: &Option<JobInfo>) -> bool
         Some(info) => filter.matches(info),
         None => false,
     }
-}
-
-/// The name of the one queue of this profile.
-pub fn default_queue(alloc: Global) -> Result<Text, AllocError>
-    ensures { IfOk result (λ name. name ≡ default_queue) }
-{
-    Ok(Text::from_string(String::from_str(alloc, "default")?))
 }
 
 /// The seconds since the last launch, as they stand then.

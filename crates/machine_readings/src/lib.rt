@@ -6,6 +6,7 @@ mod homes;
 mod infos;
 mod listings;
 mod present;
+mod queues;
 mod replies;
 mod reservations;
 mod rows;
@@ -13,7 +14,6 @@ mod sessions;
 mod store;
 mod waits;
 
-pub use infos::default_queue;
 pub use listings::copied;
 pub use store::Store;
 pub use waits::is_timed_out;

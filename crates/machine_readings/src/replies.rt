@@ -1,20 +1,18 @@
 //! The replies to the calls that only read.
-ghost use Rattle.std.specs.Prelude.{◌≡◌, [], ◌∷◌, true, IfOk};
+ghost use Rattle.std.specs.Prelude.{◌≡◌, true, IfOk};
 ghost use Rattle.std.specs.Option.{option_map_or};
 ghost use Rattle.session_table.specs.Sessions.{names_of};
 ghost use Rattle.drmaa_model.specs.Effects.{reservation_reply};
-ghost use Rattle.drmaa_model.specs.Infos.{default_queue};
 ghost use Rattle.drmaa_model.specs.Rows.{state_of};
 ghost use Rattle.drmaa_model.specs.Time.{rows_at};
 ghost use Rattle.machine_readings.specs.Stores.{IsKept, world_at};
 ghost use Rattle.machine_readings.specs.Telling.{IsReply, is_other, is_reading};
 
-use crate::infos::default_queue;
 use crate::store::Store;
 use drmaa_model::{Call, Reply, Target};
 use drmaa_types::{
     ArrayId, Boxed, JobFilter, JobId, JobInfo, JobState, Moment, ReservationId, SessionId,
-    SessionKind, TextList,
+    SessionKind,
 };
 use std::alloc::{AllocError, Global};
 
@@ -179,16 +177,8 @@ impl Store {
     {
         match self.monitoring_refusal(at, session) {
             Some(why) => Ok(Reply::Refused(why)),
-            None => Ok(Reply::Names(self.queues()?)),
+            None => Ok(Reply::Names(self.queue_names()?)),
         }
-    }
-
-    fn queues(&self) -> Result<TextList, AllocError>
-        ensures { IfOk result (λ names. names ≡ default_queue ∷ []) }
-    {
-        let mut names = Vec::new(self.alloc);
-        names.push(default_queue(self.alloc)?)?;
-        Ok(TextList::from_vec(names))
     }
 
     fn all_machines(&self, at: Moment, session: SessionId) -> Result<Reply, AllocError>

@@ -1,7 +1,8 @@
 -- The worlds of the histories of arrays and waits.
-use Rattle.std.specs.Prelude.{ℕ, List, [], ◌∷◌, codes, Some}
+use Rattle.std.specs.Prelude.{ℕ, List, [], ◌∷◌, codes, Some, None}
 use Rattle.job_template.specs.declared.templates.JobTemplate.{JobTemplate}
-use Rattle.drmaa_types.specs.declared.states.JobState.TheVariants.{Queued, Running, Done}
+use Rattle.drmaa_types.specs.declared.states.JobState.TheVariants.{Queued, Running, Done, Failed}
+use Rattle.drmaa_types.specs.declared.states.Note.TheVariants as note
 use Rattle.drmaa_model.specs.declared.courses.Course.{Course}
 use Rattle.drmaa_model.specs.declared.rows.Row.{Row}
 use Rattle.drmaa_model.specs.Courses.{wants_of}
@@ -10,7 +11,28 @@ use Rattle.drmaa_model.specs.World.{World}
 use Rattle.model_rows.specs.Machines.{plain, array}
 use Rattle.model_rows.proofs.Worlds.{row, queued, launching, done, change, empty_plan, world}
 
--- ---- an array
+-- ---- an array that is terminated as a whole
+
+abbrev plain_member : ℕ → Course → Row
+plain_member number course = record (row number plain course) { wants = wants_of [] plain (record { array = Some (array 1); index = Some number; bound = None }) }
+
+abbrev three_alike : Course → Plan
+three_alike course = record empty_plan { rows = plain_member 1 course ∷ plain_member 2 course ∷ plain_member 3 course ∷ []; next_job = 4; next_array = 2 }
+
+abbrev terminated : Plan
+terminated = record (three_alike (record queued { state = Failed; finished = Some 0; note = note.Terminated })) {
+  changes = change 5 1 Queued Failed ∷ change 5 2 Queued Failed ∷ change 5 3 Queued Failed ∷ [];
+}
+
+abbrev reaped : Plan
+reaped = record terminated { rows = [] }
+
+abbrev pub wholly : List World
+wholly =
+    world 1 empty_plan ∷ world 2 empty_plan ∷ world 3 empty_plan ∷ world 4 (three_alike queued) ∷ world 5 terminated ∷ world 6 terminated ∷
+    world 7 reaped ∷ world 8 reaped ∷ []
+
+-- ---- an array that runs
 
 abbrev told : List ℕ → JobTemplate
 told index = record plain { args = index ∷ [] }
@@ -18,7 +40,7 @@ told index = record plain { args = index ∷ [] }
 -- a member by its number, its index and that in decimal
 abbrev member_row : ℕ → ℕ → List ℕ → Course → Row
 member_row number index digits course =
-    record (row number (told digits) course) { wants = wants_of (told digits) (record { array = Some (array 1); index = Some index; bound = Some 2 }) }
+    record (row number (told digits) course) { wants = wants_of [] (told digits) (record { array = Some (array 1); index = Some index; bound = Some 2 }) }
 
 abbrev members : Course → Course → Course → Plan
 members first second third = record empty_plan {

@@ -1,7 +1,9 @@
 pub mod ArrayWorlds
 pub mod ControlWorlds
+pub mod EventWorlds
 pub mod JobWorlds
 pub mod MonitoringWorlds
+pub mod QueueWorlds
 pub mod ReservationWorlds
 pub mod Walks
 pub mod Worlds

@@ -37,11 +37,11 @@ number_m = record { number = 3; kind = kind.Monitoring; home = None }
 abbrev two_sessions : Sessions
 two_sessions = record { named = named_s ∷ named_q ∷ []; valid = number_s ∷ number_q 2 ∷ []; next_session = 3; next_home = 3 }
 
-abbrev both : ℕ → Plan → World
+abbrev pub both : ℕ → Plan → World
 both entries plan = record (world entries plan) { sessions = two_sessions }
 
 -- all four slots
-abbrev accepted : ℕ → ℕ → Accepted
+abbrev pub accepted : ℕ → ℕ → Accepted
 accepted from until = record { reservation = reservation 1; home = Some 2; name = None; slots = 4; from = from; until = until }
 
 -- ---- a job that is in the way

@@ -23,7 +23,7 @@ use Rattle.model_rows.specs.Machines.{node, job}
 
 -- a job of the first session, submitted at 0
 abbrev pub row : ℕ → JobTemplate → Course → Row
-row number t course = record { job = job number; home = Some 1; template = t; wants = wants_of t alone; submitted = 0; course = course }
+row number t course = record { job = job number; home = Some 1; template = t; wants = wants_of [] t alone; submitted = 0; course = course }
 
 -- before its launch
 abbrev pub queued : Course
@@ -80,6 +80,7 @@ one_session = record {
 abbrev pub empty_plan : Plan
 empty_plan = record {
   total = 4;
+  queues = [];
   moment = 0;
   rows = [];
   reservations = [];

@@ -19,9 +19,9 @@ use Rattle.drmaa_model.specs.declared.entries.Entry.{Entry}
 use Rattle.drmaa_model.specs.declared.replies.Reply.{Reply}
 use Rattle.drmaa_model.specs.declared.replies.Reply.TheVariants as reply
 
--- four slots, named node1, on which jobs can be suspended
+-- four slots, named node1, on which jobs can be suspended, without queues
 abbrev pub node : Config
-node = record { slots = 4; name = codes "node1"; suspend = true; journal = 4_000_000 }
+node = record { slots = 4; name = codes "node1"; suspend = true; journal = 4_000_000; queues = [] }
 
 -- an entry: who called, at which moment, what, and the reply
 abbrev pub entry : ℕ → ℕ → Call → Reply → Entry

@@ -68,7 +68,7 @@ impl MonitoringSession {
         desk.ask_for::<R, ReservationList>(rt, Call::AllReservations { session })
     }
 
-    /// The names of the queues (GFD.231, MonitoringSession::getAllQueues). There is one: `default`.
+    /// The names of the queues, in order (GFD.231, MonitoringSession::getAllQueues), and `default` alone where the machine has none.
     ///
     /// # Errors
     ///

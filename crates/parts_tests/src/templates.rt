@@ -1,5 +1,10 @@
-//! The most text that a template may have, and what no script can say of one.
-use drmaa_types::{AttributeList, Limit, Moment, Refusal, Text, TextList, Which};
+//! The most text that a template may have, what no script can say of one, and the queue that it names.
+ghost use Rattle.std.specs.Prelude.{◌≤◌, length};
+
+use drmaa_types::{
+    AttributeList, Limit, Moment, QueueList, QueueSpec, Refusal, ReservationId, Text, TextList,
+    Which,
+};
 use job_template::{
     JobTemplate, LimitList, PairList, ReservationTemplate, ResourceLimit, text_length,
     validate_job, validate_reservation,
@@ -44,15 +49,22 @@ fn job(alloc: Global, command: Text, input: Text, limits: LimitList) -> JobTempl
     }
 }
 
-/// Whether the template's text is so long, and this is refused of it on so many slots.
+/// What is refused of a template on so many slots, with these queues.
+fn refused(template: &JobTemplate, slots: u32, queues: &QueueList) -> Option<Refusal>
+    requires few { length queues.now ≤ 16 }
+{
+    validate_job(template, slots, queues, Moment::greatest()).err()
+}
+
+/// Whether the template's text is so long, and this is refused of it on so many slots, without queues.
 fn is_said(
+    alloc: Global,
     template: &JobTemplate,
     slots: u32,
     length: Option<u32>,
     wanted: Option<Refusal>,
 ) -> bool {
-    text_length(template) == length
-        && validate_job(template, slots, Moment::greatest()).err() == wanted
+    text_length(template) == length && refused(template, slots, &QueueList::new(alloc)) == wanted
 }
 
 const LONG: Option<Refusal> = Some(Refusal::OutOfResource(Limit::TemplateText));
@@ -83,7 +95,7 @@ fn has_length(
     let command = letters(alloc, texts.0);
     let input = letters(alloc, texts.1);
     let template = job(alloc, command, input, LimitList::new(alloc));
-    is_said(&template, slots, length, wanted)
+    is_said(alloc, &template, slots, length, wanted)
 }
 
 #[test]
@@ -112,7 +124,7 @@ fn a_limit_has_its_name_in_capitals(rt: HostRuntime) -> Result<(), Fail> {
         letters(rt.alloc(), 1),
         limits,
     );
-    assert!(rt; is_said(&template, 4, Some(22), BAD_LIMITS));
+    assert!(rt; is_said(rt.alloc(), &template, 4, Some(22), BAD_LIMITS));
     Ok(())
 }
 
@@ -145,4 +157,71 @@ fn a_name_has_at_most_65_535_bytes(rt: HostRuntime) {
     for (count, wanted) in &NAMES {
         assert!(rt; refused_name(rt.alloc(), *count) == *wanted);
     }
+}
+
+/// A queue of this name and limit.
+fn queue(alloc: Global, name: &str, limit: u32) -> Result<QueueSpec, AllocError> {
+    let name = Text::from_string(String::from_str(alloc, name)?);
+    Ok(QueueSpec { name, limit })
+}
+
+/// A queue of one slot, and one of three.
+fn short_and_long(alloc: Global) -> Result<QueueList, AllocError> {
+    let short = queue(alloc, "short", 1)?;
+    let long = queue(alloc, "long", 3)?;
+    Ok(QueueList::from_vec(vec![in alloc; short, long]?))
+}
+
+/// A template that names a queue, a least number of slots and a reservation, where they are set.
+fn queued(
+    alloc: Global,
+    name: Option<&str>,
+    least: Option<u32>,
+    reserved: bool,
+) -> Result<JobTemplate, AllocError> {
+    let limits = LimitList::new(alloc);
+    let mut template = job(alloc, letters(alloc, 4), letters(alloc, 1), limits);
+    if let Some(name) = name {
+        template.queue_name = Some(Text::from_string(String::from_str(alloc, name)?));
+    }
+    if reserved {
+        template.reservation_id = Some(ReservationId(1));
+    }
+    template.min_slots = least;
+    Ok(template)
+}
+
+const BAD_QUEUE: Option<Refusal> = Some(Refusal::InvalidArgument(Which::QueueName));
+
+/// The queue that a job names, its least number of slots, whether it names a reservation, and what is refused.
+type QueueRow = (Option<&'static str>, Option<u32>, bool, Option<Refusal>);
+
+/// On a machine with four slots and these two queues. No queue bounds a job that names a reservation.
+const QUEUES: [QueueRow; 15] = [
+    (None, None, false, None),
+    (None, Some(2), false, BAD_SLOTS),
+    (None, Some(2), true, None),
+    (Some("short"), Some(1), false, None),
+    (Some("short"), Some(2), false, BAD_SLOTS),
+    (Some("short"), Some(2), true, None),
+    (Some("long"), Some(3), false, None),
+    (Some("long"), Some(4), false, BAD_SLOTS),
+    (Some("long"), Some(4), true, None),
+    (Some("long"), Some(5), true, BAD_SLOTS),
+    (Some("long"), Some(0), true, BAD_SLOTS),
+    (Some("x"), None, false, BAD_QUEUE),
+    (Some("x"), Some(0), false, BAD_QUEUE),
+    (Some("x"), Some(2), true, BAD_QUEUE),
+    (Some(""), None, false, BAD_QUEUE),
+];
+
+#[test]
+fn a_queue_bounds_the_least_slots(rt: HostRuntime) -> Result<(), Fail> {
+    let queues = short_and_long(rt.alloc())?;
+    assert!(rt; queues.as_slice().len() == 2);
+    for (name, least, reserved, wanted) in &QUEUES {
+        let template = queued(rt.alloc(), *name, *least, *reserved)?;
+        assert!(rt; refused(&template, 4, &queues) == *wanted);
+    }
+    Ok(())
 }

@@ -1,5 +1,6 @@
 -- How a book is read: the plan that it keeps, and the room that it has.
 use Rattle.std.specs.Prelude.{◌≡◌, ℕ, max, filter, ◌+◌, ◌-◌, ◌<◌, ◌≤◌, ◌&&◌, ◌==◌, not, true, false, Bool, List, ◌++◌, Option, Some, None, length, vec_len, vec_capacity, if◌then◌else◌}
+use Rattle.drmaa_types.specs.Queues.{most_queues}
 use Rattle.drmaa_types.specs.States.{is_state}
 use Rattle.drmaa_types.specs.declared.identifiers.JobId.{JobId}
 use Rattle.drmaa_types.specs.declared.states.SignalKind.{SignalKind}
@@ -31,6 +32,7 @@ use Rattle.plan_book.specs.declared.moves.Edit.TheVariants.{Keep, Ask, Clear, Ta
 abbrev pub plan_of : Book → Plan
 plan_of b = record {
   total = b.total;
+  queues = b.queues;
   moment = b.moment;
   rows = b.rows.items;
   reservations = b.reservations.items;
@@ -65,11 +67,16 @@ HasPlace b = vec_len b.reservations < vec_capacity b.reservations
 abbrev pub spare : Book → ℕ
 spare b = vec_capacity b.changes - (vec_len b.changes + owed b.rows.items)
 
+-- a machine has at most so many queues
+abbrev pub HasFewQueues : Plan → Type 0
+HasFewQueues p = length p.queues ≤ most_queues
+
 -- what every book keeps
 pub record IsKept (b : Book) : Type 0 where
   pub room : HasRoom b
   pub fit : IsFit (plan_of b)
   pub light : weight (plan_of b) ≤ 4_000_000
+  pub queues : HasFewQueues (plan_of b)
   pub tied : IsTied b.calendar (plan_of b)
 
 -- the order is of this kind and for this job, and was handed out or was not

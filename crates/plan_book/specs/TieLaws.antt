@@ -18,7 +18,7 @@ use Rattle.drmaa_model.specs.declared.reservations.Accepted.{Accepted}
 use Rattle.drmaa_model.specs.declared.rows.Row.{Row}
 use Rattle.drmaa_model.specs.Fit.{IsRising, reservation_number, IsSound, IsFit, launched_at}
 use Rattle.drmaa_model.specs.FitLaws.{Eases, kept-advance, expire-fit, eases-lapsed, eases-called}
-use Rattle.drmaa_model.specs.Load.{ends_after, is_using, uses_at, booked, used, load, fits, in_array, in_reservation, holds_in, held_inside, is_member, names}
+use Rattle.drmaa_model.specs.Load.{ends_after, is_using, uses_at, booked, used, load, fits, in_array, in_reservation, holds_in, held_inside, is_member, names, in_queue, held_in_queue, is_in_queue}
 use Rattle.drmaa_model.specs.MomentLaws.{fits-at, fits-from, ends-before, before-ends, before-greatest}
 use Rattle.drmaa_model.specs.Plan.{Plan}
 use Rattle.drmaa_model.specs.Requests.{with_reservation, without_reservation, is_other}
@@ -341,6 +341,12 @@ pub inside-few : (number : ReservationId) (p : Plan) → IsFit p → in_reservat
 inside-few number p fit =
     let under = sum-le (held_inside number) (λ (r : Row). r.course.held) p.rows
     (all-implied (λ (r : Row). IsSound r.wants r.course) (λ (r : Row). held_inside number r ≤ r.course.held) (λ r s. inside-holds (names number r) r.course.held) p.rows fit.sound) in
+    let within = fit.within in omega arith
+
+pub queue-few : (place : ℕ) (p : Plan) → IsFit p → in_queue place p.rows ≤ p.total
+queue-few place p fit =
+    let under = sum-le (held_in_queue place) (λ (r : Row). r.course.held) p.rows
+    (all-implied (λ (r : Row). IsSound r.wants r.course) (λ (r : Row). held_in_queue place r ≤ r.course.held) (λ r s. inside-holds (is_in_queue place r) r.course.held) p.rows fit.sound) in
     let within = fit.within in omega arith
 
 -- rows that ease leave the calendar agreed

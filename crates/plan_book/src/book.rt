@@ -1,6 +1,7 @@
 //! The plan as it is kept, and what is read of it.
-ghost use Rattle.std.specs.Prelude.{◌≡◌, ◌≤◌, max, filter, OnOk, IfErr};
+ghost use Rattle.std.specs.Prelude.{◌≡◌, ◌≤◌, length, max, filter, OnOk, IfErr};
 ghost use Rattle.std.specs.Option.{option_copied, option_map};
+ghost use Rattle.drmaa_types.specs.Queues.{most_queues};
 ghost use Rattle.drmaa_model.specs.Order.{held};
 ghost use Rattle.drmaa_model.specs.Plan.{opening_plan};
 ghost use Rattle.drmaa_model.specs.Rows.{row_of};
@@ -16,7 +17,7 @@ use crate::reservations::{is_lasting, reservation_of};
 use crate::rows::Facts;
 use crate::time::course_at;
 use drmaa_model::{Accepted, Course, Order, Row};
-use drmaa_types::{Change, JobId, Moment, Refusal, ReservationId};
+use drmaa_types::{Change, JobId, Moment, QueueList, Refusal, ReservationId};
 use reservation_calendar::Calendar;
 use std::alloc::Global;
 
@@ -24,6 +25,7 @@ use std::alloc::Global;
 #[derive(Drop)]
 pub struct Book {
     pub total: u32,
+    pub queues: QueueList,
     pub moment: Moment,
     pub rows: Rows,
     pub reservations: Vec<Accepted>,
@@ -37,13 +39,15 @@ pub struct Book {
 }
 
 impl Book {
-    /// No jobs; it takes no memory.
-    pub fn new(alloc: Global, slots: u32) -> Book
-        ensures plan { plan_of result ≡ opening_plan slots }
+    /// No jobs, on a machine with so many slots and with these queues; it takes no memory.
+    pub fn new(alloc: Global, slots: u32, queues: QueueList) -> Book
+        requires few { length queues ≤ most_queues }
+        ensures plan { plan_of result ≡ opening_plan slots queues }
         ensures kept { IsKept result }
     {
         Book {
             total: slots,
+            queues,
             moment: opening_moment(),
             rows: Rows::new(alloc),
             reservations: Vec::new(alloc),
@@ -101,6 +105,15 @@ impl Book {
             None => None,
             Some(row) => Some(facts_then(&self.reservations, row, moment)),
         }
+    }
+
+    /// The machine's queues.
+    pub fn queues(&self) -> &QueueList
+        requires kept { IsKept self.now }
+        ensures queues { result.now ≡ (plan_of self.now).queues }
+        ensures few { length result.now ≤ most_queues }
+    {
+        &self.queues
     }
 
     /// The machine's slots.

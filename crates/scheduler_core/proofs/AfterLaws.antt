@@ -1,12 +1,12 @@
 -- Laws of the first moment after another.
-use Rattle.std.proofs.Common.{◌≡◌, ℕ, suc, ◌+◌, ◌-◌, ◌<◌, ◌≤◌, ◌==◌, Bool, true, false, cond, eqb, ltb, ◌&&◌, ◌||◌, ◌⊎◌, inl, inr, List, [], ◌∷◌, ◌++◌, length, take, get_or, Option, Some, None, refl, sym, ◌∙◌, ap, subst, arith}
+use Rattle.std.proofs.Common.{◌≡◌, ℕ, suc, ◌+◌, ◌-◌, ◌<◌, ◌≤◌, ◌==◌, Bool, true, false, cond, ltb, ◌||◌, inl, inr, List, [], ◌∷◌, ◌++◌, length, take, get_or, Option, Some, None, refl, sym, ◌∙◌, ap, arith}
 use Rattle.std.specs.Prelude.{min}
 use Rattle.std.proofs.Math.Seq.{take-suc}
 use Rattle.std.specs.List.{list_any}
-use Rattle.std.proofs.lemmas.Bool.{cases_lt, cases_eq, or_cases, or_parts, or_from, or_left, or_right, eqb-true, eq-eqb, ne_eqb, lt-ltb, le-ltb, false≢true, false_from_ne_true}
+use Rattle.std.proofs.lemmas.Bool.{cases_lt, or_from, or_left, or_right, eq-eqb, ne_eqb, lt-ltb, le-ltb}
 use Rattle.drmaa_types.specs.Moments.{greatest}
 use Rattle.drmaa_model.specs.Load.{first_from}
-use Rattle.drmaa_model.specs.MomentLaws.{IsFirst, first-none, first-some, none-first, some-first, first_from-same}
+use Rattle.drmaa_model.specs.MomentLaws.{first-none, first-some, none-first, some-first, first_from-same}
 use Rattle.drmaa_model.specs.Events.{first_after}
 use Rattle.scheduler_core.specs.Afters.{earlier}
 

@@ -10,7 +10,9 @@ use Rattle.drmaa_model.specs.Rows.{row_of}
 use Rattle.drmaa_model.specs.Courses.{planned_end, launched}
 use Rattle.drmaa_model.specs.ReadyLaws.{ready-same, seen-advance, slots_for-same, not-late, planned-ahead}
 use Rattle.drmaa_model.specs.MomentLaws.{greatest-is}
-use Rattle.drmaa_model.specs.Load.{ends_after, fits, covers, in_reservation, reservation_of, load}
+use Rattle.drmaa_model.specs.Load.{ends_after, fits, covers, in_reservation, in_queue, reservation_of, load}
+use Rattle.drmaa_types.specs.Queues.{queue_at}
+use Rattle.drmaa_types.specs.declared.queues.QueueSpec.{QueueSpec}
 use Rattle.drmaa_types.specs.States.{is_waiting, is_started, is_state}
 use Rattle.drmaa_types.specs.declared.states.JobState.{JobState}
 use Rattle.drmaa_types.specs.declared.states.JobState.TheVariants.{Running}
@@ -22,7 +24,7 @@ use Rattle.plan_book.specs.declared.moves.Booked.TheVariants.{Same, Books}
 use Rattle.plan_book.specs.Ties.{IsTied, MayMake, IsBeside, KeepsTie, booking_of}
 use Rattle.std.proofs.Common.{◌≡◌, ℕ, ◌+◌, ◌-◌, ◌≤◌, Bool, true, false, cond, ◌&&◌, min, max, List, [], ◌∷◌, map, filter, Option, Some, None, refl, sym, ◌∙◌, ap, subst, arith, leb, not, length}
 use Rattle.std.specs.Prelude.{int_lt, Ok, IfSome, is_some}
-use Rattle.std.specs.Option.{option_map, option_map_or}
+use Rattle.std.specs.Option.{option_and_then, option_map, option_map_or}
 use Rattle.std.specs.List.{AllByRecursion}
 use Rattle.std.proofs.lemmas.Bool.Decides.{nat_tests}
 use Rattle.drmaa_model.specs.declared.replies.Launch.{Launch}
@@ -33,7 +35,7 @@ use Rattle.drmaa_model.specs.Operation.{Outcome, outcome}
 use Rattle.drmaa_model.specs.Launching.{launch, launch_of}
 use Rattle.drmaa_model.specs.OperationLaws.{outcome-served, outcome-fit}
 use Rattle.drmaa_model.specs.LaunchFit.{launch-effect, launch-keeps}
-use Rattle.drmaa_model.specs.Order.{held, is_ready, may_come, has_slots, slots_for, better, first_in_order, next_launch, has_slots_in, has_turn, is_queued, is_reached}
+use Rattle.drmaa_model.specs.Order.{held, is_ready, may_come, has_slots, slots_for, better, first_in_order, next_launch, has_room_in, has_slots_in, has_turn, is_queued, is_reached}
 use Rattle.drmaa_model.specs.OrderLaws.{IsNextLaunch, next_launch-is, ready-parts, ready-from, queued-may_launch}
 use Rattle.drmaa_model.specs.Plan.{Plan}
 use Rattle.drmaa_model.specs.RowLaws.{row_of-all}
@@ -42,7 +44,7 @@ use Rattle.drmaa_model.specs.TimeLaws.{timed, map-twice, lapsed-cases, called-ca
 use Rattle.scheduler_core.specs.declared.launches.Next.{Next}
 use Rattle.plan_book.specs.declared.moves.Move.{Move}
 use Rattle.plan_book.specs.Book.{IsMove, moved, grows, owes}
-use Rattle.scheduler_core.specs.Launches.{may_launch, launch-move, IsLaunchOf, IsNext, IsNextIn, MayMakeNext, seen, seen_row, turn_of, slots_of, IsMost, launch_booking}
+use Rattle.scheduler_core.specs.Launches.{may_launch, launch-move, IsLaunchOf, IsNext, IsNextIn, MayMakeNext, seen, seen_row, turn_of, room_of, free_of, slots_of, queue_left, capped, IsMost, launch_booking}
 use Rattle.scheduler_core.proofs.Priorities.{first_of}
 use Rattle.scheduler_core.proofs.SeenLaws.{tied-seen}
 
@@ -88,33 +90,85 @@ slots-most q row n ready order is =
       | true ↦ λ e. (let p = ready-parts q m row e in let yes = p.has in let no = is.no_more m above (omega arith) p.free in absurd (cc))
     ]) refl)
 
--- the most slots of the calendar
-pub most-calendar : (s : Schedule) (p : Plan) (m : ℕ) (wants : Wants) (n most used : ℕ) (planned : End) → IsFit p → IsTied s p → p.moment ≤ m → wants.reservation ≡ None
-    → used ≡ held p.rows → used + wants.min ≤ p.total → most ≡ min wants.max (p.total - used) → planned ≡ planned_end wants m
-    → wants.min ≤ n → n ≤ most → Fits s n m planned → ((k : ℕ) → k ≤ most → Fits s k m planned → k ≤ n) → IsMost (seen m p) wants n
-most-calendar s p m wants n most used planned fit tied later ordinary used_is free most_is planned_is low high fits-n greatest =
+-- what a queue leaves is what may be added to it
+room-within : (o : Option QueueSpec) (n k : ℕ) → IfSome o (λ (queue : QueueSpec). n ≤ queue.limit)
+    → option_map_or (λ (queue : QueueSpec). leb (n + k) queue.limit) o true ≡ option_map_or (leb k) (option_map (λ (queue : QueueSpec). queue.limit - n) o) true
+room-within None n k h = refl
+room-within (Some queue) n k h = grind (arith, nat_tests)
+
+pub room-left : (p : Plan) (wants : Wants) (k : ℕ) → IsFit p → room_of p k wants ≡ option_map_or (leb k) (queue_left p wants) true
+room-left p wants k fit =
+    elim wants.queue as (λ o. option_map_or (has_room_in p k) o true
+    ≡ option_map_or (leb k) (option_and_then (λ (place : ℕ). option_map (λ (queue : QueueSpec). queue.limit - in_queue place p.rows) (queue_at place p.queues)) o) true) [
+      | None ↦ refl
+      | Some place ↦ room-within (queue_at place p.queues) (in_queue place p.rows) k (fit.queued place)
+    ]
+
+capped-most : (most : ℕ) (left : Option ℕ) → capped most left ≤ most
+capped-most most None = omega arith
+capped-most most (Some n) = omega arith
+
+capped-within : (k most : ℕ) (left : Option ℕ) → k ≤ capped most left → option_map_or (leb k) left true ≡ true
+capped-within k most None low = refl
+capped-within k most (Some n) low = le-leb k n (omega arith)
+
+capped-from : (k most : ℕ) (left : Option ℕ) → k ≤ most → option_map_or (leb k) left true ≡ true → k ≤ capped most left
+capped-from k most None low within = low
+capped-from k most (Some n) low within = (let le = leb-true k n within in omega arith)
+
+-- the slots that are free for an ordinary job, in two parts
+ordinary-slots : (p : Plan) (m : ℕ) (wants : Wants) (planned : End) (k : ℕ) → wants.reservation ≡ None → planned ≡ planned_end wants m
+    → slots_of (seen m p) k wants ≡ (fits (seen m p) k m planned && room_of p k wants)
+ordinary-slots p m wants planned k ordinary planned_is =
     let q = seen m p in
+    ap (λ (o : Option ReservationId). option_map_or (has_slots_in q k) o (free_of q k wants)) ordinary ∙ ap (λ (e : End). fits q k m e && room_of p k wants) (sym planned_is)
+
+-- the most slots of the calendar, within the limit of the queue
+pub most-calendar : (s : Schedule) (p : Plan) (m : ℕ) (wants : Wants) (n most used : ℕ) (left : Option ℕ) (planned : End) → IsFit p → IsTied s p → p.moment ≤ m → wants.reservation ≡ None
+    → used ≡ held p.rows → used + wants.min ≤ p.total → most ≡ capped (min wants.max (p.total - used)) left → left ≡ queue_left p wants → planned ≡ planned_end wants m
+    → wants.min ≤ n → n ≤ most → Fits s n m planned → ((k : ℕ) → k ≤ most → Fits s k m planned → k ≤ n) → IsMost (seen m p) wants n
+most-calendar s p m wants n most used left planned fit tied later ordinary used_is free most_is left_is planned_is low high fits-n greatest =
+    let q = seen m p in
+    let whole = min wants.max (p.total - used) in
+    let test : ℕ → Bool = λ k. option_map_or (leb k) left true in
     let loads : (x : ℕ) → m ≤ x → calendar.load s.bookings x ≡ load q x = tied-seen s p m fit tied later in
-    let of : (k : ℕ) → slots_of q k wants ≡ fits q k m planned = λ k.
-    ap (λ (o : Option ReservationId). option_map_or (has_slots_in q k) o (fits q k m (planned_end wants m))) ordinary ∙ ap (fits q k m) (sym planned_is) in
+    let of : (k : ℕ) → slots_of q k wants ≡ (fits q k m planned && test k) = λ k.
+    ordinary-slots p m wants planned k ordinary planned_is ∙ ap (λ b. fits q k m planned && b) (room-left p wants k fit ∙ ap (λ (o : Option ℕ). option_map_or (leb k) o true) (sym left_is)) in
+    let within-whole : n ≤ capped whole left = subst (λ x. n ≤ x) most_is high in
+    let under = capped-most whole left in
     record {
       least = low;
       most = omega arith;
       free = omega arith;
-      has = of n ∙ fits-plan s q n m planned tied.total loads fits-n;
+      has = of n ∙ and_from (fits q n m planned) (test n) (fits-plan s q n m planned tied.total loads fits-n) (capped-within n whole left within-whole);
       no_more = λ k above within room.
-          of k ∙ (elim (fits q k m planned) as (λ b. fits q k m planned ≡ b → b ≡ false) [
+          of k ∙ (elim (fits q k m planned) as (λ b. fits q k m planned ≡ b → (b && test k) ≡ false) [
             | false ↦ λ e. refl
-            | true ↦ λ e. (let no = greatest k (omega arith) (fits-calendar s q k m planned tied.total loads e) in absurd (omega arith))
+            | true ↦ λ e. (elim (test k) as (λ b. test k ≡ b → b ≡ false) [
+              | false ↦ λ t. refl
+              | true ↦ λ t.
+                  (let low-k : k ≤ whole = omega arith in
+                  let no = greatest k (subst (λ x. k ≤ x) (sym most_is) (capped-from k whole left low-k t)) (fits-calendar s q k m planned tied.total loads e) in
+                  absurd (omega arith))
+            ]) refl
           ]) refl;
     }
+
+-- what an ordinary job may have at least is within the limit of its queue
+pub capped-least : (p : Plan) (m : ℕ) (wants : Wants) (n most : ℕ) (left : Option ℕ) → IsFit p → wants.reservation ≡ None → left ≡ queue_left p wants
+    → slots_of (seen m p) n wants ≡ true → n ≤ most → n ≤ capped most left
+capped-least p m wants n most left fit ordinary left_is has low =
+    let planned = planned_end wants m in
+    let both : (fits (seen m p) n m planned && room_of p n wants) ≡ true = sym (ordinary-slots p m wants planned n ordinary refl) ∙ has in
+    let room = (and_parts (fits (seen m p) n m planned) (room_of p n wants) both).1 in
+    capped-from n most left low (ap (λ (o : Option ℕ). option_map_or (leb n) o true) left_is ∙ sym (room-left p wants n fit) ∙ room)
 
 pub calendar-has : (s : Schedule) (p : Plan) (m : ℕ) (wants : Wants) (n : ℕ) (planned : End) → IsFit p → IsTied s p → p.moment ≤ m → wants.reservation ≡ None → planned ≡ planned_end wants m
     → slots_of (seen m p) n wants ≡ true → Fits s n m planned
 calendar-has s p m wants n planned fit tied later ordinary planned_is has =
     let q = seen m p in
-    fits-calendar s q n m planned tied.total (tied-seen s p m fit tied later)
-    (sym (ap (λ (o : Option ReservationId). option_map_or (has_slots_in q n) o (fits q n m (planned_end wants m))) ordinary ∙ ap (fits q n m) (sym planned_is)) ∙ has)
+    let both : (fits q n m planned && room_of p n wants) ≡ true = sym (ordinary-slots p m wants planned n ordinary planned_is) ∙ has in
+    fits-calendar s q n m planned tied.total (tied-seen s p m fit tied later) (and_parts (fits q n m planned) (room_of p n wants) both).0
 
 -- the most slots of a reservation
 pub most-inside : (p : Plan) (m : ℕ) (wants : Wants) (number : ReservationId) (n most used left : ℕ) → wants.reservation ≡ Some number
@@ -126,7 +180,7 @@ most-inside p m wants number n most used left named used_is free order most_is l
     let inside = in_reservation number p.rows in
     let test : ℕ → Option Accepted → Bool = λ k o. option_map_or (λ (a : Accepted). covers m a && leb (inside + k) a.slots) o false in
     let o = reservation_of number (filter (lasts m) p.reservations) in
-    let of : (k : ℕ) → slots_of q k wants ≡ test k o = λ k. ap (λ (r : Option ReservationId). option_map_or (has_slots_in q k) r (fits q k m (planned_end wants m))) named in
+    let of : (k : ℕ) → slots_of q k wants ≡ test k o = λ k. ap (λ (r : Option ReservationId). option_map_or (has_slots_in q k) r (free_of q k wants)) named in
     (elim o as (λ (x : Option Accepted). o ≡ x → test wants.min x ≡ true → left ≡ option_map_or (λ (r : Accepted). r.slots - inside) x 0 → IsMost q wants n) [
       | None ↦ λ e h l. absurd (cc)
       | Some r ↦ λ e h l.
@@ -156,12 +210,12 @@ launch-may s p m row n fit tied later limit fresh queued has =
     let planned = planned_end row.wants m in
     let late = not-late m (filter (lasts m) p.reservations) row (queued-waits (seen_row m p row).course.state queued) in
     let ahead : ends_after m planned ≡ true = planned-ahead row.wants m limit late in
-    (elim row.wants.reservation as (λ o. option_map_or (has_slots_in (seen m p) n) o (fits (seen m p) n m planned) ≡ true
+    (elim row.wants.reservation as (λ o. option_map_or (has_slots_in (seen m p) n) o (free_of (seen m p) n row.wants) ≡ true
     → MayMake s (option_map_or (λ (r : ReservationId). Same) o (Books (record { key = Job row.job; slots = n; from = m; until = planned })))) [
       | Some r ↦ λ h. tt
       | None ↦ λ h. record {
         lasting = same-end m planned ∙ ahead;
-        fits = fits-calendar s (seen m p) n m planned tied.total (λ x low. tied-seen s p m fit tied later x low) h;
+        fits = fits-calendar s (seen m p) n m planned tied.total (λ x low. tied-seen s p m fit tied later x low) (and_parts (fits (seen m p) n m planned) (room_of p n row.wants) h).0;
         fresh = fresh;
       }
     ]) has
@@ -374,7 +428,11 @@ looked-grows p o next fit is said =
 free-not : (used least total : ℕ) → total ≤ used → 1 ≤ least → leb (used + least) total ≡ false
 free-not used least total full some = grind (arith, nat_tests)
 
-and-not : (a b : Bool) → b ≡ false → (a && b) ≡ false
+pub and-true : (a : Bool) → (a && true) ≡ a
+and-true true = refl
+and-true false = refl
+
+pub and-not : (a b : Bool) → b ≡ false → (a && b) ≡ false
 and-not true b lacks = lacks
 and-not false b lacks = refl
 

@@ -1,8 +1,8 @@
 -- Laws of the started jobs: time starts and stops none.
-use Rattle.std.proofs.Common.{◌≡◌, ℕ, Bool, true, false, cond, leb, ◌&&◌, List, [], ◌∷◌, map, filter, Option, Some, None, refl, sym, ◌∙◌, ap}
+use Rattle.std.proofs.Common.{◌≡◌, ℕ, Bool, true, false, cond, leb, ◌&&◌, List, [], ◌∷◌, map, filter, Some, refl, sym, ◌∙◌, ap}
 use Rattle.std.specs.Prelude.{max, find}
 use Rattle.std.specs.Option.{option_map}
-use Rattle.drmaa_types.specs.States.{is_started, is_waiting}
+use Rattle.drmaa_types.specs.States.{is_started}
 use Rattle.drmaa_types.specs.declared.identifiers.JobId.{JobId}
 use Rattle.drmaa_model.specs.declared.reservations.Accepted.{Accepted}
 use Rattle.drmaa_model.specs.declared.rows.Row.{Row}

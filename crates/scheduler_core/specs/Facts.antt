@@ -21,6 +21,7 @@ row_facts row = record {
   start = row.wants.start;
   deadline = row.wants.deadline;
   reservation = row.wants.reservation;
+  queue = row.wants.queue;
   state = row.course.state;
   phase = row.course.phase;
   attempt = row.course.attempt;

@@ -1,11 +1,13 @@
 -- What is made ready of a launch before anything changes.
-use Rattle.std.specs.Prelude.{◌≡◌, ℕ, ◌+◌, ◌<◌, ◌≤◌, Bool, true, false, nat_lt, List, filter, Option, Some, None, MatchOption}
-use Rattle.std.specs.Option.{option_map_or}
+use Rattle.std.specs.Prelude.{◌≡◌, ℕ, ◌+◌, ◌-◌, ◌<◌, ◌≤◌, Bool, true, false, ◌&&◌, min, nat_lt, List, filter, Option, Some, None, MatchOption}
+use Rattle.std.specs.Option.{option_and_then, option_map, option_map_or}
+use Rattle.drmaa_types.specs.Queues.{queue_at}
+use Rattle.drmaa_types.specs.declared.queues.QueueSpec.{QueueSpec}
 use Rattle.drmaa_types.specs.declared.identifiers.ArrayId.{ArrayId}
 use Rattle.drmaa_types.specs.declared.identifiers.ReservationId.{ReservationId}
 use Rattle.drmaa_types.specs.declared.moments.End.{End}
 use Rattle.drmaa_model.specs.declared.rows.Wants.{Wants}
-use Rattle.drmaa_model.specs.Load.{in_array, fits}
+use Rattle.drmaa_model.specs.Load.{in_array, in_queue, fits}
 use Rattle.drmaa_model.specs.Time.{lasts}
 use Rattle.drmaa_model.specs.TimeLaws.{timed}
 use Rattle.reservation_calendar.specs.declared.bookings.Key.TheVariants.{Job}
@@ -16,7 +18,7 @@ use Rattle.plan_book.specs.Ties.{MayMake}
 use Rattle.drmaa_model.specs.declared.rows.Row.{Row}
 use Rattle.drmaa_model.specs.Courses.{launched, planned_end}
 use Rattle.drmaa_model.specs.Launching.{launch_of}
-use Rattle.drmaa_model.specs.Order.{held, is_ready, has_slots_in, next_launch}
+use Rattle.drmaa_model.specs.Order.{held, is_ready, has_room_in, has_slots_in, next_launch}
 use Rattle.drmaa_model.specs.Plan.{Plan}
 use Rattle.scheduler_core.specs.declared.launches.Next.{Next}
 use Rattle.plan_book.specs.declared.moves.Move.{Move}
@@ -38,9 +40,26 @@ may_launch moment p row = is_ready (seen moment p) row.wants.min row
 abbrev pub turn_of : List Row → Wants → Bool
 turn_of rows wants = option_map_or (λ (bound : ℕ). option_map_or (λ (array : ArrayId). nat_lt (in_array array rows) bound) wants.array true) wants.bound true
 
+-- there are slots within the limit of the queue that a job asks for, where it asks for one
+abbrev pub room_of : Plan → ℕ → Wants → Bool
+room_of p slots wants = option_map_or (has_room_in p slots) wants.queue true
+
+-- the slots that an ordinary job which asks for this may have
+abbrev pub free_of : Plan → ℕ → Wants → Bool
+free_of p slots wants = fits p slots p.moment (planned_end wants p.moment) && room_of p slots wants
+
 -- the slots that a job which asks for this may have
 abbrev pub slots_of : Plan → ℕ → Wants → Bool
-slots_of p slots wants = option_map_or (has_slots_in p slots) wants.reservation (fits p slots p.moment (planned_end wants p.moment))
+slots_of p slots wants = option_map_or (has_slots_in p slots) wants.reservation (free_of p slots wants)
+
+-- the slots that are left within the limit of that queue
+abbrev pub queue_left : Plan → Wants → Option ℕ
+queue_left p wants =
+    option_and_then (λ (place : ℕ). option_map (λ (queue : QueueSpec). queue.limit - in_queue place p.rows) (queue_at place p.queues)) wants.queue
+
+-- so many at most, and no more than are left
+abbrev pub capped : ℕ → Option ℕ → ℕ
+capped most left = option_map_or (min most) left most
 
 -- the most slots that a job may have beside what is held
 pub record IsMost (p : Plan) (wants : Wants) (n : ℕ) : Type 0 where

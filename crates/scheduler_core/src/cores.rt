@@ -1,6 +1,7 @@
 //! The core of the scheduler, as the machine sees it.
 ghost use Rattle.std.specs.Prelude.{◌≡◌, ◌≢◌, ◌+◌, ◌*◌, ◌≤◌, ◌<◌, IfOk, IfErr, OnOk, OnErr, Ok, Err, IsSome, None, Some, true, false};
 ghost use Rattle.std.specs.Option.{option_map, option_and_then, option_copied};
+ghost use Rattle.drmaa_types.specs.Queues.{are_queues};
 ghost use Rattle.drmaa_types.specs.Refusals.{first_refusal};
 ghost use Rattle.drmaa_model.specs.declared.rows.Row.{Row};
 ghost use Rattle.drmaa_model.specs.Events.{next_event, started_from, started_of};
@@ -29,7 +30,9 @@ use crate::ready::is_settled;
 use crate::rows::reports_to_come;
 use crate::{events, launches, reports, running};
 use drmaa_model::{Accepted, Indices, Launch, Report, Signal, Started, Submitted, Target};
-use drmaa_types::{Change, Control, JobId, Moment, Refusal, ReservationId, Reserved, Text};
+use drmaa_types::{
+    Change, Control, JobId, Moment, QueueList, Refusal, ReservationId, Reserved, Text,
+};
 use job_template::{JobTemplate, ReservationTemplate};
 use plan_book::Book;
 use reservation_requests::{lasting_from, lasting_of};
@@ -57,14 +60,22 @@ impl Model for Core {
 }
 
 impl Core {
-    /// No jobs, on a machine with so many slots; it takes no memory.
-    pub fn new(alloc: Global, slots: u32) -> Core
-        ensures { result.plan ≡ opening_plan slots }
+    /// No jobs, on a machine with so many slots and with these queues; it takes no memory.
+    pub fn new(alloc: Global, slots: u32, queues: QueueList) -> Core
+        requires queues { are_queues slots queues ≡ true }
+        ensures { result.plan ≡ opening_plan slots queues }
     {
         Core {
             alloc,
-            book: Book::new(alloc, slots),
+            book: Book::new(alloc, slots, queues),
         }
+    }
+
+    /// The machine's queues, in order.
+    pub fn queues(&self) -> &QueueList
+        ensures { result.now ≡ self.now.plan.queues }
+    {
+        self.book.queues()
     }
 
     /// Time goes on. It takes no memory, and leaves the size.

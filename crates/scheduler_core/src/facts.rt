@@ -29,6 +29,8 @@ pub struct RowFacts {
     pub deadline: Option<Moment>,
     /// The reservation that it runs in.
     pub reservation: Option<ReservationId>,
+    /// The place of its queue among those of the machine, counted from 1; None where there are none.
+    pub queue: Option<u32>,
     pub state: JobState,
     pub phase: Phase,
     /// How often it was launched.
@@ -62,6 +64,7 @@ fn facts_with(row: &Row, course: &Course) -> RowFacts
         start: row.wants.start,
         deadline: row.wants.deadline,
         reservation: row.wants.reservation,
+        queue: row.wants.queue,
         state: course.state,
         phase: course.phase,
         attempt: course.attempt,

@@ -5,6 +5,7 @@ mod cores;
 mod events;
 mod facts;
 mod launches;
+mod queues;
 mod ready;
 mod reports;
 mod rows;

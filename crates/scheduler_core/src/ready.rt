@@ -7,8 +7,9 @@ ghost use Rattle.drmaa_model.specs.Load.{covers, in_reservation, in_array, holds
 ghost use Rattle.drmaa_model.specs.Order.{held, is_queued, is_reached, is_ready, has_slots_in, has_turn, better, first_in_order, settled};
 ghost use Rattle.drmaa_model.specs.Time.{lasts, advance_plan};
 ghost use Rattle.plan_book.specs.Book.{plan_of, IsKept};
-ghost use Rattle.scheduler_core.specs.Launches.{seen, seen_row, may_launch, turn_of, slots_of, IsMost};
+ghost use Rattle.scheduler_core.specs.Launches.{seen, seen_row, may_launch, turn_of, free_of, slots_of, IsMost};
 
+use crate::queues::{capped, has_room, left_in_queue};
 use crate::rows::{is_beaten, is_reached};
 use crate::times::course_then;
 use drmaa_model::{Accepted, Row, Wants};
@@ -193,7 +194,7 @@ fn held_inside(row: &Row, number: ReservationId) -> u32
     }
 }
 
-/// The slots that a job may have more, of the calendar or of its reservation.
+/// The slots that a job may have more: those of its reservation, or else those that are free.
 fn has_slots(book: &Book, wants: &Wants, moment: Moment, slots: u32) -> bool
     requires kept { IsKept book.now }
     requires few { (plan_of book.now).total < 2 ^ 32 }
@@ -202,10 +203,22 @@ fn has_slots(book: &Book, wants: &Wants, moment: Moment, slots: u32) -> bool
 {
     match wants.reservation {
         Some(number) => has_slots_in(book, number, moment, slots),
-        None => book
-            .calendar()
-            .fits(slots, moment, planned_end(wants, moment)),
+        None => has_slots_free(book, wants, moment, slots),
     }
+}
+
+/// The slots that an ordinary job may have more, of the calendar and within the limit of its queue.
+fn has_slots_free(book: &Book, wants: &Wants, moment: Moment, slots: u32) -> bool
+    requires kept { IsKept book.now }
+    requires few { (plan_of book.now).total < 2 ^ 32 }
+    requires later { (plan_of book.now).moment ≤ moment }
+    ensures { result ≡ free_of (seen moment (plan_of book.now)) slots wants.now }
+{
+    if !has_room(book, wants, slots) {
+        return false;
+    }
+    book.calendar()
+        .fits(slots, moment, planned_end(wants, moment))
 }
 
 fn has_slots_in(book: &Book, number: ReservationId, moment: Moment, slots: u32) -> bool
@@ -255,6 +268,7 @@ pub fn slots_at(book: &Book, row: &Row, moment: Moment, used: u32) -> u32
     match row.wants.reservation {
         Some(number) => most.min(left_in(book, number, moment)),
         None => {
+            let most = capped(most, left_in_queue(book, &row.wants));
             let planned = planned_end(&row.wants, moment);
             match book
                 .calendar()

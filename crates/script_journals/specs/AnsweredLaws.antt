@@ -9,6 +9,7 @@ use Rattle.session_table.specs.Sessions.{is_bad_name, in_use, most_sessions}
 use Rattle.drmaa_types.specs.declared.identifiers.JobId.{JobId}
 use Rattle.drmaa_types.specs.declared.identifiers.ReservationId.{ReservationId}
 use Rattle.drmaa_types.specs.declared.identifiers.SessionId.{SessionId}
+use Rattle.drmaa_types.specs.declared.queues.QueueSpec.{QueueSpec}
 use Rattle.drmaa_types.specs.declared.refusals.Attribute.{Attribute}
 use Rattle.drmaa_types.specs.declared.refusals.Refusal.{Refusal}
 use Rattle.drmaa_types.specs.declared.refusals.Refusal.TheVariants.{InvalidArgument, UnsupportedAttribute, UnsupportedOperation, OutOfResource, DeniedByDrms}
@@ -99,11 +100,16 @@ unfolding stands
 limits-stand given [] = refl
 limits-stand given (l ∷ ls) = ap (λ t. t && stands (limit_tests (given || is_wallclock l) ls)) (limit-stands l.name) ∙ limits-stand (given || is_wallclock l) ls
 
-job-stands : (slots now : ℕ) (t : JobTemplate) → stands (job_tests slots now t) ≡ true
+slots-stand : (slots : ℕ) (queues : List QueueSpec) (now : ℕ) (t : JobTemplate) → stands (command_tests t ++ path_tests queues t ++ slot_tests slots queues now t) ≡ true
 unfolding stands
-job-stands slots now t =
-    both (command_tests t ++ path_tests t ++ slot_tests slots now t ++ limit_tests false t.resource_limits) (other_tests t.others)
-    (both (command_tests t ++ path_tests t ++ slot_tests slots now t) (limit_tests false t.resource_limits) refl (limits-stand false t.resource_limits))
+slots-stand slots [] now t = refl
+slots-stand slots (first ∷ others) now t = refl
+
+job-stands : (slots : ℕ) (queues : List QueueSpec) (now : ℕ) (t : JobTemplate) → stands (job_tests slots queues now t) ≡ true
+unfolding stands
+job-stands slots queues now t =
+    both (command_tests t ++ path_tests queues t ++ slot_tests slots queues now t ++ limit_tests false t.resource_limits) (other_tests t.others)
+    (both (command_tests t ++ path_tests queues t ++ slot_tests slots queues now t) (limit_tests false t.resource_limits) (slots-stand slots queues now t) (limits-stand false t.resource_limits))
     (others-stand t.others)
 
 bulk-stands : (indices : Option Indices) → stands (bulk_tests indices) ≡ true
@@ -126,8 +132,8 @@ booking_tests t p =
 submit-stands : (t : JobTemplate) (indices : Option Indices) (p : Plan) → stands (submit_tests t indices p) ≡ true
 unfolding stands tail_tests
 submit-stands t indices p =
-    both (bulk_tests indices ++ job_tests p.total p.moment t) (tail_tests t indices p)
-    (both (bulk_tests indices) (job_tests p.total p.moment t) (bulk-stands indices) (job-stands p.total p.moment t))
+    both (bulk_tests indices ++ job_tests p.total p.queues p.moment t) (tail_tests t indices p)
+    (both (bulk_tests indices) (job_tests p.total p.queues p.moment t) (bulk-stands indices) (job-stands p.total p.queues p.moment t))
     refl
 
 frame-stands : (now : ℕ) (t : ReservationTemplate) → stands (frame_tests now t) ≡ true

@@ -5,6 +5,7 @@ use Rattle.std.specs.Map.{lookup}
 use Rattle.std.specs.Option.{option_map_or}
 use Rattle.std.specs.Str.{bytes_eq}
 use Rattle.std.proofs.lemmas.Option.{none-some, same_Some}
+use Rattle.drmaa_types.specs.declared.queues.QueueSpec.{QueueSpec}
 use Rattle.drmaa_types.specs.declared.states.Control.TheVariants as control
 use Rattle.drmaa_types.specs.declared.states.WaitKind.TheVariants as reached
 use Rattle.drmaa_model.specs.declared.calls.Call.{Call}
@@ -59,12 +60,12 @@ makes-belongs : (m : Mode) (s : Script) (ps : List Part) (t : Script) → Makes 
 makes-belongs m s [] t is blocks = subst (BlocksBelong m) is blocks
 makes-belongs m s (p ∷ ps) t (u, first, rest) blocks = makes-belongs m u ps t rest (after-belongs m s p u first blocks)
 
-no-blocks : (m : Mode) (machine : ℕ × (List ℕ × Bool)) → BlocksBelong m (begun machine)
+no-blocks : (m : Mode) (machine : ℕ × (List ℕ × Bool)) (queues : List QueueSpec) → BlocksBelong m (begun machine queues)
 unfolding AllBelong
-no-blocks m machine = record { setup = tt; clients = tt }
+no-blocks m machine queues = record { setup = tt; clients = tt }
 
 pub spelled-belongs : (m : Mode) (lines : List (List ℕ)) (s : Script) → Spells m lines s → BlocksBelong m s
-spelled-belongs m lines s is = makes-belongs m (begun is.machine) is.parts s is.makes (no-blocks m is.machine)
+spelled-belongs m lines s is = makes-belongs m (begun is.machine is.queues) is.parts s is.makes (no-blocks m is.machine is.queues)
 
 -- no line is one that a serial script has alone
 NoneSerial : List Line → Type 0

@@ -2,6 +2,8 @@
 use Rattle.std.proofs.Common.{◌≡◌, ℕ, ◌+◌, Bool, true, false, cond, nat_le, List, [], ◌∷◌, ◌++◌, length, map, Option, Some, None, refl, sym, ap, subst, ◌∙◌}
 use Rattle.std.specs.List.{AllByRecursion}
 use Rattle.drmaa_types.specs.declared.identifiers.CallerId.{CallerId}
+use Rattle.drmaa_types.specs.declared.queues.QueueSpec.{QueueSpec}
+use Rattle.drmaa_types.specs.Queues.{are_queues}
 use Rattle.drmaa_model.specs.declared.calls.Call.{Call}
 use Rattle.drmaa_model.specs.declared.configs.Config.{Config}
 use Rattle.drmaa_model.specs.declared.entries.Entry.{Entry}
@@ -121,26 +123,27 @@ makes-config : (m : Mode) (s : Script) (ps : List Part) (t : Script) → Makes m
 makes-config m s [] t is = ap (λ (x : Script). x.config) (sym is)
 makes-config m s (p ∷ ps) t (u, first, rest) = makes-config m u ps t rest ∙ after-config m s p u first
 
-machine-stands : (m : ℕ × (List ℕ × Bool)) → header.valid m → is_machine (machine_of (config_of m)) ≡ true
+machine-stands : (m : ℕ × (List ℕ × Bool)) (queues : List QueueSpec) → header.valid m → is_machine (machine_of (config_of m queues)) ≡ true
 unfolding header checked
-machine-stands m valid = valid.1
+machine-stands m queues valid = valid.1
 
-no-templates : (m : ℕ × (List ℕ × Bool)) → HasOthers (begun m)
-no-templates m = record { jobs = tt; reservations = tt }
+no-templates : (m : ℕ × (List ℕ × Bool)) (queues : List QueueSpec) → HasOthers (begun m queues)
+no-templates m queues = record { jobs = tt; reservations = tt }
 
 -- The machine of a script that lines spell is one of a journal.
 pub spelled-printable : (mode : Mode) (lines : List (List ℕ)) (s : Script) (es : List Entry) → Spells mode lines s → AllByRecursion MayStand es → IsPrintable s.config es
 spelled-printable mode lines s es is all =
-    let same : s.config ≡ config_of is.machine = makes-config mode (begun is.machine) is.parts s is.makes in
+    let same : s.config ≡ config_of is.machine is.queues = makes-config mode (begun is.machine is.queues) is.parts s is.makes in
     record {
-      machine = subst (λ (c : Config). is_machine (machine_of c) ≡ true) (sym same) (machine-stands is.machine is.valid);
+      machine = subst (λ (c : Config). is_machine (machine_of c) ≡ true) (sym same) (machine-stands is.machine is.queues is.valid);
+      queues = subst (λ (c : Config). are_queues c.slots c.queues ≡ true) (sym same) is.queued;
       size = ap (λ (c : Config). c.journal) same;
       entries = all;
     }
 
 -- No template of such a script has an attribute of another form under `other`.
 pub spelled-others : (mode : Mode) (lines : List (List ℕ)) (s : Script) → Spells mode lines s → HasOthers s
-spelled-others mode lines s is = makes-others mode (begun is.machine) is.parts s is.makes (no-templates is.machine)
+spelled-others mode lines s is = makes-others mode (begun is.machine is.queues) is.parts s is.makes (no-templates is.machine is.queues)
 
 -- The journal of the play of a script that lines spell may be printed, and read again.
 pub play-printable : (mode : Mode) (lines : List (List ℕ)) (s : Script) → Spells mode lines s → IsPrintable s.config (serial_play s).entries

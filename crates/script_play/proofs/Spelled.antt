@@ -47,11 +47,12 @@ pub playable : (m : Mode) (lines : List (List ℕ)) (s : Script) → Spells m li
 unfolding header checked
 playable m lines s h =
     let slots = slots_in_range h.machine.0 h.machine.1.0 h.valid.1 in
-    let made = blocks_keep m (config_of h.machine) (begun h.machine) h.parts s (record { config_is = refl; few = omega arith }) h.makes in
+    let made = blocks_keep m (config_of h.machine h.queues) (begun h.machine h.queues) h.parts s (record { config_is = refl; few = omega arith }) h.makes in
     record {
       least_slots = rw made.config_is slots.0;
       most_slots = rw made.config_is slots.1;
       least_journal = rw made.config_is (omega arith);
       most_journal = rw made.config_is (omega arith);
+      queues = rw made.config_is h.queued;
       few = made.few;
     }

@@ -98,18 +98,21 @@ fn note(alloc: Global, attempts: &mut Attempts, reply: &Reply) -> Result<(), All
 }
 
 impl Player {
-    ghost use Rattle.std.specs.Prelude.{◌≡◌, ◌≤◌, is_some, length, take, drop, slice_get, IfOk};
+    ghost use Rattle.std.specs.Prelude.{◌≡◌, ◌≤◌, true, is_some, length, take, drop, slice_get, IfOk};
+    ghost use Rattle.drmaa_types.specs.Queues.{are_queues};
     ghost use Rattle.drmaa_model.specs.History.{IsLegal, now_of};
     ghost use Rattle.script_play.specs.Callbacks.{number_of};
     ghost use Rattle.script_play.specs.Looks.{asks_from, IsLook, Learns};
     ghost use Rattle.script_play.specs.View.{IsNoted, unplayed};
 
-    /// A play that has not begun, with a machine of from 1 to 65,535 slots and a journal size from 1 to 4,000,000.
+    /// A play that has not begun, with a machine of from 1 to 65,535 slots, a journal size from 1 to 4,000,000, and queues that
+    /// such a machine may have.
     pub fn new(alloc: Global, config: Config) -> Result<Player, AllocError>
         requires least_slots { 1 ≤ config.slots }
         requires most_slots { config.slots ≤ 65_535 }
         requires least_journal { 1 ≤ config.journal }
         requires most_journal { config.journal ≤ 4_000_000 }
+        requires queues { are_queues config.slots config.queues ≡ true }
         ensures { IfOk result (λ player. player ≡ unplayed config) }
     {
         let Ok(machine) = Machine::new(alloc, config) else {

@@ -12,6 +12,7 @@ use crate::blocks::play_blocks;
 use crate::players::Player;
 use drmaa_machine::Machine;
 use drmaa_model::Config;
+use drmaa_types::QueueList;
 use notify_hub::{Callback, Ears};
 use script_text::Script;
 use std::alloc::{AllocError, Global};
@@ -25,6 +26,14 @@ pub struct Played {
     pub full: Option<u64>,
 }
 
+/// These queues once more.
+#[tactic(auto, using(std::proofs::lemmas::List::Elements::same_from_all_zip))]
+fn copied_queues(queues: &QueueList) -> Result<QueueList, AllocError>
+    ensures { IfOk result (λ copy. copy ≡ queues.now) }
+{
+    queues.clone()
+}
+
 /// This configuration once more.
 pub fn copy_of(config: &Config) -> Result<Config, AllocError>
     ensures { IfOk result (λ copy. copy ≡ config.now) }
@@ -34,6 +43,7 @@ pub fn copy_of(config: &Config) -> Result<Config, AllocError>
         name: config.name.clone()?,
         suspend: config.suspend,
         journal: config.journal,
+        queues: copied_queues(&config.queues)?,
     })
 }
 

@@ -74,6 +74,6 @@ fn a_machine_alone_is_called_by_nobody(rt: HostRuntime) {
     let mut spawner = spawner(alloc, &[]);
     let ran = ran(&rt, alloc, MACHINE, &mut sink, &mut spawner);
     let quiet = has_begun(&spawner, &[]);
-    let empty = sink.bytes() == "drmaa-journal 1 4 \"node1\" suspend\nend 0\n".as_bytes();
+    let empty = sink.bytes() == "drmaa-journal 2 4 \"node1\" suspend []\nend 0\n".as_bytes();
     assert!(rt; (ran, quiet, empty) == ((0, 4), true, true));
 }

@@ -11,7 +11,7 @@ const SCRIPT: &str =
     "machine 4 \"node1\" suspend\ntemplate t\ncommand \"true\"\nend\nclient\ncreate-jobs s \"s\"\nrun j s t\nlaunch\nexit j 0\nstate s j\nend\n";
 
 const JOURNAL: &str =
-    "drmaa-journal 1 4 \"node1\" suspend\n1 1 @0 create-jobs \"s\" = session 1\n2 1 @0 run 1 {command \"true\"} = job 1\n3 2 @0 launch = launch 1 1 1 [\"\" \"\" \"\" \"\" \"apart\" \"0\" \"true\"]\n4 3 @0 exit 1 1 code 0 = ok\n5 1 @0 state 1 1 = state DONE\nend 5\n";
+    "drmaa-journal 2 4 \"node1\" suspend []\n1 1 @0 create-jobs \"s\" = session 1\n2 1 @0 run 1 {command \"true\"} = job 1\n3 2 @0 launch = launch 1 1 1 [\"\" \"\" \"\" \"\" \"apart\" \"0\" \"true\"]\n4 3 @0 exit 1 1 code 0 = ok\n5 1 @0 state 1 1 = state DONE\nend 5\n";
 
 const TABLE: &str = "       job state         slots name\n         1 DONE              1 -\n";
 
@@ -21,7 +21,7 @@ const THREADS_SCRIPT: &str =
 
 /// The client reads 10, 11 and so on from its clock; a wait reads its beginning, and then its look.
 const THREADS_JOURNAL: &str =
-    "drmaa-journal 1 4 \"node1\" suspend\n1 0 @0 create-jobs \"nightly\" = session 1\n2 1 @10 open-jobs \"nightly\" = session 2\n3 1 @11 run 2 {command \"true\" hold} = job 1\n4 1 @13 wait-started 2 @12 1 [1] = refused 3\n5 1 @14 terminate 2 1 = ok\n6 1 @16 wait-terminated 2 @15 infinite [1] = reached 1\n7 1 @17 state 2 1 = state FAILED\nend 7\n";
+    "drmaa-journal 2 4 \"node1\" suspend []\n1 0 @0 create-jobs \"nightly\" = session 1\n2 1 @10 open-jobs \"nightly\" = session 2\n3 1 @11 run 2 {command \"true\" hold} = job 1\n4 1 @13 wait-started 2 @12 1 [1] = refused 3\n5 1 @14 terminate 2 1 = ok\n6 1 @16 wait-terminated 2 @15 infinite [1] = reached 1\n7 1 @17 state 2 1 = state FAILED\nend 7\n";
 
 /// Each command, what it reads, and what it writes.
 const COMMANDS: &[(&str, &str, &str)] = &[

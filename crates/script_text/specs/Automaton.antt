@@ -1,10 +1,13 @@
 -- The reader of scripts, as an automaton on lines.
 use Rattle.std.specs.Prelude.{◌≡◌, ℕ, ◌&&◌, not, Bool, true, false, List, [], ◌∷◌, ◌++◌, Option, Some, None, codes, if◌then◌else◌}
 use Rattle.std.specs.Str.{bytes_eq}
+use Rattle.drmaa_types.specs.declared.queues.QueueSpec.{QueueSpec}
+use Rattle.drmaa_types.specs.Queues.{are_queues}
 use Rattle.job_template.specs.declared.templates.ReservationTemplate.{ReservationTemplate}
 use Rattle.text_codec.specs.Formats.{◌>>=◌, choose, strip}
 use Rattle.text_codec.specs.Formats as form
 use Rattle.text_codec.specs.Words.{name}
+use Rattle.text_words.specs.Queues.{queue}
 use Rattle.text_lines.specs.Automata.{Stepping}
 use Rattle.script_lines.specs.declared.lines.Line.{Line}
 use Rattle.script_lines.specs.declared.fields.JobField.{JobField}
@@ -16,10 +19,14 @@ use Rattle.script_lines.specs.Templates.{no_fields, is_set, with_field, no_reser
 use Rattle.script_text.specs.declared.scripts.Mode.{Mode}
 use Rattle.script_text.specs.declared.scripts.Script.{Script}
 use Rattle.script_text.specs.declared.states.Reader.{Reader}
-use Rattle.script_text.specs.declared.states.Reader.TheVariants.{Start, Top, Filling, Reserving, Asking}
+use Rattle.script_text.specs.declared.states.Reader.TheVariants.{Start, Queueing, Top, Filling, Reserving, Asking}
 use Rattle.script_text.specs.Header.{header}
 use Rattle.script_text.specs.Follows.{lines_of, may_stand}
-use Rattle.script_text.specs.Scripts.{is_early, is_named, may_open, begun, with_template, with_reservation, with_block, Spells}
+use Rattle.script_text.specs.Scripts.{is_early, is_named, may_open, begun, with_queue, with_template, with_reservation, with_block, Spells}
+
+-- a queue more, where the machine may have it beside those before it
+abbrev pub queued : Mode → Script → QueueSpec → Option Reader
+queued m s q = if are_queues s.config.slots (s.config.queues ++ q ∷ []) then Some (Queueing m (with_queue s q)) else None
 
 abbrev pub named : Mode → Script → List ℕ → Option Reader
 named m s n = if is_early s && not (is_named s n) then Some (Filling m (s, n) no_fields) else None
@@ -49,15 +56,24 @@ read_name l = form.read_line name l
 unfoldable pub read_header : List ℕ → Option (ℕ × (List ℕ × Bool))
 read_header l = form.read_line header l
 
+unfoldable pub read_queue : List ℕ → Option QueueSpec
+read_queue l = form.read_line queue l
+
+-- what the first line of a block leads to
+abbrev pub after_top : Mode → Script → List ℕ → Option Reader
+after_top m s l = choose (strip (codes "template ") l) (λ r. read_name r >>= named m s) (choose (strip (codes "rtemplate ") l) (λ r. read_name r >>= to_reserve m s) (opened m s l))
+
 abbrev pub next : Reader → List ℕ → Option Reader
-next (Start m) l = read_header l >>= λ h. Some (Top m (begun h))
-next (Top m s) l = choose (strip (codes "template ") l) (λ r. read_name r >>= named m s) (choose (strip (codes "rtemplate ") l) (λ r. read_name r >>= to_reserve m s) (opened m s l))
+next (Start m) l = read_header l >>= λ h. Some (Queueing m (begun h []))
+next (Queueing m s) l = choose (strip (codes "queue ") l) (λ r. read_queue r >>= queued m s) (after_top m s l)
+next (Top m s) l = after_top m s l
 next (Filling m (s, n) d) l = if bytes_eq l (codes "end") then Some (Top m (with_template s n d.template)) else (read_job_field l >>= filled m s n d)
 next (Reserving m (s, n) t) l = if bytes_eq l (codes "end") then Some (Top m (with_reservation s n t)) else (read_reservation_field l >>= reserved m s n t)
 next (Asking m s b in_setup) l = if bytes_eq l (codes "end") then Some (Top m (with_block s b in_setup)) else (read_line l >>= asked m s b in_setup)
 
 abbrev pub ends : Reader → Option Script
 ends (Start m) = None
+ends (Queueing m s) = Some s
 ends (Top m s) = Some s
 ends (Filling m (s, n) d) = None
 ends (Reserving m (s, n) t) = None
@@ -65,6 +81,7 @@ ends (Asking m s b in_setup) = None
 
 abbrev pub mode_of : Reader → Mode
 mode_of (Start m) = m
+mode_of (Queueing m s) = m
 mode_of (Top m s) = m
 mode_of (Filling m (s, n) d) = m
 mode_of (Reserving m (s, n) t) = m

@@ -6,12 +6,16 @@ use Rattle.std.proofs.lemmas.Slice.Eq.{bytes_eq-Decides}
 use Rattle.std.proofs.lemmas.List.{map-append}
 use Rattle.std.proofs.lemmas.List.Concat.{flat_map-append}
 use Rattle.std.proofs.lemmas.Option.{none-some, same_Some, cond_some}
+use Rattle.drmaa_types.specs.declared.queues.QueueSpec.{QueueSpec}
+use Rattle.drmaa_types.specs.Queues.{are_queues}
 use Rattle.job_template.specs.declared.templates.ReservationTemplate.{ReservationTemplate}
 use Rattle.text_codec.specs.Formats.{◌>>=◌, strip}
 use Rattle.text_codec.specs.Words.{name}
 use Rattle.text_codec.specs.WordLaws.{name_laws}
 use Rattle.text_codec.specs.StepLaws.{both, by_test, bind, chosen, strip_found}
 use Rattle.text_codec.specs.FormatLaws as whole
+use Rattle.text_words.specs.Queues.{queue}
+use Rattle.text_words.specs.QueueLaws.{queue_laws}
 use Rattle.script_lines.specs.declared.lines.Line.{Line}
 use Rattle.script_lines.specs.declared.fields.JobField.{JobField}
 use Rattle.script_lines.specs.declared.fields.ReservationField.{ReservationField}
@@ -24,12 +28,12 @@ use Rattle.script_lines.specs.Templates.{no_fields, is_set, with_field, made, Is
 use Rattle.script_text.specs.declared.scripts.Mode.{Mode}
 use Rattle.script_text.specs.declared.scripts.Script.{Script}
 use Rattle.script_text.specs.declared.states.Reader.{Reader}
-use Rattle.script_text.specs.declared.states.Reader.TheVariants.{Start, Top, Filling, Reserving, Asking}
-use Rattle.script_text.specs.Header.{header}
+use Rattle.script_text.specs.declared.states.Reader.TheVariants.{Start, Queueing, Top, Filling, Reserving, Asking}
+use Rattle.script_text.specs.Header.{header, queue_text}
 use Rattle.script_text.specs.HeaderLaws.{header_laws}
 use Rattle.script_text.specs.Follows.{lines_of, may_stand}
-use Rattle.script_text.specs.Scripts.{is_early, is_named, may_open, begun, with_template, with_reservation, with_block, Follow, line_text, template_head, reservation_head, block_head, Part, Job, Reservation, Lines, part_lines, After, Makes, Spells}
-use Rattle.script_text.specs.Automaton.{begin_block, filled, reserved, asked, read_name, read_header, next}
+use Rattle.script_text.specs.Scripts.{is_early, is_named, may_open, begun, with_queue, with_template, with_reservation, with_block, Follow, line_text, template_head, reservation_head, block_head, Part, Job, Reservation, Lines, part_lines, After, Makes, Spells}
+use Rattle.script_text.specs.Automaton.{begin_block, queued, filled, reserved, asked, read_name, read_header, read_queue, after_top, next}
 
 pub header_found : (line : List ℕ) (m : ℕ × (List ℕ × Bool)) → read_header line ≡ Some m → header.valid m × (line ≡ header.spell m)
 unfolding read_header
@@ -46,6 +50,24 @@ name_found = whole.line_found name name_laws
 pub name_again : (n : List ℕ) → name.valid n → read_name (name.spell n) ≡ Some n
 unfolding read_name
 name_again = whole.line_again name name_laws
+
+pub queue_found : (line : List ℕ) (q : QueueSpec) → read_queue line ≡ Some q → queue.valid q × (line ≡ queue.spell q)
+unfolding read_queue
+queue_found = whole.line_found queue queue_laws
+
+pub queue_again : (q : QueueSpec) → queue.valid q → read_queue (queue.spell q) ≡ Some q
+unfolding read_queue
+queue_again = whole.line_again queue queue_laws
+
+-- What was read so far: the lines of queues, with a machine line before them.
+pub record IsQueueing (ls : List (List ℕ)) (s : Script) : Type 0 where
+  pub machine : ℕ × (List ℕ × Bool)
+  pub valid : header.valid machine
+  pub queues : List QueueSpec
+  pub each : AllByRecursion queue.valid queues
+  pub queued : are_queues machine.0 queues ≡ true
+  pub script : s ≡ begun machine queues
+  pub text : ls ≡ header.spell machine ∷ map queue_text queues
 
 -- What was read so far: a script, and the beginning of a block behind it.
 pub record IsFilling (mode : Mode) (ls : List (List ℕ)) (s : Script) (n : List ℕ) (t : Draft) : Type 0 where
@@ -80,6 +102,7 @@ pub record IsAsking (mode : Mode) (ls : List (List ℕ)) (s : Script) (b : List 
 -- The lines are those of a state, and its script is of this kind.
 abbrev pub Behind : Mode → List (List ℕ) → Reader → Type 0
 Behind mode ls (Start m) = (ls ≡ []) × (m ≡ mode)
+Behind mode ls (Queueing m s) = IsQueueing ls s × (m ≡ mode)
 Behind mode ls (Top m s) = Spells mode ls s × (m ≡ mode)
 Behind mode ls (Filling m (s, n) t) = IsFilling mode ls s n t × (m ≡ mode)
 Behind mode ls (Reserving m (s, n) t) = IsReserving mode ls s n t × (m ≡ mode)
@@ -119,10 +142,27 @@ part_more : (mode : Mode) (ls : List (List ℕ)) (s t : Script) (p : Part) → S
 part_more mode ls s t p h a = record {
   machine = h.machine;
   valid = h.valid;
+  queues = h.queues;
+  each = h.each;
+  queued = h.queued;
   parts = h.parts ++ p ∷ [];
-  makes = makes_more mode (begun h.machine) s t h.parts p h.makes a;
+  makes = makes_more mode (begun h.machine h.queues) s t h.parts p h.makes a;
   text = ap (λ ks. ks ++ part_lines p) h.text ∙ ap (λ ks. header.spell h.machine ∷ ks)
-      (ap (λ ks. flat_map part_lines h.parts ++ ks) (sym (append-nil (part_lines p))) ∙ sym (flat_map-append part_lines h.parts (p ∷ [])));
+      (append_assoc (map queue_text h.queues) (flat_map part_lines h.parts) (part_lines p) ∙ ap (λ ks. map queue_text h.queues ++ ks)
+      (ap (λ ks. flat_map part_lines h.parts ++ ks) (sym (append-nil (part_lines p))) ∙ sym (flat_map-append part_lines h.parts (p ∷ []))));
+}
+
+-- the machine with its queues is a script
+pub queueing_spelled : (mode : Mode) (ls : List (List ℕ)) (s : Script) → IsQueueing ls s → Spells mode ls s
+queueing_spelled mode ls s h = record {
+  machine = h.machine;
+  valid = h.valid;
+  queues = h.queues;
+  each = h.each;
+  queued = h.queued;
+  parts = [];
+  makes = sym h.script;
+  text = h.text ∙ ap (λ ks. header.spell h.machine ∷ ks) (sym (append-nil (map queue_text h.queues)));
 }
 
 -- one line more
@@ -135,14 +175,14 @@ tail ls before head l xs e = ap (λ ks. ks ++ l ∷ []) e ∙ append_assoc befor
 start_more : (mode : Mode) (ls : List (List ℕ)) (l : List ℕ) (t : Reader) → ls ≡ [] → next (Start mode) l ≡ Some t → Behind mode (ls ++ l ∷ []) t
 start_more mode ls l t e g = bind (read_header l) _ t g (λ m a b.
     let h = header_found l m a in
-    subst (Behind mode (ls ++ l ∷ [])) (same_Some _ _ b) (record { machine = m; valid = h.0; parts = []; makes = refl; text = ap (λ ks. ks ++ l ∷ []) e ∙ ap (λ k. k ∷ []) h.1 }, refl))
+    subst (Behind mode (ls ++ l ∷ [])) (same_Some _ _ b) (record { machine = m; valid = h.0; queues = []; each = tt; queued = refl; script = refl; text = ap (λ ks. ks ++ l ∷ []) e ∙ ap (λ k. k ∷ []) h.1 }, refl))
 
 open_more : (mode : Mode) (ls : List (List ℕ)) (s : Script) (l : List ℕ) (k : Bool) (t : Reader) → Spells mode ls s → l ≡ block_head k → begin_block mode s k ≡ Some t → Behind mode (ls ++ l ∷ []) t
 open_more mode ls s l k t h e g =
     let c = cond_some (may_open k s) (Asking mode s [] k) t g in
     subst (Behind mode (ls ++ l ∷ [])) c.1 (record { before = ls; script = h; opens = c.0; follow = tt; text = ap (λ x. ls ++ x ∷ []) e }, refl)
 
-top_more : (mode : Mode) (ls : List (List ℕ)) (l : List ℕ) (t : Reader) (s : Script) → Spells mode ls s → next (Top mode s) l ≡ Some t → Behind mode (ls ++ l ∷ []) t
+top_more : (mode : Mode) (ls : List (List ℕ)) (l : List ℕ) (t : Reader) (s : Script) → Spells mode ls s → after_top mode s l ≡ Some t → Behind mode (ls ++ l ∷ []) t
 top_more mode ls l t s h g = chosen (strip (codes "template ") l) _ _ _ g
     (λ r a b. bind (read_name r) _ t b (λ n c d.
     let k = cond_some (is_early s && not (is_named s n)) (Filling mode (s, n) no_fields) t d in
@@ -164,6 +204,28 @@ top_more mode ls l t s h g = chosen (strip (codes "template ") l) _ _ _ g
     (λ e. let b' : (if bytes_eq l (codes "client") then begin_block mode s false else None) ≡ Some t = rw e at b1 in by_test (bytes_eq l (codes "client"))
     (λ f. open_more mode ls s l false t h (same_line l _ f) (rw f at b'))
     (λ f. absurd (none-some _ (rw f at b'))))))
+
+queue_more : (ls : List (List ℕ)) (l : List ℕ) (s : Script) (q : QueueSpec) → IsQueueing ls s → queue.valid q → l ≡ queue_text q
+    → are_queues s.config.slots (s.config.queues ++ q ∷ []) ≡ true → IsQueueing (ls ++ l ∷ []) (with_queue s q)
+queue_more ls l s q h v line a = record {
+  machine = h.machine;
+  valid = h.valid;
+  queues = h.queues ++ q ∷ [];
+  each = all_more queue.valid h.queues q h.each v;
+  queued = subst (λ (x : Script). are_queues x.config.slots (x.config.queues ++ q ∷ []) ≡ true) h.script a;
+  script = ap (λ x. with_queue x q) h.script;
+  text = ap (λ ks. ks ++ l ∷ []) h.text ∙ ap (λ x. header.spell h.machine ∷ (map queue_text h.queues ++ x ∷ [])) line
+      ∙ ap (λ ks. header.spell h.machine ∷ ks) (sym (map-append queue_text h.queues (q ∷ [])));
+}
+
+queueing_more : (mode : Mode) (ls : List (List ℕ)) (l : List ℕ) (t : Reader) (s : Script) → IsQueueing ls s → next (Queueing mode s) l ≡ Some t → Behind mode (ls ++ l ∷ []) t
+queueing_more mode ls l t s h g = chosen (strip (codes "queue ") l) _ _ _ g
+    (λ r a b. bind (read_queue r) _ t b (λ q c d.
+    let k = cond_some (are_queues s.config.slots (s.config.queues ++ q ∷ [])) (Queueing mode (with_queue s q)) t d in
+    let m = queue_found r q c in
+    let line : l ≡ queue_text q = strip_found (codes "queue ") l r a ∙ ap (λ x. codes "queue " ++ x) m.1 in
+    subst (Behind mode (ls ++ l ∷ [])) k.1 (queue_more ls l s q h m.0 line k.0, refl)))
+    (λ a b. top_more mode ls l t s (queueing_spelled mode ls s h) b)
 
 filling_more : (mode : Mode) (ls : List (List ℕ)) (l : List ℕ) (to : Reader) (s : Script) (n : List ℕ) (t : Draft) → IsFilling mode ls s n t → next (Filling mode (s, n) t) l ≡ Some to → Behind mode (ls ++ l ∷ []) to
 filling_more mode ls l to s n t h g = by_test (bytes_eq l (codes "end"))
@@ -245,6 +307,7 @@ asking_more mode ls l to s b k h g = by_test (bytes_eq l (codes "end"))
 
 pub behind_more : (mode : Mode) (ls : List (List ℕ)) (l : List ℕ) (s t : Reader) → Behind mode ls s → next s l ≡ Some t → Behind mode (ls ++ l ∷ []) t
 behind_more mode ls l (Start m) t b g = start_more mode ls l t b.0 (subst (λ k. next (Start k) l ≡ Some t) b.1 g)
+behind_more mode ls l (Queueing m s) t b g = queueing_more mode ls l t s b.0 (subst (λ k. next (Queueing k s) l ≡ Some t) b.1 g)
 behind_more mode ls l (Top m s) t b g = top_more mode ls l t s b.0 (subst (λ k. next (Top k s) l ≡ Some t) b.1 g)
 behind_more mode ls l (Filling m (s, n) u) t b g = filling_more mode ls l t s n u b.0 (subst (λ k. next (Filling k (s, n) u) l ≡ Some t) b.1 g)
 behind_more mode ls l (Reserving m (s, n) u) t b g = reserving_more mode ls l t s n u b.0 (subst (λ k. next (Reserving k (s, n) u) l ≡ Some t) b.1 g)

@@ -1,8 +1,11 @@
--- The first line of a script: `machine SLOTS TEXT suspend` or `machine SLOTS TEXT nosuspend`. Our profile.
-use Rattle.std.specs.Prelude.{ℕ, ◌^◌, ◌&&◌, nat_le, Bool, true, false, List, length, codes}
+-- The first lines of a script: `machine SLOTS TEXT suspend` or `machine SLOTS TEXT nosuspend`, and `queue TEXT LIMIT` for each queue.
+-- Our profile.
+use Rattle.std.specs.Prelude.{ℕ, ◌^◌, ◌&&◌, nat_le, Bool, true, false, List, ◌++◌, length, codes}
+use Rattle.drmaa_types.specs.declared.queues.QueueSpec.{QueueSpec}
 use Rattle.drmaa_model.specs.declared.configs.Config.{Config}
 use Rattle.text_codec.specs.Formats.{Format, behind, number, pair, one_of, checked}
 use Rattle.text_codec.specs.Quotes.{text}
+use Rattle.text_words.specs.Queues.{queue}
 use Rattle.script_text.specs.declared.header.TheConstants.{SUSPENDS}
 
 -- whether jobs can be suspended
@@ -20,6 +23,10 @@ is_machine slots name = nat_le 1 slots && (nat_le slots 65_535 && (nat_le 1 (len
 unfoldable pub header : Format (ℕ × (List ℕ × Bool))
 header = checked (λ m. is_machine m.0 m.1.0) (behind (codes "machine ") (pair (number (2 ^ 32)) (pair text suspend)))
 
--- the machine's configuration; a journal has at most 4,000,000
-abbrev pub config_of : ℕ × (List ℕ × Bool) → Config
-config_of m = record { slots = m.0; name = m.1.0; suspend = m.1.1; journal = 4_000_000 }
+-- the line of a queue
+abbrev pub queue_text : QueueSpec → List ℕ
+queue_text q = codes "queue " ++ queue.spell q
+
+-- the configuration of a machine with these queues; a journal has at most 4,000,000
+abbrev pub config_of : ℕ × (List ℕ × Bool) → List QueueSpec → Config
+config_of m queues = record { slots = m.0; name = m.1.0; suspend = m.1.1; journal = 4_000_000; queues = queues }

@@ -5,5 +5,6 @@ pub mod Scripts
 pub mod Automaton
 pub mod NameLaws
 pub mod HeaderLaws
+pub mod QueueLaws
 pub mod BlockLaws
 pub mod ScriptLaws

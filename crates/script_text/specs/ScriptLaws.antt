@@ -4,12 +4,15 @@ use Rattle.std.specs.Prelude.{IsUtf8}
 use Rattle.std.specs.List.{AllByRecursion, flat_map}
 use Rattle.std.specs.Str.{bytes_eq}
 use Rattle.std.proofs.lemmas.Option.{none-some, same_Some}
+use Rattle.drmaa_types.specs.declared.queues.QueueSpec.{QueueSpec}
+use Rattle.drmaa_types.specs.Queues.{are_queues}
 use Rattle.job_template.specs.declared.templates.ReservationTemplate.{ReservationTemplate}
 use Rattle.text_codec.specs.Formats.{first_word, behind_word, number, pair, behind, checked}
 use Rattle.text_codec.specs.Quotes.{text}
 use Rattle.text_codec.specs.Fields.{always, no_more}
 use Rattle.text_codec.specs.Sums.{sum_of}
 use Rattle.text_codec.specs.StepLaws.{by_test}
+use Rattle.text_words.specs.Queues.{queue}
 use Rattle.text_lines.specs.Lines.{kept, GoesOn}
 use Rattle.text_lines.specs.Automata.{Runs, Reads, GoesBy, from, runs-append}
 use Rattle.script_lines.specs.declared.lines.Line.{Line}
@@ -25,13 +28,14 @@ use Rattle.script_lines.specs.Templates.{no_fields, is_set, with_field, made, Is
 use Rattle.script_text.specs.declared.scripts.Mode.{Mode}
 use Rattle.script_text.specs.declared.scripts.Script.{Script}
 use Rattle.script_text.specs.declared.states.Reader.{Reader}
-use Rattle.script_text.specs.declared.states.Reader.TheVariants.{Start, Top, Filling, Reserving, Asking}
-use Rattle.script_text.specs.Header.{suspend, header}
+use Rattle.script_text.specs.declared.states.Reader.TheVariants.{Start, Queueing, Top, Filling, Reserving, Asking}
+use Rattle.script_text.specs.Header.{suspend, header, queue_text}
 use Rattle.script_text.specs.HeaderLaws.{header_laws}
+use Rattle.script_text.specs.QueueLaws.{front-queues}
 use Rattle.script_text.specs.Follows.{lines_of}
 use Rattle.script_text.specs.Scripts.{is_early, is_named, may_open, begun, with_template, with_reservation, with_block, Follow, line_text, template_head, reservation_head, block_head, Part, Job, Reservation, Lines, part_lines, After, Makes, Spells}
 use Rattle.script_text.specs.Automaton.{next, ends, mode_of, scripts_stepping}
-use Rattle.script_text.specs.BlockLaws.{same_line, header_again, name_again, Behind, behind_more}
+use Rattle.script_text.specs.BlockLaws.{same_line, header_again, name_again, queue_again, Behind, IsQueueing, queueing_spelled, behind_more}
 
 abbrev pub Goes : Reader → List ℕ → Reader → Type 0
 Goes s l t = next s l ≡ Some t
@@ -43,6 +47,7 @@ behind_run mode front (l ∷ ls) s t b r =
 
 ended : (mode : Mode) (ls : List (List ℕ)) (t : Reader) (q : Script) → Behind mode ls t → ends t ≡ Some q → Spells mode ls q
 ended mode ls (Start m) q b e = absurd (none-some _ e)
+ended mode ls (Queueing m s) q b e = subst (Spells mode ls) (same_Some s q e) (queueing_spelled mode ls s b.0)
 ended mode ls (Top m s) q b e = subst (Spells mode ls) (same_Some s q e) b.0
 ended mode ls (Filling m (s, n) t) q b e = absurd (none-some _ e)
 ended mode ls (Reserving m (s, n) t) q b e = absurd (none-some _ e)
@@ -124,11 +129,36 @@ makes_run : (mode : Mode) (s t : Script) (ps : List Part) → Makes mode s ps t 
 makes_run mode s t [] m = ap (λ x. Top mode x) m
 makes_run mode s t (p ∷ ps) m = runs-append Goes (Top mode s) (Top mode m.0) (Top mode t) (part_lines p) (flat_map part_lines ps) (part_run mode s m.0 p m.1) (makes_run mode m.0 t ps m.2)
 
+-- the lines of queues
+queues_run : (mode : Mode) (m : ℕ × (List ℕ × Bool)) (front qs : List QueueSpec) → AllByRecursion queue.valid qs → are_queues m.0 (front ++ qs) ≡ true
+    → Runs Goes (Queueing mode (begun m front)) (map queue_text qs) (Queueing mode (begun m (front ++ qs)))
+queues_run mode m front [] each a = ap (λ qs. Queueing mode (begun m qs)) (sym (append-nil front))
+queues_run mode m front (q ∷ qs) each a =
+    let all : (front ++ q ∷ []) ++ qs ≡ front ++ q ∷ qs = append_assoc front (q ∷ []) qs in
+    let longer : are_queues m.0 ((front ++ q ∷ []) ++ qs) ≡ true = ap (are_queues m.0) all ∙ a in
+    let may : are_queues m.0 (front ++ q ∷ []) ≡ true = front-queues m.0 (front ++ q ∷ []) qs longer in
+    let rest = queues_run mode m (front ++ q ∷ []) qs each.1 longer in
+    (Queueing mode (begun m (front ++ q ∷ [])), rw (queue_again q each.0, may) refl, subst (λ ks. Runs Goes (Queueing mode (begun m (front ++ q ∷ []))) (map queue_text qs) (Queueing mode (begun m ks))) all rest)
+
+-- no block begins as a queue's line does
+queues_end : (mode : Mode) (s t : Script) (p : Part) → Runs Goes (Top mode s) (part_lines p) (Top mode t) → Runs Goes (Queueing mode s) (part_lines p) (Top mode t)
+queues_end mode s t (Job n fs) r = r
+queues_end mode s t (Reservation n fs) r = r
+queues_end mode s t (Lines true b) r = r
+queues_end mode s t (Lines false b) r = r
+
+-- all that stands behind the machine's queues
+blocks_run : (mode : Mode) (s q : Script) (ps : List Part) → Makes mode s ps q → (t : Reader) × Runs Goes (Queueing mode s) (flat_map part_lines ps) t × (ends t ≡ Some q)
+blocks_run mode s q [] m = (Queueing mode s, refl, ap (λ x. Some x) m)
+blocks_run mode s q (p ∷ ps) m = (Top mode q, runs-append Goes (Queueing mode s) (Top mode m.0) (Top mode q) (part_lines p) (flat_map part_lines ps) (queues_end mode s m.0 p (part_run mode s m.0 p m.1)) (makes_run mode m.0 q ps m.2), refl)
+
 complete : (mode : Mode) (ls : List (List ℕ)) (q : Script) → Spells mode ls q → (t : Reader) × Runs Goes (Start mode) ls t × (ends t ≡ Some q)
 complete mode ls q s =
-    let first : next (Start mode) (header.spell s.machine) ≡ Some (Top mode (begun s.machine)) = rw (header_again s.machine s.valid) refl in
-    let run : Runs Goes (Start mode) (header.spell s.machine ∷ flat_map part_lines s.parts) (Top mode q) = (Top mode (begun s.machine), first, makes_run mode (begun s.machine) q s.parts s.makes) in
-    (Top mode q, subst (λ ks. Runs Goes (Start mode) ks (Top mode q)) (sym s.text) run, refl)
+    let first : next (Start mode) (header.spell s.machine) ≡ Some (Queueing mode (begun s.machine [])) = rw (header_again s.machine s.valid) refl in
+    let blocks = blocks_run mode (begun s.machine s.queues) q s.parts s.makes in
+    let rest = runs-append Goes (Queueing mode (begun s.machine [])) (Queueing mode (begun s.machine s.queues)) blocks.0 (map queue_text s.queues) (flat_map part_lines s.parts) (queues_run mode s.machine [] s.queues s.each s.queued) blocks.1 in
+    let run : Runs Goes (Start mode) (header.spell s.machine ∷ (map queue_text s.queues ++ flat_map part_lines s.parts)) blocks.0 = (Queueing mode (begun s.machine []), first, rest) in
+    (blocks.0, subst (λ ks. Runs Goes (Start mode) ks blocks.0) (sym s.text) run, blocks.2)
 
 -- from every state some script goes on
 some_machine : ℕ × (List ℕ × Bool)
@@ -148,14 +178,20 @@ some_kept = refl
 goes_by : (mode : Mode) (ls : List (List ℕ)) (l : List ℕ) (s : Reader) (q : Script) → Behind mode ls s → next s l ≡ Some (Top mode q) → Spells mode (ls ++ l ∷ []) q
 goes_by mode ls l s q b g = (behind_more mode ls l s (Top mode q) b g).0
 
+machine_read : (mode : Mode) (ls : List (List ℕ)) (m : Mode) → Behind mode ls (Start m) → IsQueueing (ls ++ header.spell some_machine ∷ []) (begun some_machine [])
+machine_read mode ls m b =
+    let first : next (Start m) (header.spell some_machine) ≡ Some (Queueing mode (begun some_machine [])) = rw (header_again some_machine some_valid) (ap (λ k. Some (Queueing k (begun some_machine []))) b.1) in
+    (behind_more mode ls (header.spell some_machine) (Start m) (Queueing mode (begun some_machine [])) b first).0
+
 going_on : (mode : Mode) (ls : List (List ℕ)) (t : Reader) → Behind mode ls t → GoesOn (Spells mode) ls
 going_on mode ls (Start m) b = record {
   more = header.spell some_machine ∷ [];
   are_lines = ((header_laws.clean some_machine some_valid).one_line, tt);
-  text = begun some_machine;
-  spelled = goes_by mode ls (header.spell some_machine) (Start m) (begun some_machine) b (rw (header_again some_machine some_valid) (ap (λ k. Some (Top k (begun some_machine))) b.1));
+  text = begun some_machine [];
+  spelled = queueing_spelled mode _ (begun some_machine []) (machine_read mode ls m b);
   unskipped = some_kept;
 }
+going_on mode ls (Queueing m s) b = record { more = []; are_lines = tt; text = s; spelled = subst (λ ks. Spells mode ks s) (sym (append-nil ls)) (queueing_spelled mode ls s b.0); unskipped = refl }
 going_on mode ls (Top m s) b = record { more = []; are_lines = tt; text = s; spelled = subst (λ ks. Spells mode ks s) (sym (append-nil ls)) b.0; unskipped = refl }
 going_on mode ls (Filling m (s, n) t) b = record {
   more = codes "end" ∷ [];

@@ -1,9 +1,12 @@
 -- How a script is made up, and how it is spelled: our profile.
 use Rattle.std.specs.Prelude.{◌≡◌, ℕ, ◌&&◌, ◌||◌, not, nat_lt, Bool, true, false, List, [], ◌∷◌, ◌++◌, length, map, Some, None, is_some, codes}
 use Rattle.std.specs.List.{AllByRecursion, flat_map}
+use Rattle.drmaa_types.specs.declared.queues.QueueSpec.{QueueSpec}
+use Rattle.drmaa_types.specs.Queues.{are_queues}
 use Rattle.job_template.specs.declared.templates.JobTemplate.{JobTemplate}
 use Rattle.job_template.specs.declared.templates.ReservationTemplate.{ReservationTemplate}
 use Rattle.text_codec.specs.Words.{name}
+use Rattle.text_words.specs.Queues.{queue}
 use Rattle.script_lines.specs.declared.lines.Line.{Line}
 use Rattle.script_lines.specs.declared.fields.JobField.{JobField}
 use Rattle.script_lines.specs.declared.fields.ReservationField.{ReservationField}
@@ -13,7 +16,7 @@ use Rattle.script_lines.specs.Templates.{no_fields, made, IsJobField, job_text, 
 use Rattle.script_text.specs.declared.scripts.Mode.{Mode}
 use Rattle.script_text.specs.declared.scripts.Script.{Script}
 use Rattle.script_text.specs.Names.{is_there}
-use Rattle.script_text.specs.Header.{header, config_of}
+use Rattle.script_text.specs.Header.{header, queue_text, config_of}
 use Rattle.script_text.specs.Follows.{lines_of, may_stand}
 
 -- no block but templates was read
@@ -33,8 +36,11 @@ abbrev pub may_open : Bool → Script → Bool
 may_open true s = is_early s
 may_open false s = nat_lt (length s.clients) 32
 
-abbrev pub begun : ℕ × (List ℕ × Bool) → Script
-begun m = record { config = config_of m; jobs = []; reservations = []; setup = None; clients = [] }
+abbrev pub begun : ℕ × (List ℕ × Bool) → List QueueSpec → Script
+begun m queues = record { config = config_of m queues; jobs = []; reservations = []; setup = None; clients = [] }
+
+abbrev pub with_queue : Script → QueueSpec → Script
+with_queue s q = record s { config = record s.config { queues = s.config.queues ++ q ∷ [] } }
 
 abbrev pub with_template : Script → List ℕ → JobTemplate → Script
 with_template s n t = record s { jobs = s.jobs ++ (n, t) ∷ [] }
@@ -89,10 +95,13 @@ abbrev pub Makes : Mode → Script → List Part → Script → Type 0
 Makes m s [] t = s ≡ t
 Makes m s (p ∷ ps) t = (u : Script) × After m s p u × Makes m u ps t
 
--- These lines are a script's: its machine, and blocks that make it.
+-- These lines are a script's: its machine, the queues that such a machine may have, each on a line, and blocks that make it.
 pub record Spells (m : Mode) (lines : List (List ℕ)) (s : Script) : Type 0 where
   pub machine : ℕ × (List ℕ × Bool)
   pub valid : header.valid machine
+  pub queues : List QueueSpec
+  pub each : AllByRecursion queue.valid queues
+  pub queued : are_queues machine.0 queues ≡ true
   pub parts : List Part
-  pub makes : Makes m (begun machine) parts s
-  pub text : lines ≡ header.spell machine ∷ flat_map part_lines parts
+  pub makes : Makes m (begun machine queues) parts s
+  pub text : lines ≡ header.spell machine ∷ (map queue_text queues ++ flat_map part_lines parts)

@@ -1,14 +1,16 @@
-//! The first line of a script.
-ghost use Rattle.std.specs.Prelude.{◌≡◌};
+//! The first lines of a script: its machine, and the queues.
+ghost use Rattle.std.specs.Prelude.{◌≡◌, []};
 ghost use Rattle.text_codec.specs.Formats.{Answers, Says, first_spelled};
 ghost use Rattle.text_codec.specs.Formats as form;
+ghost use Rattle.script_text.specs.Automaton as automaton;
 ghost use Rattle.script_text.specs.Header as header;
 ghost use Rattle.script_text.specs.declared.header.TheConstants.{SUSPENDS};
 
 use drmaa_model::Config;
-use drmaa_types::Text;
+use drmaa_types::{ListOf, QueueSpec, Text};
 use std::alloc::Global;
 use text_codec::{Cursor, Unread};
+use text_words::ReadForm;
 
 /// Slots, a name, and whether jobs can be suspended.
 pub(crate) type Machine = (u32, (Text, bool));
@@ -72,9 +74,19 @@ pub(crate) fn read_header(alloc: Global, line: &[u8]) -> Result<Machine, Unread>
     Ok(machine)
 }
 
-/// The configuration of such a machine.
-pub(crate) fn config_of(machine: Machine) -> Config
-    ensures { result ≡ header.config_of machine }
+/// The queue that ends a line, behind its key word.
+#[tactic(auto, unfolding(crate::specs::Automaton::read_queue))]
+pub(crate) fn read_queue(cursor: &mut Cursor) -> Result<QueueSpec, Unread>
+    ensures { Says (automaton.read_queue cursor.old) result }
+{
+    let queue = QueueSpec::read(cursor)?;
+    cursor.end()?;
+    Ok(queue)
+}
+
+/// The configuration of such a machine, without queues.
+pub(crate) fn config_of(alloc: Global, machine: Machine) -> Config
+    ensures { result ≡ header.config_of machine [] }
 {
     let (slots, (name, suspend)) = machine;
     Config {
@@ -82,5 +94,6 @@ pub(crate) fn config_of(machine: Machine) -> Config
         name,
         suspend,
         journal: JOURNAL,
+        queues: ListOf::new(alloc),
     }
 }

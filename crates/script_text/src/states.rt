@@ -9,9 +9,9 @@ ghost use Rattle.script_text.specs.declared.states.Reader.{Reader};
 
 use crate::bindings::is_there;
 use crate::follow::may_stand;
-use crate::header::{config_of, read_header};
+use crate::header::{config_of, read_header, read_queue};
 use crate::{Block, Keyed, Mode, Script};
-use drmaa_types::{ListOf, Text};
+use drmaa_types::{ListOf, QueueSpec, Text, are_queues};
 use job_template::ReservationTemplate;
 use script_lines::{
     Draft, JobField, Line, ReservationField, is_reservation_set, is_set, new_reservation,
@@ -49,7 +49,12 @@ pub enum Reader {
     Start {
         mode: Mode,
     },
-    /// Whole blocks, behind the machine line.
+    /// The machine line, and lines of queues behind it.
+    Queueing {
+        mode: Mode,
+        script: Script,
+    },
+    /// Whole blocks, behind the machine line and those of queues.
     Top {
         mode: Mode,
         script: Script,
@@ -88,13 +93,43 @@ fn after_start(alloc: Global, mode: Mode, line: &[u8]) -> Result<Reader, Unread>
 {
     let machine = read_header(alloc, line)?;
     let script = Script {
-        config: config_of(machine),
+        config: config_of(alloc, machine),
         jobs: Keyed::new(alloc),
         reservations: Keyed::new(alloc),
         setup: None,
         clients: ListOf::new(alloc),
     };
-    Ok(Reader::Top { mode, script })
+    Ok(Reader::Queueing { mode, script })
+}
+
+/// The script with one queue more.
+fn with_queue(alloc: Global, script: Script, queue: QueueSpec) -> Result<Script, Unread>
+    ensures { Says (Some (scripts.with_queue script queue)) result }
+{
+    let mut script = script;
+    let queues = std::mem::replace(&mut script.config.queues, ListOf::new(alloc));
+    match with_last(queues, queue) {
+        Ok(queues) => {
+            script.config.queues = queues;
+            Ok(script)
+        }
+        Err(fault) => {
+            drop(script);
+            Err(fault.into())
+        }
+    }
+}
+
+fn queued(alloc: Global, mode: Mode, script: Script, queue: QueueSpec) -> Result<Reader, Unread>
+    ensures { Says (automaton.queued mode script queue) result }
+{
+    let script = with_queue(alloc, script, queue)?;
+    if are_queues(script.config.slots, &script.config.queues) {
+        Ok(Reader::Queueing { mode, script })
+    } else {
+        drop(script);
+        Err(Unread::Unspelled)
+    }
 }
 
 fn is_nil(blocks: &[Block]) -> bool
@@ -206,7 +241,7 @@ fn read_name(cursor: &mut Cursor) -> Result<Text, Unread>
 }
 
 fn after_top(alloc: Global, mode: Mode, script: Script, line: &[u8]) -> Result<Reader, Unread>
-    ensures { Says (automaton.next (Reader.Top mode script) line.now) result }
+    ensures { Says (automaton.after_top mode script line.now) result }
 {
     let mut cursor = Cursor::new(alloc, line);
     if cursor.skip(b"template ") {
@@ -227,6 +262,23 @@ fn after_top(alloc: Global, mode: Mode, script: Script, line: &[u8]) -> Result<R
         }
     } else {
         opened(alloc, mode, script, line)
+    }
+}
+
+fn after_queueing(alloc: Global, mode: Mode, script: Script, line: &[u8]) -> Result<Reader, Unread>
+    ensures { Says (automaton.next (Reader.Queueing mode script) line.now) result }
+{
+    let mut cursor = Cursor::new(alloc, line);
+    if cursor.skip(b"queue ") {
+        match read_queue(&mut cursor) {
+            Ok(queue) => queued(alloc, mode, script, queue),
+            Err(fault) => {
+                drop(script);
+                Err(fault)
+            }
+        }
+    } else {
+        after_top(alloc, mode, script, line)
     }
 }
 
@@ -471,6 +523,7 @@ impl LineReader for Reader {
     fn next(self, alloc: Global, line: &[u8]) -> Result<Reader, Unread> {
         match self {
             Reader::Start { mode } => after_start(alloc, mode, line),
+            Reader::Queueing { mode, script } => after_queueing(alloc, mode, script, line),
             Reader::Top { mode, script } => after_top(alloc, mode, script, line),
             Reader::Filling {
                 mode,
@@ -493,7 +546,7 @@ impl LineReader for Reader {
 
     fn ends(self) -> Option<Script> {
         match self {
-            Reader::Top { script, .. } => Some(script),
+            Reader::Queueing { script, .. } | Reader::Top { script, .. } => Some(script),
             other => {
                 drop(other);
                 None

@@ -5,7 +5,7 @@ ghost use Rattle.call_history.specs.Clients.{retired_of};
 
 use call_history::{Bell, Config, Desk, Machine, MachineOpener, SharedMachine};
 use client_sessions::plain_job;
-use drmaa_types::{Clock, IdList, Moment, StepClock, Text};
+use drmaa_types::{Clock, IdList, Moment, QueueList, StepClock, Text};
 use job_template::JobTemplate;
 use std::alloc::Global;
 use std::process::Abort;
@@ -41,7 +41,7 @@ pub fn plain(alloc: Global) -> JobTemplate {
     plain_job(alloc, text(alloc, "true"))
 }
 
-/// A machine with four slots that has served nothing, and its opener.
+/// A machine with four slots and no queues that has served nothing, and its opener.
 pub fn machine(rt: &impl Abort, alloc: Global, journal: u64) -> (SharedMachine, MachineOpener)
     requires { 1 ≤ journal × journal ≤ 4000000 }
     ensures opener { BelongsTo result.0 result.1 }
@@ -52,6 +52,7 @@ pub fn machine(rt: &impl Abort, alloc: Global, journal: u64) -> (SharedMachine, 
         name: text(alloc, "node1"),
         suspend: true,
         journal,
+        queues: QueueList::new(alloc),
     };
     match SharedMachine::new(alloc, config) {
         Ok(made) => made,

@@ -6,5 +6,7 @@ pub mod Numbers
 pub mod NumberLaws
 pub mod TemplateParts
 pub mod TemplatePartLaws
+pub mod Queues
+pub mod QueueLaws
 pub mod Infos
 pub mod InfoLaws

@@ -113,6 +113,7 @@ which_stands which.MaxSlots = refl
 which_stands which.DeadlineTime = refl
 which_stands which.ResourceLimits = refl
 which_stands which.ReservationName = refl
+which_stands which.QueueName = refl
 which_stands which.StartTime = refl
 which_stands which.EndTime = refl
 which_stands which.Duration = refl

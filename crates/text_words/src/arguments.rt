@@ -13,7 +13,7 @@ use std::alloc::AllocError;
 use text_codec::{Cursor, Unread};
 
 /// The arguments that a call could not accept.
-pub const ARGUMENTS: [Which; 23] = [
+pub const ARGUMENTS: [Which; 24] = [
     Which::SessionName,
     Which::Job,
     Which::Array,
@@ -34,6 +34,7 @@ pub const ARGUMENTS: [Which; 23] = [
     Which::DeadlineTime,
     Which::ResourceLimits,
     Which::ReservationName,
+    Which::QueueName,
     Which::StartTime,
     Which::EndTime,
     Which::Duration,
@@ -64,6 +65,7 @@ pub fn spell_which(which: Which) -> &'static str
         Which::DeadlineTime => "deadlineTime",
         Which::ResourceLimits => "resourceLimits",
         Which::ReservationName => "reservationName",
+        Which::QueueName => "queueName",
         Which::StartTime => "startTime",
         Which::EndTime => "endTime",
         Which::Duration => "duration",

@@ -8,6 +8,7 @@ mod info_printing;
 mod infos;
 mod numbers;
 mod printing;
+mod queues;
 mod reading;
 mod states;
 mod template_parts;

@@ -6,7 +6,7 @@ use super::client::submit;
 use attendant::{Done, Reaper, run_attendant};
 use call_history::{Bell, Config, Desk, SharedMachine};
 use child_spawner::{LocalChild, LocalSpawner};
-use drmaa_types::{Moment, Refusal, StepClock, Text};
+use drmaa_types::{Moment, QueueList, Refusal, StepClock, Text};
 use std::alloc::Global;
 use std::sync::Wait;
 use std::thread::{Threads, join};
@@ -104,6 +104,7 @@ pub fn run<R: Threads + Wait + Pause + Sync>(
         name: Text::from_string(String::from_str(alloc, "bench").ok()?),
         suspend: true,
         journal: JOURNAL,
+        queues: QueueList::new(alloc),
     };
     let (shared, mut opener) = SharedMachine::new(alloc, config).ok()?;
     let bell = Bell::new();

@@ -1,9 +1,10 @@
 use Rattle.std.proofs.Common.{◌≡◌, ℕ, ◌≤◌, ◌&&◌, nat_le, length, true, arith}
 use Rattle.std.proofs.lemmas.Bool.{and_parts}
 use Rattle.std.proofs.lemmas.Bool.Decides.{nat_tests}
+use Rattle.drmaa_types.specs.Queues.{are_queues}
 use Rattle.drmaa_model.specs.declared.configs.Config.{Config}
 use Rattle.text_codec.specs.Formats.{checked}
-use Rattle.journal_text.specs.Journals.{header, title}
+use Rattle.journal_text.specs.Journals.{header, title, machine_of, is_machine}
 use Rattle.drmaa_script.proofs.Checked.{judges_of}
 use Rattle.drmaa_script.proofs.checks.judged.Goals as goal
 
@@ -14,13 +15,15 @@ record IsMade (c : Config) : Type 0 where
   least : 1 ≤ c.slots
   most : c.slots ≤ 65_535
   journal : c.journal ≡ 4_000_000
+  queues : are_queues c.slots c.queues ≡ true
 
 made : (c : Config) → header.valid c → IsMade c
 unfolding header title checked
 made c v =
-    let first = and_parts (nat_le 1 c.slots) (nat_le c.slots 65535 && (nat_le 1 (length c.name) && nat_le (length c.name) 255)) v.0.1 in
+    let both = and_parts (is_machine (machine_of c)) (are_queues c.slots c.queues) v.0.1 in
+    let first = and_parts (nat_le 1 c.slots) (nat_le c.slots 65535 && (nat_le 1 (length c.name) && nat_le (length c.name) 255)) both.0 in
     let second = and_parts (nat_le c.slots 65535) (nat_le 1 (length c.name) && nat_le (length c.name) 255) first.1 in
-    record { least = at_most 1 c.slots first.0; most = at_most c.slots 65535 second.0; journal = v.1 }
+    record { least = at_most 1 c.slots first.0; most = at_most c.slots 65535 second.0; journal = v.1; queues = both.1 }
 
 pub check-requires-clause-least_slots : goal.check-requires-clause-least_slots
 check-requires-clause-least_slots c = (made c.args.journal.config c.requires.config).least
@@ -33,6 +36,9 @@ check-requires-clause-least_journal c = let is = (made c.args.journal.config c.r
 
 pub check-requires-clause-most_journal : goal.check-requires-clause-most_journal
 check-requires-clause-most_journal c = let is = (made c.args.journal.config c.requires.config).journal in omega arith
+
+pub check-requires-clause-queues : goal.check-requires-clause-queues
+check-requires-clause-queues c = (made c.args.journal.config c.requires.config).queues
 
 pub check-requires-clause-kept : goal.check-requires-clause-kept
 check-requires-clause-kept c = c.a_writable_journal_keeps_its_calls.ensures c.args.journal.config c.args.journal.entries c.requires

@@ -34,7 +34,7 @@ joins c =
     let t = c.args.template in
     may-join c.args.home t c.args.indices c.args.entry q c.in-Ok.rows.items (advance-fit c.args.entry c.args.at p c.requires.kept.fit) c.requires.free
     (subst (λ (n : ℕ). n ≤ most_kept_text) (text c.before) (c.in-Ok.ensures {u = tt}).fits)
-    ((c.in-Ok.ensures {u = tt}).rows ∙ ap (λ (b : Batch). batch_rows b b.first (batch_members b t c.args.indices)) c.batch_of-batch.ensures ∙ asked-rows c.args.home q t c.args.indices)
+    ((c.in-Ok.ensures {u = tt}).rows ∙ ap (λ (b : Batch). batch_rows p.queues b b.first (batch_members b t c.args.indices)) c.batch_of-batch.ensures ∙ asked-rows c.args.home q t c.args.indices)
 
 pub push_rows-requires-clause-few : goal.push_rows-requires-clause-few
 push_rows-requires-clause-few c = (let may = joins c.before.before in let count = may.count in let few = may.few in omega (arith, count, few))

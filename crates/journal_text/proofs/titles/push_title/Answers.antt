@@ -1,7 +1,7 @@
-use Rattle.std.proofs.Common.{◌++◌, ◌^◌, codes, ap, ◌∙◌, append_assoc}
-use Rattle.text_codec.specs.Formats.{number, pair, behind, checked}
-use Rattle.text_codec.specs.Quotes.{text}
-use Rattle.journal_text.specs.Journals.{suspend, title, machine_of}
+use Rattle.std.proofs.Common.{◌++◌, codes, ap, ◌∙◌, append_assoc}
+use Rattle.text_codec.specs.Formats.{pair, behind, checked}
+use Rattle.journal_text.specs.Queues.{queues}
+use Rattle.journal_text.specs.Journals.{machine, title, title_of}
 use Rattle.journal_text.specs.TextLaws.{title_clean}
 use Rattle.journal_text.proofs.Answered.{on_ok}
 use Rattle.journal_text.proofs.titles.push_title.Goals as goal
@@ -10,8 +10,8 @@ pub returns-clause-text : goal.returns-clause-text
 unfolding title checked behind
 returns-clause-text c =
     let front = c.args.out.now.items in
-    let rest = (pair (number (2 ^ 32)) (pair text suspend)).spell (machine_of c.args.config.now) in
-    on_ok _ _ c.push_machine.result (λ h. h ∙ ap (λ t. t ++ rest) c.in_ok-extend_from_slice.ensures.items ∙ append_assoc front (codes "drmaa-journal 1 ") rest) c.push_machine.ensures.text
+    let rest = (pair machine queues).spell (title_of c.args.config.now) in
+    on_ok _ _ c.push_parts.result (λ h. h ∙ ap (λ t. t ++ rest) c.in_ok-extend_from_slice.ensures.items ∙ append_assoc front (codes "drmaa-journal 2 ") rest) c.push_parts.ensures.text
 
 pub returns-clause-clean : goal.returns-clause-clean
-returns-clause-clean c = on_ok _ _ c.push_machine.result (λ v. title_clean c.args.config.now v) c.push_machine.ensures.valid
+returns-clause-clean c = on_ok _ _ c.push_parts.result (λ v. title_clean c.args.config.now v) c.push_parts.ensures.valid

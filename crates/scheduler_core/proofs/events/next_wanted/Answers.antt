@@ -1,5 +1,4 @@
 use Rattle.std.proofs.Common.{◌&&◌, ◌||◌, ◌∙◌, ap, sym, Bool}
-use Rattle.drmaa_types.specs.States.{is_waiting}
 use Rattle.drmaa_model.specs.Events.{is_set_to}
 use Rattle.drmaa_model.specs.Events.{first_after}
 use Rattle.scheduler_core.proofs.AfterLaws.{joined, after-none}

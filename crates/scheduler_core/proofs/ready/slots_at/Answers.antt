@@ -1,16 +1,18 @@
-use Rattle.std.proofs.Common.{ℕ, ◌-◌, min, refl, sym, ◌∙◌, ap, subst}
+use Rattle.std.proofs.Common.{◌≤◌, ℕ, ◌-◌, min, refl, sym, ◌∙◌, ap, subst, arith}
 use Rattle.reservation_calendar.specs.Schedules.{Schedule}
 use Rattle.plan_book.specs.Book.{plan_of}
 use Rattle.plan_book.specs.Ties.{IsTied}
-use Rattle.scheduler_core.proofs.LaunchSteps.{most-calendar, most-inside, calendar-has}
+use Rattle.scheduler_core.specs.Launches.{capped}
+use Rattle.scheduler_core.proofs.LaunchSteps.{most-calendar, most-inside, calendar-has, capped-least}
 use Rattle.scheduler_core.proofs.ready.slots_at.Goals as goal
 
 pub returns-in-Some-largest : goal.returns-in-Some-largest
 returns-in-Some-largest c =
     let p = plan_of c.args.book.now in
     let found = c.in-Some-largest.ensures {u = tt} in
-    most-calendar c.calendar.result.now p c.args.moment c.args.row.now.wants c.in-Some-largest.slots c.min-most.result c.args.used c.planned_end-planned.result
-    c.requires.kept.fit (subst (λ (s : Schedule). IsTied s p) (sym c.calendar.ensures) c.requires.kept.tied) c.requires.later c.in-None.is c.requires.used c.requires.free (c.min-most.ensures ∙ ap (λ (n : ℕ). min c.args.row.now.wants.max (n - c.args.used)) c.total.ensures) c.planned_end-planned.ensures
+    most-calendar c.calendar.result.now p c.args.moment c.args.row.now.wants c.in-Some-largest.slots c.capped-most.result c.args.used c.left_in_queue.result c.planned_end-planned.result
+    c.requires.kept.fit (subst (λ (s : Schedule). IsTied s p) (sym c.calendar.ensures) c.requires.kept.tied) c.requires.later c.in-None.is c.requires.used c.requires.free
+    (c.capped-most.ensures ∙ ap (λ (n : ℕ). capped n c.left_in_queue.result) (c.min-most.ensures ∙ ap (λ (n : ℕ). min c.args.row.now.wants.max (n - c.args.used)) c.total.ensures)) c.left_in_queue.ensures c.planned_end-planned.ensures
     found.range.0 found.range.1 found.fits found.greatest
 
 pub returns-in-None-largest : goal.returns-in-None-largest
@@ -25,3 +27,11 @@ returns-in-Some c =
     let p = plan_of c.args.book.now in
     most-inside p c.args.moment c.args.row.now.wants c.in-Some.number c.min.result c.min-most.result c.args.used c.left_in.result c.in-Some.is
     c.requires.used c.requires.free c.requires.order (c.min-most.ensures ∙ ap (λ (n : ℕ). min c.args.row.now.wants.max (n - c.args.used)) c.total.ensures) c.left_in.ensures c.min.ensures c.requires.has
+
+pub largest-requires-clause-range : goal.largest-requires-clause-range
+largest-requires-clause-range c =
+    let p = plan_of c.args.book.now in
+    let w = c.args.row.now.wants in
+    let whole : w.min ≤ c.min-most.result = omega (arith, c.min-most.ensures, c.total.ensures, c.requires.free, c.requires.order) in
+    subst (λ (n : ℕ). w.min ≤ n) (sym c.capped-most.ensures)
+    (capped-least p c.args.moment w w.min c.min-most.result c.left_in_queue.result c.requires.kept.fit c.in-None.is c.left_in_queue.ensures c.requires.has whole)

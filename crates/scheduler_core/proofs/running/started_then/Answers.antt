@@ -1,8 +1,5 @@
 use Rattle.std.proofs.Common.{max, filter, sym, ◌∙◌, ap}
-use Rattle.drmaa_types.specs.declared.identifiers.JobId.{JobId}
 use Rattle.drmaa_model.specs.declared.courses.Course.{Course}
-use Rattle.drmaa_model.specs.declared.rows.Row.{Row}
-use Rattle.drmaa_model.specs.Courses.{is_asked}
 use Rattle.drmaa_model.specs.Time.{lasts}
 use Rattle.drmaa_model.specs.TimeLaws.{timed-only}
 use Rattle.plan_book.specs.Book.{plan_of}

@@ -1,5 +1,6 @@
-use Rattle.std.proofs.Common.{◌≡◌, ◌+◌, ◌≤◌, ℕ, List, [], ◌∷◌, ◌++◌, length, ap, sym, ◌∙◌, subst, arith}
+use Rattle.std.proofs.Common.{◌≡◌, ◌+◌, ◌≤◌, ℕ, true, List, [], ◌∷◌, ◌++◌, length, ap, sym, ◌∙◌, subst, arith}
 use Rattle.std.specs.Prelude.{Err, IfOk}
+use Rattle.drmaa_types.specs.Queues.{are_queues}
 use Rattle.drmaa_model.specs.declared.configs.Config.{Config}
 use Rattle.script_text.specs.declared.scripts.Mode.TheVariants as mode
 use Rattle.script_text.specs.Follows.{lines_of}
@@ -28,6 +29,10 @@ new-requires-clause-least_journal g c =
 pub new-requires-clause-most_journal : goal.new-requires-clause-most_journal
 new-requires-clause-most_journal g c =
     subst (λ (f : Config). f.journal ≤ 4000000) (sym c.in_ok-config.ensures) (c.each_script_can_be_played.ensures mode.Threads c.requires.threads.0 c.args.script.now c.requires.threads.1).most_journal
+
+pub new-requires-clause-queues : goal.new-requires-clause-queues
+new-requires-clause-queues g c =
+    subst (λ (f : Config). are_queues f.slots f.queues ≡ true) (sym c.in_ok-config.ensures) (c.each_script_can_be_played.ensures mode.Threads c.requires.threads.0 c.args.script.now c.requires.threads.1).queues
 
 pub play_first-clock-requires-clause-size : goal.play_first-clock-requires-clause-size
 play_first-clock-requires-clause-size g c =

@@ -10,8 +10,8 @@ use Rattle.machine_readings.proofs.store.Store.all_queues.Goals as goal
 pub returns-in-Some : goal.returns-in-Some
 returns-in-Some c = refused c.args.self.now c.args.at (call.AllQueues c.args.session) c.in-Some.why (c.in-Some.ensures {u = tt})
 
-pub returns-in_ok-queues-in-None : goal.returns-in_ok-queues-in-None
-returns-in_ok-queues-in-None c =
+pub returns-in_ok-queue_names-in-None : goal.returns-in_ok-queue_names-in-None
+returns-in_ok-queue_names-in-None c =
     (let v = world_at c.args.at c.args.self.now in
     told c.args.self.now c.args.at (call.AllQueues c.args.session) _ (c.in-None.ensures {u = tt})
-    (ap (λ (r : Reply). makes r v) (ap reply.Names (sym (c.in_ok-queues-in-None.ensures {u = tt})))))
+    (ap (λ (r : Reply). makes r v) (ap reply.Names (sym (c.in_ok-queue_names-in-None.ensures {u = tt})))))

@@ -11,7 +11,7 @@ use Rattle.drmaa_model.specs.Size.{weight}
 use Rattle.drmaa_model.specs.Time.{advance_plan}
 use Rattle.drmaa_model.specs.TimeLaws.{weight-advance}
 use Rattle.reservation_calendar.specs.Schedules.{Schedule}
-use Rattle.plan_book.specs.Book.{plan_of}
+use Rattle.plan_book.specs.Book.{plan_of, HasFewQueues}
 use Rattle.plan_book.specs.Ties.{IsTied, booked_for, let_go_of}
 use Rattle.plan_book.specs.TieLaws.{tied-reserved}
 use Rattle.plan_book.proofs.book.Book.accept.Goals as goal
@@ -47,6 +47,7 @@ returns-clause-kept c =
       room = c.put_reservation.ensures.room;
       fit = subst IsFit (sym (plan c)) c.requires.fit;
       light = omega (arith, ap weight (plan c), size, c.requires.kept.light);
+      queues = subst HasFewQueues (sym (plan c)) c.requires.kept.queues;
       tied = tied c;
     }
 

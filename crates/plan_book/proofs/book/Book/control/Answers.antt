@@ -13,7 +13,7 @@ use Rattle.drmaa_model.specs.Size.{weight}
 use Rattle.drmaa_model.specs.Time.{advance_plan, rows_at}
 use Rattle.drmaa_model.specs.TimeLaws.{weight-advance}
 use Rattle.reservation_calendar.specs.Schedules.{Schedule}
-use Rattle.plan_book.specs.Book.{plan_of, spare, spare_orders}
+use Rattle.plan_book.specs.Book.{plan_of, spare, spare_orders, HasFewQueues}
 use Rattle.plan_book.specs.Sweeps.{acted, growth, asking}
 use Rattle.plan_book.specs.Ties.{IsTied, let_go_of}
 use Rattle.plan_book.specs.TieLaws.{tied-advance}
@@ -76,6 +76,7 @@ returns-clause-kept c = record {
   room = c.control_now.ensures.room;
   fit = subst IsFit (sym (plan c)) (control-fit c.args.target.now c.args.what c.args.entry (advance_plan c.args.entry c.args.at (plan_of c.args.self.now)) (advance-fit c.args.entry c.args.at (plan_of c.args.self.now) c.requires.kept.fit));
   light = omega (arith, ap weight (plan c), size c, c.if-size-limit.false, c.requires.limit);
+  queues = subst HasFewQueues (sym (plan c)) c.requires.kept.queues;
   tied = tied c;
 }
 

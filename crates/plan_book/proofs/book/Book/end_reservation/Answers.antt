@@ -12,7 +12,7 @@ use Rattle.drmaa_model.specs.Time.{advance_plan, expire, call_in}
 use Rattle.drmaa_model.specs.TimeLaws.{weight-advance, weight-expire, weight-call_in}
 use Rattle.reservation_calendar.specs.declared.bookings.Key.TheVariants.{Reservation}
 use Rattle.reservation_calendar.specs.Schedules.{Schedule, without}
-use Rattle.plan_book.specs.Book.{plan_of}
+use Rattle.plan_book.specs.Book.{plan_of, HasFewQueues}
 use Rattle.plan_book.specs.Ties.{IsTied}
 use Rattle.plan_book.specs.TieLaws.{tied-then, tied-ended, tied-passed}
 use Rattle.plan_book.proofs.book.Book.end_reservation.Goals as goal
@@ -45,6 +45,7 @@ returns-clause-kept c =
       room = c.call_in.ensures.room;
       fit = subst IsFit (sym (plan c)) (call_in-fit (expire c.args.entry left) (expire-fit c.args.entry left fit_left));
       light = omega (arith, ap weight (plan c), size, same, c.requires.kept.light);
+      queues = subst HasFewQueues (sym (plan c)) c.requires.kept.queues;
       tied = subst (λ (s : Schedule). IsTied s (plan_of c.call_in.new.self)) (sym calendar)
           (subst (IsTied (record c.advance.new.self.calendar { bookings = without (Reservation c.args.reservation) c.advance.new.self.calendar.bookings })) (sym (plan c))
           (tied-passed _ c.args.entry left fit_left (tied-ended c.advance.new.self.calendar q c.args.reservation tied_q)));

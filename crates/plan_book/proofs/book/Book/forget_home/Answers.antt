@@ -10,7 +10,7 @@ use Rattle.drmaa_model.specs.Size.{weight}
 use Rattle.drmaa_model.specs.Time.{advance_plan}
 use Rattle.drmaa_model.specs.TimeLaws.{weight-advance}
 use Rattle.drmaa_model.specs.WeightLaws.{forget-weight}
-use Rattle.plan_book.specs.Book.{plan_of, owed, askable}
+use Rattle.plan_book.specs.Book.{plan_of, owed, askable, HasFewQueues}
 use Rattle.plan_book.specs.Ties.{IsTied}
 use Rattle.plan_book.specs.TieLaws.{tied-then}
 use Rattle.plan_book.proofs.ArrivalLaws.{forgot-owed, forgot-askable, tied-forgot}
@@ -62,6 +62,7 @@ returns-clause-kept c =
       };
       fit = subst IsFit (sym (plan c)) (forget-fit c.args.home q (fit c));
       light = omega (arith, ap weight (plan c), size, same, c.requires.kept.light);
+      queues = subst HasFewQueues (sym (plan c)) c.requires.kept.queues;
       tied = subst (IsTied c.advance.new.self.calendar) (sym (plan c))
           (tied-forgot c.advance.new.self.calendar c.args.home q (fit c)
           (tied-then c.args.self.now.calendar c.advance.new.self.calendar c.args.entry c.args.at p q c.requires.kept.fit c.requires.kept.tied c.advance.ensures.calendar refl));

@@ -6,7 +6,7 @@ use Rattle.drmaa_model.specs.Size.{weight}
 use Rattle.drmaa_model.specs.Plan.{Plan}
 use Rattle.drmaa_model.specs.Time.{advance_plan}
 use Rattle.reservation_calendar.specs.Schedules.{Schedule}
-use Rattle.plan_book.specs.Book.{plan_of, moved}
+use Rattle.plan_book.specs.Book.{plan_of, moved, HasFewQueues}
 use Rattle.plan_book.specs.Ties.{IsTied, let_go_of, booked_first, cancelled_last}
 use Rattle.plan_book.specs.TieLaws.{tied-made}
 use Rattle.plan_book.proofs.book.Book.make.Goals as goal
@@ -43,5 +43,6 @@ returns-clause-kept c = record {
   room = record { changes = c.move_now.ensures.room.changes; orders = c.move_now.ensures.room.orders };
   fit = subst IsFit (sym (plan c)) c.requires.fit;
   light = (let most = c.requires.limit in omega (arith, ap weight (plan c), most));
+  queues = subst HasFewQueues (sym (plan c)) c.requires.kept.queues;
   tied = tied c;
 }

@@ -4,7 +4,7 @@ use Rattle.drmaa_model.specs.Fit.{IsFit}
 use Rattle.drmaa_model.specs.FitLaws.{advance-fit}
 use Rattle.drmaa_model.specs.Size.{weight}
 use Rattle.drmaa_model.specs.TimeLaws.{weight-advance}
-use Rattle.plan_book.specs.Book.{plan_of}
+use Rattle.plan_book.specs.Book.{plan_of, HasFewQueues}
 use Rattle.plan_book.proofs.book.Book.pass.Goals as goal
 
 pub returns-clause-size : goal.returns-clause-size
@@ -18,5 +18,6 @@ returns-clause-kept c =
       room = c.advance.ensures.room;
       fit = subst IsFit (sym c.advance.ensures.plan) (advance-fit c.args.entry c.args.at p c.requires.kept.fit);
       light = omega (arith, ap weight c.advance.ensures.plan, same, c.requires.kept.light);
+      queues = subst HasFewQueues (sym c.advance.ensures.plan) c.requires.kept.queues;
       tied = tied-then c.args.self.now.calendar c.advance.new.self.calendar c.args.entry c.args.at p (plan_of c.advance.new.self) c.requires.kept.fit c.requires.kept.tied c.advance.ensures.calendar c.advance.ensures.plan;
     }

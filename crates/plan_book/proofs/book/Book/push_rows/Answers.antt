@@ -10,7 +10,7 @@ use Rattle.drmaa_model.specs.Size.{weight}
 use Rattle.drmaa_model.specs.Time.{advance_plan}
 use Rattle.drmaa_model.specs.TimeLaws.{weight-advance}
 use Rattle.reservation_calendar.specs.Schedules.{Schedule}
-use Rattle.plan_book.specs.Book.{plan_of, joined}
+use Rattle.plan_book.specs.Book.{plan_of, joined, HasFewQueues}
 use Rattle.plan_book.specs.Ties.{IsTied, let_go_of}
 use Rattle.plan_book.specs.TieLaws.{tied-advance}
 use Rattle.plan_book.proofs.ArrivalLaws.{joined-weight, tied-joined}
@@ -49,6 +49,7 @@ returns-clause-kept c =
       room = c.put_rows.ensures.room;
       fit = subst IsFit (sym (plan c)) c.requires.fit;
       light = omega (arith, ap weight (plan c), size, more, c.weight.ensures, c.len.ensures, c.if-size-limit.false, c.requires.limit);
+      queues = subst HasFewQueues (sym (plan c)) c.requires.kept.queues;
       tied = tied c;
     }
 

@@ -6,7 +6,7 @@ use Rattle.drmaa_model.specs.Fit.{IsFit}
 use Rattle.drmaa_model.specs.FitLaws.{advance-fit}
 use Rattle.drmaa_model.specs.Size.{weight}
 use Rattle.drmaa_model.specs.TimeLaws.{weight-advance}
-use Rattle.plan_book.specs.Book.{plan_of}
+use Rattle.plan_book.specs.Book.{plan_of, HasFewQueues}
 use Rattle.plan_book.specs.Book.Refuses.{refuses, overfull}
 use Rattle.plan_book.proofs.book.Book.refuse.Goals as goal
 
@@ -29,5 +29,6 @@ returns-clause-kept c =
       room = c.advance.ensures.room;
       fit = subst IsFit (sym c.advance.ensures.plan) (advance-fit c.args.entry c.args.at p c.requires.kept.fit);
       light = omega (arith, ap weight c.advance.ensures.plan, same);
+      queues = subst HasFewQueues (sym c.advance.ensures.plan) c.requires.kept.queues;
       tied = tied-then c.args.self.now.calendar c.advance.new.self.calendar c.args.entry c.args.at p (plan_of c.advance.new.self) c.requires.kept.fit c.requires.kept.tied c.advance.ensures.calendar c.advance.ensures.plan;
     }
