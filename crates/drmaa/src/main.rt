@@ -1,5 +1,5 @@
 //! The program `drmaa`: plays scripts of clients, writes the journal of what they were answered or the listing of their jobs,
-//! and checks journals.
+//! checks journals, and writes them as version 2.
 #![tactic(auto)]
 
 use byte_streams::{StdSink, StdSource};

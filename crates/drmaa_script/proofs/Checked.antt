@@ -13,7 +13,7 @@ use Rattle.journal_check.specs.Verdicts.{Judges}
 use Rattle.journal_text.specs.declared.journals.Journal.{Journal}
 use Rattle.drmaa_script.specs.declared.status.Status.{Status}
 use Rattle.drmaa_script.specs.declared.status.Status.TheVariants.{Done, Text, Words, ReadFault, WriteFault, Memory, JournalFull, NotLegal}
-use Rattle.drmaa_script.specs.Outcomes.{CheckedEnds, LegalEnds, legal_line}
+use Rattle.drmaa_script.specs.Outcomes.{CheckedEnds, WritesText, legal_line}
 
 pub judges_of : (config : Config) (entries : List Entry) (v : Verdict) → (v ≡ verdict.Legal → IsLegal config entries)
     → ((number : ℕ) (given : Reply) (machine : Option Reply) → v ≡ verdict.NotLegal number given machine → FirstFault config entries number given machine) → Judges config entries v
@@ -22,7 +22,7 @@ judges_of config entries (verdict.NotLegal number given machine) legal fault = f
 judges_of config entries verdict.OutOfMemory legal fault = tt
 
 -- from the number of entries to the entries
-pub legal_ends : (j : Journal) (count : ℕ) (status : Status) (old new : Option (List ℕ)) → count ≡ length j.entries → IsLegal j.config j.entries → LegalEnds count status old new → CheckedEnds j status old new
+pub legal_ends : (j : Journal) (count : ℕ) (status : Status) (old new : Option (List ℕ)) → count ≡ length j.entries → IsLegal j.config j.entries → WritesText (legal_line count) status old new → CheckedEnds j status old new
 legal_ends j count Done old new is legal written = (legal, subst (λ (n : ℕ). Appends old new (legal_line n)) is written)
 legal_ends j count (Text line) old new is legal ends = absurd ends
 legal_ends j count Words old new is legal ends = absurd ends

@@ -1,6 +1,7 @@
 -- How a play ends, and what was written then.
 use Rattle.std.proofs.Common.{◌≡◌, ℕ, ◌≤◌, List, Option, Some, None, refl, sym, ap, subst, ◌∙◌}
 use Rattle.std.specs.Io.KnownBytes.{Appends}
+use Rattle.journal_text.specs.Journals.{journal_text}
 use Rattle.journal_text.specs.declared.journals.Journal.{Journal}
 use Rattle.script_asks.specs.Plays.{serial_play}
 use Rattle.script_text.specs.declared.scripts.Mode.TheVariants as mode
@@ -12,7 +13,7 @@ use Rattle.drmaa_script.specs.declared.status.Status.{Status}
 use Rattle.drmaa_script.specs.declared.status.Status.TheVariants.{Done, Text, Words, ReadFault, WriteFault, Memory, JournalFull, NotLegal}
 use Rattle.drmaa_script.specs.Statuses.{IsQuiet, HasRead, HasWritten, IsUnread, IsRefused, IsUnstarted, ended_as}
 use Rattle.drmaa_script.specs.Registers.{HasPlayed, registers_of}
-use Rattle.drmaa_script.specs.Outcomes.{IsScriptText, IsJournalText, PlayEnds, PlayedEnds, CheckEnds, CheckedEnds, HasJournal, WritesPlay, journal_of, play_text}
+use Rattle.drmaa_script.specs.Outcomes.{IsScriptText, IsJournalText, PlayEnds, PlayedEnds, CheckEnds, CheckedEnds, MigrateEnds, WritesText, HasJournal, WritesPlay, journal_of, play_text}
 
 pub writes_has : (output : Output) (full : Option ℕ) → WritesPlay output (ended_as full) → HasJournal output full
 writes_has JournalOutput full w = tt
@@ -69,26 +70,35 @@ checked_ends bytes j Memory old new spelled ends = tt
 checked_ends bytes j (JournalFull size) old new spelled ends = absurd ends
 checked_ends bytes j (NotLegal entry given machine) old new spelled ends = (j, spelled, ends)
 
+pub migrated_ends : (bytes : List ℕ) (j : Journal) (status : Status) (old new : Option (List ℕ)) → IsJournalText bytes j → WritesText (journal_text j.config j.entries) status old new → MigrateEnds bytes status old new
+migrated_ends bytes j Done old new spelled written = (journal_text j.config j.entries, record { journal = j; read = spelled; written = refl }, written)
+migrated_ends bytes j (Text line) old new spelled ends = absurd ends
+migrated_ends bytes j Words old new spelled ends = absurd ends
+migrated_ends bytes j ReadFault old new spelled ends = absurd ends
+migrated_ends bytes j WriteFault old new spelled front = (journal_text j.config j.entries, record { journal = j; read = spelled; written = refl }, front)
+migrated_ends bytes j Memory old new spelled ends = tt
+migrated_ends bytes j (JournalFull size) old new spelled ends = absurd ends
+migrated_ends bytes j (NotLegal entry given machine) old new spelled ends = absurd ends
+
 -- why nothing was read
+unread_by : (E : Status → Type 0) (status : Status) → IsUnread status → E ReadFault → E Memory → ((n : ℕ) → status ≡ Text n → E (Text n)) → E status
+unread_by E Done is fault short line = absurd is
+unread_by E (Text n) is fault short line = line n refl
+unread_by E Words is fault short line = absurd is
+unread_by E ReadFault is fault short line = fault
+unread_by E WriteFault is fault short line = absurd is
+unread_by E Memory is fault short line = short
+unread_by E (JournalFull size) is fault short line = absurd is
+unread_by E (NotLegal entry given machine) is fault short line = absurd is
+
 pub unread_ends : (own : Script → List ℕ) (callbacks : ℕ) (bytes : List ℕ) (status : Status) (old new : Option (List ℕ)) → IsUnread status → ((n : ℕ) → status ≡ Text n → PlayEnds own callbacks bytes (Text n) old new) → PlayEnds own callbacks bytes status old new
-unread_ends own callbacks bytes Done old new is line = absurd is
-unread_ends own callbacks bytes (Text n) old new is line = line n refl
-unread_ends own callbacks bytes Words old new is line = absurd is
-unread_ends own callbacks bytes ReadFault old new is line = tt
-unread_ends own callbacks bytes WriteFault old new is line = absurd is
-unread_ends own callbacks bytes Memory old new is line = tt
-unread_ends own callbacks bytes (JournalFull size) old new is line = absurd is
-unread_ends own callbacks bytes (NotLegal entry given machine) old new is line = absurd is
+unread_ends own callbacks bytes status old new is line = unread_by (λ (s : Status). PlayEnds own callbacks bytes s old new) status is tt tt line
 
 pub unread_check : (bytes : List ℕ) (status : Status) (old new : Option (List ℕ)) → IsUnread status → ((n : ℕ) → status ≡ Text n → CheckEnds bytes (Text n) old new) → CheckEnds bytes status old new
-unread_check bytes Done old new is line = absurd is
-unread_check bytes (Text n) old new is line = line n refl
-unread_check bytes Words old new is line = absurd is
-unread_check bytes ReadFault old new is line = tt
-unread_check bytes WriteFault old new is line = absurd is
-unread_check bytes Memory old new is line = tt
-unread_check bytes (JournalFull size) old new is line = absurd is
-unread_check bytes (NotLegal entry given machine) old new is line = absurd is
+unread_check bytes status old new is line = unread_by (λ (s : Status). CheckEnds bytes s old new) status is tt tt line
+
+pub unread_migrate : (bytes : List ℕ) (status : Status) (old new : Option (List ℕ)) → IsUnread status → ((n : ℕ) → status ≡ Text n → MigrateEnds bytes (Text n) old new) → MigrateEnds bytes status old new
+unread_migrate bytes status old new is line = unread_by (λ (s : Status). MigrateEnds bytes s old new) status is tt tt line
 
 -- what is true of a status at which nothing was read
 pub unread_words : (status : Status) → IsUnread status → status ≡ Words → ⊥
@@ -156,3 +166,6 @@ checked_no_fault j status old new ends = (
   λ e. subst (λ (x : Status). CheckedEnds j x old new) e ends,
   (λ e. subst (λ (x : Status). CheckedEnds j x old new) e ends, λ n e. subst (λ (x : Status). CheckedEnds j x old new) e ends),
 )
+
+pub written_no_fault : (text : List ℕ) (status : Status) (old new : Option (List ℕ)) → WritesText text status old new → (status ≡ ReadFault → ⊥) × (status ≡ Words → ⊥)
+written_no_fault text status old new ends = (λ e. subst (λ (x : Status). WritesText text x old new) e ends, λ e. subst (λ (x : Status). WritesText text x old new) e ends)

@@ -4,10 +4,10 @@ use Rattle.child_spawner.specs.declared.fates.Asked.{Asked}
 use Rattle.child_spawner.specs.declared.fates.Fate.{Fate}
 use Rattle.drmaa_types.specs.declared.changes.Notification.{Notification}
 use Rattle.drmaa_script.specs.declared.commands.Command.{Command}
-use Rattle.drmaa_script.specs.declared.commands.Command.TheVariants.{Serial, Threads, Table, Check}
+use Rattle.drmaa_script.specs.declared.commands.Command.TheVariants.{Serial, Threads, Table, Check, Migrate}
 use Rattle.drmaa_script.specs.declared.plays.Output.TheVariants.{Journal as JournalOutput, Listing}
 use Rattle.drmaa_script.specs.declared.status.Status.{Status}
-use Rattle.drmaa_script.specs.Outcomes.{PlayEnds, CheckEnds, PlayIsWhole, CheckIsWhole, WritesPlay, journal_of, listing_of}
+use Rattle.drmaa_script.specs.Outcomes.{PlayEnds, CheckEnds, MigrateEnds, PlayIsWhole, CheckIsWhole, MigrateIsWhole, WritesPlay, journal_of, listing_of}
 use Rattle.drmaa_script.specs.Runs.{RunEnds, RunIsWhole, LeavesClocks}
 
 -- what each command comes to, by its bytes, the sink, the spawner, the clocks, and the callbacks before and then
@@ -16,12 +16,14 @@ Ends counted told given Serial bytes old new asked asked_after fate clocks callb
 Ends counted told given Threads bytes old new asked asked_after fate clocks callbacks callbacks_after status = RunEnds counted told given bytes old new asked asked_after fate clocks callbacks callbacks_after status
 Ends counted told given Table bytes old new asked asked_after fate clocks callbacks callbacks_after status = PlayEnds listing_of (length callbacks) bytes status old new
 Ends counted told given Check bytes old new asked asked_after fate clocks callbacks callbacks_after status = CheckEnds bytes status old new
+Ends counted told given Migrate bytes old new asked asked_after fate clocks callbacks callbacks_after status = MigrateEnds bytes status old new
 
 abbrev pub IsWhole : Command → ℕ → List ℕ → Status → Type 0
 IsWhole Serial callbacks = PlayIsWhole callbacks
 IsWhole Threads callbacks = RunIsWhole callbacks
 IsWhole Table callbacks = PlayIsWhole callbacks
 IsWhole Check callbacks = CheckIsWhole
+IsWhole Migrate callbacks = MigrateIsWhole
 
 -- the journal of a play on one thread is written
 abbrev pub WritesJournal : Command → Status → Type 0
@@ -29,6 +31,7 @@ WritesJournal Serial status = WritesPlay JournalOutput status
 WritesJournal Threads status = ⊥
 WritesJournal Table status = WritesPlay Listing status
 WritesJournal Check status = ⊥
+WritesJournal Migrate status = ⊥
 
 -- callers had clocks, which are handed back
 abbrev pub HandsClocks : Command → Status → Type 0
@@ -36,6 +39,7 @@ HandsClocks Serial status = ⊥
 HandsClocks Threads status = LeavesClocks status
 HandsClocks Table status = ⊥
 HandsClocks Check status = ⊥
+HandsClocks Migrate status = ⊥
 
 -- the greatest number of bytes of a command's text
 abbrev pub limit_of : Command → ℕ
@@ -43,6 +47,7 @@ limit_of Serial = 16_777_216
 limit_of Threads = 16_777_216
 limit_of Table = 16_777_216
 limit_of Check = 268_435_456
+limit_of Migrate = 268_435_456
 
 -- whether it asks the spawner
 abbrev pub Starts : Command → Type 0
@@ -50,3 +55,4 @@ Starts Serial = ⊥
 Starts Threads = Unit {0}
 Starts Table = ⊥
 Starts Check = ⊥
+Starts Migrate = ⊥

@@ -35,7 +35,7 @@ use Rattle.drmaa_script.specs.Statuses.{IsRefused}
 abbrev pub SpellsScript : Mode → List (List ℕ) → Script → Type 0
 SpellsScript grammar = SpellsKept (scripts.Spells grammar)
 
--- the bytes are the whole text of this script, and of this journal
+-- the bytes are the whole text of this script, and a whole text of this journal, of whatever version
 abbrev pub IsScriptText : Mode → List ℕ → Script → Type 0
 IsScriptText grammar bytes script = IsTextOf (SpellsScript grammar) 16_777_216 bytes script
 
@@ -123,6 +123,40 @@ WritesPlay output Memory = ⊥
 WritesPlay output (JournalFull size) = Unit {0}
 WritesPlay output (NotLegal entry given machine) = ⊥
 
+-- ---- a journal of either version, written as version 2
+
+-- The bytes are a text of a journal, and this is its text of version 2.
+pub record Migrates (bytes text : List ℕ) : Type 0 where
+  pub journal : Journal
+  pub read : IsJournalText bytes journal
+  pub written : text ≡ journal_text journal.config journal.entries
+
+-- For each status: what the bytes are, and what was written of them, by what the sink had before and has then. Whether the journal is
+-- legal makes no difference.
+abbrev pub MigrateEnds : List ℕ → Status → Option (List ℕ) → Option (List ℕ) → Type 0
+MigrateEnds bytes Done old new = (text : List ℕ) × Migrates bytes text × Appends old new text
+MigrateEnds bytes (Text line) old new = IsFirstBad journals.Spells 268_435_456 bytes line
+MigrateEnds bytes Words old new = ⊥
+MigrateEnds bytes ReadFault old new = Unit {0}
+MigrateEnds bytes WriteFault old new = (text : List ℕ) × Migrates bytes text × AppendsFront old new text
+MigrateEnds bytes Memory old new = Unit {0}
+MigrateEnds bytes (JournalFull size) old new = ⊥
+MigrateEnds bytes (NotLegal entry given machine) old new = ⊥
+
+-- Where no read and no write failed: a journal is written, and other bytes are refused, unless memory runs out.
+pub record MigrateIsWhole (bytes : List ℕ) (status : Status) : Type 0 where
+  pub journal : (j : Journal) → IsJournalText bytes j → (status ≡ Done) ⊎ (status ≡ Memory)
+  pub other : ((j : Journal) → IsJournalText bytes j → ⊥) → IsRefused status
+
+-- the bytes, however many they are, are a text of this journal, and of one that is legal
+abbrev pub IsTextOfJournal : List ℕ → Journal → Type 0
+IsTextOfJournal bytes journal = IsTextOf journals.Spells (length bytes) bytes journal
+
+pub record IsLegalText (bytes : List ℕ) : Type 0 where
+  pub journal : Journal
+  pub read : IsTextOfJournal bytes journal
+  pub legal : IsLegal journal.config journal.entries
+
 -- ---- readers
 
 -- The source was read to its end, or it had more bytes than the limit, where it tells them.
@@ -174,13 +208,13 @@ pub record IsVerdictOf (j : Journal) (v : Verdict) : Type 0 where
   pub fault : (entry : ℕ) (given : Reply) (machine : Option Reply) → FirstFault j.config j.entries entry given machine
       → (v ≡ verdict.NotLegal entry given machine) ⊎ (v ≡ verdict.OutOfMemory)
 
--- what is written where so many entries were found legal
-abbrev pub LegalEnds : ℕ → Status → Option (List ℕ) → Option (List ℕ) → Type 0
-LegalEnds count Done old new = Appends old new (legal_line count)
-LegalEnds count (Text line) old new = ⊥
-LegalEnds count Words old new = ⊥
-LegalEnds count ReadFault old new = ⊥
-LegalEnds count WriteFault old new = AppendsFront old new (legal_line count)
-LegalEnds count Memory old new = Unit {0}
-LegalEnds count (JournalFull size) old new = ⊥
-LegalEnds count (NotLegal entry given machine) old new = ⊥
+-- what is written of a text, unless there is no memory to make it
+abbrev pub WritesText : List ℕ → Status → Option (List ℕ) → Option (List ℕ) → Type 0
+WritesText text Done old new = Appends old new text
+WritesText text (Text line) old new = ⊥
+WritesText text Words old new = ⊥
+WritesText text ReadFault old new = ⊥
+WritesText text WriteFault old new = AppendsFront old new text
+WritesText text Memory old new = Unit {0}
+WritesText text (JournalFull size) old new = ⊥
+WritesText text (NotLegal entry given machine) old new = ⊥

@@ -7,7 +7,7 @@ use Rattle.script_lines.specs.declared.lines.Line.{Line}
 use Rattle.script_text.specs.Follows.{lines_of, is_register}
 use Rattle.script_text.specs.declared.scripts.Script.{Script}
 use Rattle.drmaa_script.specs.declared.commands.Command.{Command}
-use Rattle.drmaa_script.specs.declared.commands.Command.TheVariants.{Serial, Threads, Table, Check}
+use Rattle.drmaa_script.specs.declared.commands.Command.TheVariants.{Serial, Threads, Table, Check, Migrate}
 use Rattle.drmaa_script.specs.declared.status.Status.{Status}
 use Rattle.drmaa_script.specs.declared.status.Status.TheVariants.{Done, Text, Words, ReadFault, WriteFault, Memory, JournalFull, NotLegal}
 use Rattle.drmaa_script.specs.Statuses.{ended_as}
@@ -31,6 +31,15 @@ PlaysAlone Serial = Unit {0}
 PlaysAlone Threads = ⊥
 PlaysAlone Table = Unit {0}
 PlaysAlone Check = ⊥
+PlaysAlone Migrate = ⊥
+
+-- the command reads a journal, and so plays nothing that callbacks could hear
+abbrev pub ReadsJournal : Command → Type 0
+ReadsJournal Serial = ⊥
+ReadsJournal Threads = ⊥
+ReadsJournal Table = ⊥
+ReadsJournal Check = Unit {0}
+ReadsJournal Migrate = Unit {0}
 
 -- a script was played to its end, or to where its journal's size stopped it
 abbrev pub HasPlayed : Status → Type 0

@@ -6,12 +6,13 @@ ghost use Rattle.drmaa_model.specs.History.{IsLegal};
 ghost use Rattle.drmaa_model.specs.declared.replies.Reply.{Reply};
 ghost use Rattle.journal_check.specs.Faults.{FirstFault};
 ghost use Rattle.journal_text.specs.Journals.{IsWritable};
-ghost use Rattle.drmaa_script.specs.Outcomes.{CheckEnds, CheckIsWhole, CheckedEnds, IsReadOut, IsVerdictOf, LegalEnds, legal_line};
+ghost use Rattle.drmaa_script.specs.Outcomes.{CheckEnds, CheckIsWhole, CheckedEnds, IsReadOut, IsVerdictOf, WritesText, legal_line};
 ghost use Rattle.drmaa_script.specs.Statuses.{IsQuiet, HasRead, HasWritten};
 
 use crate::inputs::read_journal;
+use crate::outputs::write_text;
 use crate::status::Status;
-use byte_streams::{Sink, Source, write_all};
+use byte_streams::{Sink, Source};
 use journal_check::{Verdict, check};
 use journal_text::{Journal, a_writable_journal_keeps_its_calls};
 use std::alloc::{AllocError, Global};
@@ -25,7 +26,7 @@ fn legal_text(alloc: Global, count: u64) -> Result<String, AllocError>
 
 /// Writes that a history of so many entries is legal.
 fn write_legal<W: Sink>(alloc: Global, count: u64, sink: &mut W) -> Status
-    ensures ends { LegalEnds count result (W.written sink.old) (W.written sink.new) }
+    ensures ends { WritesText (legal_line count) result (W.written sink.old) (W.written sink.new) }
     ensures finished { HasWritten result → W.finished sink.new }
     ensures fault { result ≡ Status.WriteFault → Rose (W.faults sink.old) (W.faults sink.new) }
     ensures untouched { IsQuiet result → sink.new ≡ sink.old }
@@ -34,10 +35,7 @@ fn write_legal<W: Sink>(alloc: Global, count: u64, sink: &mut W) -> Status
     let Ok(text) = legal_text(alloc, count) else {
         return Status::Memory;
     };
-    match write_all(sink, text.as_bytes()) {
-        Ok(()) => Status::Done,
-        Err(_) => Status::WriteFault,
-    }
+    write_text(text.as_bytes(), sink)
 }
 
 /// Whether a journal is legal.

@@ -9,10 +9,11 @@ ghost use Rattle.script_text.specs.declared.scripts.Script.{Script};
 ghost use Rattle.drmaa_script.specs.Commands.{words_of, word_of, NamesNone};
 ghost use Rattle.drmaa_script.specs.Endings.{Ends, IsWhole, limit_of, WritesJournal, HandsClocks, Starts};
 ghost use Rattle.drmaa_script.specs.Outcomes.{IsReadOut, IsScriptText, IsWritten};
-ghost use Rattle.drmaa_script.specs.Registers.{PlaysAlone, HasPlayed, AreKept};
+ghost use Rattle.drmaa_script.specs.Registers.{PlaysAlone, ReadsJournal, HasPlayed, AreKept};
 ghost use Rattle.drmaa_script.specs.Statuses.{IsQuiet, HasRead, HasWritten, IsUnstarted};
 
 use crate::checks::run_check;
+use crate::migrates::run_migrate;
 use crate::outcomes::{Ended, Outcome, without_clocks};
 use crate::plays::{Output, run_play};
 use crate::status::Status;
@@ -38,6 +39,8 @@ pub enum Command {
     Table,
     /// Reads a journal, and says whether it is legal.
     Check,
+    /// Reads a journal, and writes it as version 2.
+    Migrate,
 }
 
 /// The command that one word names.
@@ -49,6 +52,7 @@ fn named(word: &Text) -> Option<Command>
         "threads" => Some(Command::Threads),
         "table" => Some(Command::Table),
         "check" => Some(Command::Check),
+        "migrate" => Some(Command::Migrate),
         _ => None,
     }
 }
@@ -104,7 +108,7 @@ fn run_command<
         → HearFront B.counted B.told script.config (serial_play script).entries callbacks result.callbacks) }
     ensures kept { AreKept B.counted B.told callbacks result.callbacks }
     ensures unheard { IsUnstarted result.status → result.callbacks ≡ callbacks }
-    ensures deaf { command ≡ Command.Check → result.callbacks ≡ callbacks }
+    ensures deaf { ReadsJournal command → result.callbacks ≡ callbacks }
 {
     match command {
         Command::Serial => without_clocks(
@@ -123,14 +127,22 @@ fn run_command<
                 callbacks,
             },
         ),
+        Command::Migrate => without_clocks(
+            alloc,
+            Ended {
+                status: run_migrate(alloc, source, sink),
+                callbacks,
+            },
+        ),
     }
 }
 
 /// Runs the command that the words name. `serial`, `threads` and `table` read a script from the source. `serial` and `table` play it
 /// on one thread: `serial` writes the journal to the sink, `table` the listing of all jobs. `threads` plays it by a thread for each
 /// client, beside launcher and reaper, who start its jobs by the spawner, at the moments of the callers' clocks, and writes the
-/// journal. Where the play stops for the journal's size, all three write the journal of the entries made. `check` reads a journal and
-/// writes how many entries it has, where it is legal. With `threads` it may wait for good.
+/// journal. Where the play stops for the journal's size, all three write the journal of the entries made. `check` and `migrate` read a
+/// journal of either version: `check` writes how many entries it has, where it is legal, and `migrate` writes it as version 2, legal or
+/// not. With `threads` it may wait for good.
 ///
 /// A callback hears each change of a job's state behind the `register` line that is answered its number: the nth callback behind the
 /// nth such line, for the first 64. A script with more such lines than there are callbacks is not played: the status is Words.
@@ -201,7 +213,7 @@ pub fn run<
         → HearFront B.counted B.told script.config (serial_play script).entries callbacks result.callbacks) }
     ensures kept { AreKept B.counted B.told callbacks result.callbacks }
     ensures unheard { IsUnstarted result.status → result.callbacks ≡ callbacks }
-    ensures deaf { words.now ≡ words_of Command.Check → result.callbacks ≡ callbacks }
+    ensures deaf { (command : Command) → words.now ≡ words_of command → ReadsJournal command → result.callbacks ≡ callbacks }
 {
     match command_of(words) {
         Some(command) => run_command(

@@ -1,5 +1,5 @@
 -- Journals: the machine, a line for each entry of its history, and their count. Our profile.
-use Rattle.std.specs.Prelude.{◌≡◌, ℕ, ◌+◌, ◌<◌, ◌^◌, ◌&&◌, nat_le, Bool, true, false, List, [], ◌∷◌, ◌++◌, length, Option, Some, codes}
+use Rattle.std.specs.Prelude.{◌≡◌, ◌⊎◌, ℕ, ◌+◌, ◌<◌, ◌^◌, ◌&&◌, nat_le, Bool, true, false, List, [], ◌∷◌, ◌++◌, length, Option, Some, codes}
 use Rattle.std.specs.List.{AllByRecursion}
 use Rattle.drmaa_types.specs.Queues.{are_queues}
 use Rattle.drmaa_types.specs.declared.identifiers.CallerId.{CallerId}
@@ -56,12 +56,23 @@ config_of m = record { slots = m.0.0; name = m.0.1.0; suspend = m.0.1.1; journal
 abbrev pub title_of : Config → (ℕ × (List ℕ × Bool)) × List QueueSpec
 title_of c = (machine_of c, c.queues)
 
--- the first line
+-- the first line, of version 2
 unfoldable pub header : Format Config
 header = record {
   spell = λ c. title.spell (title_of c);
   valid = λ c. title.valid (title_of c) × (c.journal ≡ journal_size);
   read = λ bs. title.read bs >>= λ p. Some (config_of p.0, p.1);
+}
+
+-- the first line of version 1, which says no queues
+unfoldable pub old_title : Format (ℕ × (List ℕ × Bool))
+old_title = checked is_machine (behind (codes "drmaa-journal 1 ") machine)
+
+unfoldable pub old_header : Format Config
+old_header = record {
+  spell = λ c. old_title.spell (machine_of c);
+  valid = λ c. old_title.valid (machine_of c) × (c.journal ≡ journal_size) × (c.queues ≡ []);
+  read = λ bs. old_title.read bs >>= λ p. Some (config_of (p.0, []), p.1);
 }
 
 -- the line of an entry: its number, its caller, its moment, its call and its reply
@@ -96,12 +107,31 @@ abbrev pub entry_lines : ℕ → List Entry → List (List ℕ)
 entry_lines n [] = []
 entry_lines n (e ∷ es) = entry.spell (n, e) ∷ entry_lines (n + 1) es
 
+-- the lines of a journal with this first line
+abbrev pub lines_behind : List ℕ → List Entry → List (List ℕ)
+lines_behind first es = first ∷ (entry_lines 1 es ++ closing.spell (length es) ∷ [])
+
 abbrev pub journal_lines : Config → List Entry → List (List ℕ)
-journal_lines c es = header.spell c ∷ (entry_lines 1 es ++ closing.spell (length es) ∷ [])
+journal_lines c es = lines_behind (header.spell c) es
+
+-- the same with the first line of version 1
+abbrev pub old_lines : Config → List Entry → List (List ℕ)
+old_lines c es = lines_behind (old_header.spell c) es
 
 -- the text of a journal: each line ends with a line feed, the last one too
 abbrev pub journal_text : Config → List Entry → List ℕ
 journal_text c es = ended (journal_lines c es)
+
+abbrev pub old_text : Config → List Entry → List ℕ
+old_text c es = ended (old_lines c es)
+
+-- of two versions the new one, or, where the machine has no queues, the old one
+abbrev pub IsEither : {A : Type 0} → Config → A → A → A → Type 0
+IsEither c new old x = (x ≡ new) ⊎ ((c.queues ≡ []) × (x ≡ old))
+
+-- a text of the journal: of version 2, or, without queues, of version 1
+abbrev pub IsText : Config → List Entry → List ℕ → Type 0
+IsText c es bytes = IsEither c (journal_text c es) (old_text c es) bytes
 
 -- what each field of an entry has to be: a caller, a moment, a call and a reply that are spelled
 pub record IsEntry (e : Entry) : Type 0 where
@@ -117,10 +147,10 @@ pub record IsWritable (c : Config) (es : List Entry) : Type 0 where
   pub each : AllByRecursion IsEntry es
   pub few : length es < 2 ^ 64
 
--- these lines are the journal's
+-- these lines are the journal's, of either version
 pub record Spells (lines : List (List ℕ)) (j : Journal) : Type 0 where
   pub writable : IsWritable j.config j.entries
-  pub text : lines ≡ journal_lines j.config j.entries
+  pub text : IsEither j.config (journal_lines j.config j.entries) (old_lines j.config j.entries) lines
 
 -- the greatest number of bytes of a journal
 unfoldable pub byte_limit : ℕ

@@ -1,11 +1,13 @@
 -- The laws of the lines of journals.
-use Rattle.std.proofs.Common.{◌≡◌, ℕ, ◌<◌, ◌^◌, List, ◌∷◌, ◌++◌, Some, None, codes, lit≤, refl, sym, ap, subst, ◌∙◌, arith, append_assoc}
+use Rattle.std.proofs.Common.{◌≡◌, ℕ, ◌<◌, ◌^◌, List, [], ◌∷◌, ◌++◌, Some, None, codes, lit≤, refl, sym, ap, subst, ◌∙◌, arith, append_assoc}
 use Rattle.std.proofs.lemmas.Option.{same_Some}
+use Rattle.drmaa_types.specs.Queues.{are_queues}
+use Rattle.drmaa_model.specs.declared.configs.Config.{Config}
 use Rattle.drmaa_model.specs.declared.entries.Entry.{Entry}
-use Rattle.text_codec.specs.Formats.{IsFormat, strip, number, moment, pair, mapped, behind}
+use Rattle.text_codec.specs.Formats.{IsFormat, strip, number, moment, pair, mapped, behind, checked, list_of, read_line}
 use Rattle.text_codec.specs.Fields.{joined}
 use Rattle.text_codec.specs.Sums.{sum_of}
-use Rattle.text_codec.specs.StepLaws.{bind}
+use Rattle.text_codec.specs.StepLaws.{both, bind}
 use Rattle.text_codec.specs.FormatLaws.{behind_laws, pair_laws, mapped_laws, checked_laws}
 use Rattle.text_codec.specs.FieldLaws.{joined_laws}
 use Rattle.text_codec.specs.BaseLaws.{text_laws, moment_laws, one_of_laws, number_laws_64, number_laws_32, number_avoids}
@@ -19,7 +21,7 @@ use Rattle.journal_forms.specs.ReplyLaws.{replies_laws}
 use Rattle.journal_text.specs.declared.titles.TheConstants.{SUSPENDS}
 use Rattle.journal_text.specs.Queues.{queues}
 use Rattle.journal_text.specs.QueueLaws.{queues_laws}
-use Rattle.journal_text.specs.Journals.{journal_size, suspend_text, suspend, machine, is_title, title, config_of, title_of, header, stamp, answered, make_entry, entry_parts, entry_with, entry, closing, IsEntry}
+use Rattle.journal_text.specs.Journals.{journal_size, suspend_text, suspend, machine, is_machine, machine_of, is_title, title, config_of, title_of, header, old_title, old_header, stamp, answered, make_entry, entry_parts, entry_with, entry, closing, IsEntry}
 
 pub suspend_laws : IsFormat suspend
 unfolding suspend
@@ -44,6 +46,36 @@ header_laws = record {
       rw (title_laws.again (title_of c) rest v.0 p) (ap (λ k. Some (k, rest)) same);
   clean = λ c v. title_laws.clean (title_of c) v.0;
 }
+
+-- the first line of version 1
+old_title_laws : IsFormat old_title
+unfolding old_title
+old_title_laws = checked_laws is_machine _ (behind_laws (codes "drmaa-journal 1 ") machine refl machine_laws)
+
+pub old_header_laws : IsFormat old_header
+unfolding old_header
+old_header_laws = record {
+  found = λ bs r e. bind (old_title.read bs) _ r e (λ p a d.
+      let h = old_title_laws.found bs p a in
+      subst (λ s. (old_title.valid (machine_of s.0) × (s.0.journal ≡ journal_size) × (s.0.queues ≡ [])) × (bs ≡ old_title.spell (machine_of s.0) ++ s.1)) (same_Some _ _ d) ((h.0, refl, refl), h.1));
+  again = λ c rest v p.
+      let same : config_of (machine_of c, []) ≡ c = ap (λ n. record c { journal = n; queues = [] }) (sym v.1) ∙ ap (λ qs. record c { queues = qs }) (sym v.2) in
+      rw (old_title_laws.again (machine_of c) rest v.0 p) (ap (λ k. Some (k, rest)) same);
+  clean = λ c v. old_title_laws.clean (machine_of c) v.0;
+}
+
+-- it says a machine of a journal without queues, and is no first line of version 2
+pub old_is : (c : Config) → header.valid c → c.queues ≡ [] → old_header.valid c
+unfolding header title old_header old_title checked behind pair
+old_is c v none = ((v.0.0.0, (both (is_machine (machine_of c)) (are_queues c.slots c.queues) v.0.1).0), v.1, none)
+
+pub new_is : (c : Config) → old_header.valid c → header.valid c × (c.queues ≡ [])
+unfolding header title old_header old_title checked behind pair queues list_of
+new_is c v = (subst (λ qs. header.valid (record c { queues = qs })) (sym v.2) (((v.0.0, tt), rw v.0.1 refl), v.1), v.2)
+
+pub old_apart : (c : Config) → read_line header (old_header.spell c) ≡ None
+unfolding header title old_header old_title checked behind
+old_apart c = refl
 
 pub stamp_laws : IsFormat stamp
 unfolding stamp

@@ -5,13 +5,17 @@ use Rattle.drmaa_model.specs.declared.entries.Entry.{Entry}
 use Rattle.text_codec.specs.Formats.{◌>>=◌, choose, strip, number, read_line}
 use Rattle.std.specs.Prelude.{◌^◌}
 use Rattle.text_lines.specs.Automata.{Stepping}
-use Rattle.journal_text.specs.Journals.{header, entry, Spells}
+use Rattle.journal_text.specs.Journals.{header, old_header, entry, Spells}
 use Rattle.journal_text.specs.declared.journals.Journal.{Journal}
 use Rattle.journal_text.specs.declared.reading.JournalReader.{JournalReader}
 use Rattle.journal_text.specs.declared.reading.JournalReader.TheVariants.{Start, Going, Ended}
 
 abbrev pub journal_of : Config → List Entry → Journal
 journal_of c es = record { config = c; entries = es }
+
+-- the machine that a first line says, of either version
+abbrev pub header_of : List ℕ → Option Config
+header_of line = choose (read_line header line) (λ c. Some c) (read_line old_header line)
 
 -- what is read with the last line, and with one entry more
 abbrev pub closed : Config → List Entry → ℕ → Option JournalReader
@@ -24,7 +28,7 @@ abbrev pub longer_by : Config → List Entry → List ℕ → Option JournalRead
 longer_by c es line = read_line entry line >>= longer c es
 
 abbrev pub next : JournalReader → List ℕ → Option JournalReader
-next Start line = read_line header line >>= λ c. Some (Going c [])
+next Start line = header_of line >>= λ c. Some (Going c [])
 next (Going c es) line = choose (strip (codes "end ") line) (λ rest. read_line (number (2 ^ 64)) rest >>= closed c es) (longer_by c es line)
 next (Ended j) line = None
 

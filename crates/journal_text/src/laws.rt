@@ -5,16 +5,16 @@ ghost use Rattle.drmaa_model.specs.KeptCalls.{kept};
 ghost use Rattle.drmaa_model.specs.declared.configs.Config.{Config};
 ghost use Rattle.drmaa_model.specs.declared.entries.Entry.{Entry};
 ghost use Rattle.text_lines.specs.Lines.{IsFirstBad};
-ghost use Rattle.journal_text.specs.Journals.{IsWritable, Spells, byte_limit, journal_text};
+ghost use Rattle.journal_text.specs.Journals.{IsText, IsWritable, Spells, byte_limit};
 
-/// A journal has one text, and a text is one journal: two that can be written, with the same text, are one.
+/// A text is of one journal: two that can be written, with a text in common, are one, whatever its version.
 pub fn one_journal()
-    ensures { (c d : Config) (g h : List Entry) → IsWritable c g → IsWritable d h → journal_text c g ≡ journal_text d h → (c ≡ d) × (g ≡ h) }
+    ensures { (c d : Config) (g h : List Entry) (bytes : List ℕ) → IsWritable c g → IsWritable d h → IsText c g bytes → IsText d h bytes → (c ≡ d) × (g ≡ h) }
 {}
 
-/// The text of a journal that can be written is UTF-8.
+/// A text of a journal that can be written is UTF-8.
 pub fn a_journal_is_utf8()
-    ensures { (c : Config) (h : List Entry) → IsWritable c h → IsUtf8 (journal_text c h) }
+    ensures { (c : Config) (h : List Entry) (bytes : List ℕ) → IsWritable c h → IsText c h bytes → IsUtf8 bytes }
 {}
 
 /// Each call of a journal that can be written is its own kept call.

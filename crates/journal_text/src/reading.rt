@@ -4,7 +4,7 @@ ghost use Rattle.text_codec.specs.Formats.{Says, strip};
 ghost use Rattle.text_codec.specs.declared.unread.Unread.{Unread};
 ghost use Rattle.text_lines.specs.Lines.{IsFirstBad};
 ghost use Rattle.text_lines.specs.declared.reading.TextFault.{TextFault};
-ghost use Rattle.journal_text.specs.Journals.{IsWritable, Spells, byte_limit, journal_text};
+ghost use Rattle.journal_text.specs.Journals.{IsText, IsWritable, Spells, byte_limit};
 ghost use Rattle.journal_text.specs.Reading as lines;
 ghost use Rattle.journal_text.specs.JournalLaws as laws;
 ghost use Rattle.journal_text.specs.declared.reading.JournalReader.{JournalReader};
@@ -121,16 +121,16 @@ impl LineReader for JournalReader {
     }
 }
 
-/// The journal that these bytes spell, all of them.
+/// The journal of which these bytes are a text, all of them: of version 2 or of version 1.
 ///
 /// # Errors
-/// `Line` where they spell none, or are more than 268,435,456 bytes, with the number of the first line after which no journal
-/// goes on. `OutOfMemory` where memory ran out, which may be before a bad line was seen.
+/// `Line` where they are a text of none, or are more than 268,435,456 bytes, with the number of the first line after which no
+/// journal goes on. `OutOfMemory` where memory ran out, which may be before a bad line was seen.
 pub fn read_journal(alloc: Global, bytes: &[u8]) -> Result<Journal, TextFault>
     ensures writable { IfOk result (λ j. IsWritable j.config j.entries) }
-    ensures found { IfOk result (λ j. bytes.now ≡ journal_text j.config j.entries) }
+    ensures found { IfOk result (λ j. IsText j.config j.entries bytes.now) }
     ensures within { IfOk result (λ j. length bytes.now ≤ byte_limit) }
-    ensures only { (j : Journal) → IsWritable j.config j.entries → bytes.now ≡ journal_text j.config j.entries → length bytes.now ≤ byte_limit
+    ensures only { (j : Journal) → IsWritable j.config j.entries → IsText j.config j.entries bytes.now → length bytes.now ≤ byte_limit
         → (result ≡ Ok j) ⊎ (result ≡ Err TextFault.OutOfMemory) }
     ensures line { (n : ℕ) → result ≡ Err (TextFault.Line n) → IsFirstBad Spells byte_limit bytes.now n }
 {

@@ -1,14 +1,15 @@
-//! The first line of a journal: the machine.
+//! The first line of a journal: the machine. Both versions are read, and version 2 is printed.
 ghost use Rattle.std.specs.Prelude.{◌≡◌, ◌∷◌, [], ◌++◌, true, OnOk};
 ghost use Rattle.text_codec.specs.Formats.{Answers, Says, first_spelled, pair, read_line};
 ghost use Rattle.text_codec.specs.Lexical.{IsClean};
 ghost use Rattle.text_codec.specs.Quotes.{text};
 ghost use Rattle.journal_text.specs.Journals as journals;
 ghost use Rattle.journal_text.specs.Queues.{queues};
+ghost use Rattle.journal_text.specs.Reading as lines;
 
 use crate::queues::{push_queues, queues_at};
 use drmaa_model::Config;
-use drmaa_types::{Text, are_queues};
+use drmaa_types::{ListOf, QueueList, Text, are_queues};
 use std::alloc::{AllocError, Global};
 use text_codec::{Cursor, Unread};
 use text_words::PrintForm;
@@ -78,22 +79,30 @@ fn machine_at(cursor: &mut Cursor) -> Result<Machine, Unread>
     Ok((slots, (name, suspend)))
 }
 
-/// Reads the first line.
-#[tactic(auto, unfolding(crate::specs::Journals::header, crate::specs::Journals::title, text_codec::specs::Formats::checked, text_codec::specs::Formats::behind, text_codec::specs::Formats::pair))]
-fn header_at(cursor: &mut Cursor) -> Result<Config, Unread>
-    ensures { Answers journals.header.read cursor.old result cursor.new }
+/// This machine, with these queues.
+fn config_of(machine: Machine, queues: QueueList) -> Config
+    ensures { result ≡ journals.config_of (machine, queues) }
 {
-    cursor.expect(b"drmaa-journal 2 ")?;
-    let (slots, (name, suspend)) = machine_at(cursor)?;
-    cursor.expect(b" ")?;
-    let queues = queues_at(cursor)?;
-    let config = Config {
+    let (slots, (name, suspend)) = machine;
+    Config {
         slots,
         name,
         suspend,
         journal: JOURNAL_SIZE,
         queues,
-    };
+    }
+}
+
+/// Reads the first line of version 2.
+#[tactic(auto, unfolding(crate::specs::Journals::header, crate::specs::Journals::title, text_codec::specs::Formats::checked, text_codec::specs::Formats::behind, text_codec::specs::Formats::pair))]
+fn header_at(cursor: &mut Cursor) -> Result<Config, Unread>
+    ensures { Answers journals.header.read cursor.old result cursor.new }
+{
+    cursor.expect(b"drmaa-journal 2 ")?;
+    let machine = machine_at(cursor)?;
+    cursor.expect(b" ")?;
+    let queues = queues_at(cursor)?;
+    let config = config_of(machine, queues);
     if is_title(&config) {
         Ok(config)
     } else {
@@ -101,14 +110,49 @@ fn header_at(cursor: &mut Cursor) -> Result<Config, Unread>
     }
 }
 
-/// The machine that the first line says.
-pub(crate) fn header_of(alloc: Global, line: &[u8]) -> Result<Config, Unread>
+/// Reads the first line of version 1.
+#[tactic(auto, unfolding(crate::specs::Journals::old_header, crate::specs::Journals::old_title, text_codec::specs::Formats::checked, text_codec::specs::Formats::behind))]
+fn old_header_at(cursor: &mut Cursor) -> Result<Config, Unread>
+    ensures { Answers journals.old_header.read cursor.old result cursor.new }
+{
+    cursor.expect(b"drmaa-journal 1 ")?;
+    let machine = machine_at(cursor)?;
+    let config = config_of(machine, ListOf::new(cursor.alloc()));
+    if is_machine(&config) {
+        Ok(config)
+    } else {
+        Err(Unread::Unspelled)
+    }
+}
+
+/// The machine that a first line of version 2 says.
+fn new_header_of(alloc: Global, line: &[u8]) -> Result<Config, Unread>
     ensures { Says (read_line journals.header line.now) result }
 {
     let mut cursor = Cursor::new(alloc, line);
     let config = header_at(&mut cursor)?;
     cursor.end()?;
     Ok(config)
+}
+
+/// The machine that a first line of version 1 says.
+fn old_header_of(alloc: Global, line: &[u8]) -> Result<Config, Unread>
+    ensures { Says (read_line journals.old_header line.now) result }
+{
+    let mut cursor = Cursor::new(alloc, line);
+    let config = old_header_at(&mut cursor)?;
+    cursor.end()?;
+    Ok(config)
+}
+
+/// The machine that the first line says, of either version.
+pub(crate) fn header_of(alloc: Global, line: &[u8]) -> Result<Config, Unread>
+    ensures { Says (lines.header_of line.now) result }
+{
+    match new_header_of(alloc, line) {
+        Err(Unread::Unspelled) => old_header_of(alloc, line),
+        read => read,
+    }
 }
 
 /// Prints whether jobs can be suspended.
@@ -153,7 +197,7 @@ fn push_parts(out: &mut Vec<u8>, config: &Config) -> Result<(), AllocError>
     push_queues(out, &config.queues)
 }
 
-/// Prints the version, the machine and its queues.
+/// Prints the version, which is 2, the machine and its queues.
 #[tactic(auto, unfolding(crate::specs::Journals::title, text_codec::specs::Formats::checked, text_codec::specs::Formats::behind))]
 fn push_title(out: &mut Vec<u8>, config: &Config) -> Result<(), AllocError>
     ensures text { OnOk result (out.new.items ≡ out.old.items ++ journals.title.spell (journals.title_of config.now)) }

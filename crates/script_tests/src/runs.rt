@@ -13,6 +13,9 @@ const SCRIPT: &str =
 const JOURNAL: &str =
     "drmaa-journal 2 4 \"node1\" suspend []\n1 1 @0 create-jobs \"s\" = session 1\n2 1 @0 run 1 {command \"true\"} = job 1\n3 2 @0 launch = launch 1 1 1 [\"\" \"\" \"\" \"\" \"apart\" \"0\" \"true\"]\n4 3 @0 exit 1 1 code 0 = ok\n5 1 @0 state 1 1 = state DONE\nend 5\n";
 
+const OLD_JOURNAL: &str =
+    "drmaa-journal 1 4 \"node1\" suspend\n1 1 @0 create-jobs \"s\" = session 1\n2 1 @0 run 1 {command \"true\"} = job 1\n3 2 @0 launch = launch 1 1 1 [\"\" \"\" \"\" \"\" \"apart\" \"0\" \"true\"]\n4 3 @0 exit 1 1 code 0 = ok\n5 1 @0 state 1 1 = state DONE\nend 5\n";
+
 const TABLE: &str = "       job state         slots name\n         1 DONE              1 -\n";
 
 /// A client plays its block with the names of setup. Its job is held, and so nobody else has an entry.
@@ -29,6 +32,7 @@ const COMMANDS: &[(&str, &str, &str)] = &[
     ("threads", THREADS_SCRIPT, THREADS_JOURNAL),
     ("table", SCRIPT, TABLE),
     ("check", JOURNAL, "legal 5\n"),
+    ("migrate", OLD_JOURNAL, JOURNAL),
 ];
 
 /// A run: its words, its text and the reads that fail, how many bytes can be written, the writes that fail, and whether finishing
@@ -171,12 +175,15 @@ const ORDER: &[(&str, &str, &[u64], u8)] = &[
     ("table", JOURNAL, &[5], 3),
     ("threads", JOURNAL, &[5], 3),
     ("check", SCRIPT, &[3], 3),
+    ("migrate", SCRIPT, &[3], 3),
     ("serial", JOURNAL, &[], 1),
     ("table", JOURNAL, &[], 1),
     ("threads", SCRIPT, &[], 1),
     ("check", SCRIPT, &[], 1),
+    ("migrate", SCRIPT, &[], 1),
     ("serial", SCRIPT, &[], 4),
     ("threads", THREADS_SCRIPT, &[], 4),
+    ("migrate", OLD_JOURNAL, &[], 4),
 ];
 
 #[test]

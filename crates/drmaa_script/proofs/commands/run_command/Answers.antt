@@ -6,7 +6,7 @@ use Rattle.script_asks.specs.Plays.{serial_play}
 use Rattle.script_play.specs.Callbacks.{HearHistory, HearFront}
 use Rattle.script_text.specs.declared.scripts.Mode.TheVariants as mode
 use Rattle.script_text.specs.declared.scripts.Script.{Script}
-use Rattle.drmaa_script.specs.Outcomes.{PlayIsWhole, CheckIsWhole, IsScriptText}
+use Rattle.drmaa_script.specs.Outcomes.{PlayIsWhole, CheckIsWhole, MigrateIsWhole, IsScriptText}
 use Rattle.drmaa_script.specs.Registers.{HasPlayed, AreKept}
 use Rattle.drmaa_script.specs.Endings.{IsWhole}
 use Rattle.drmaa_script.proofs.Kept.{kept_same}
@@ -31,6 +31,11 @@ returns-in-Check-clause-whole g c = λ calm quiet.
     subst (λ (k : Command). IfSome (g.R.Source.left c.args.source.now) (λ bytes. IsWhole k (length c.args.callbacks) bytes c.without_clocks-in-Check.result.status)) (sym c.in-Check.is)
     (subst (λ (s : Status). IfSome (g.R.Source.left c.args.source.now) (λ bytes. CheckIsWhole bytes s)) (sym c.without_clocks-in-Check.ensures.status) (c.run_check.ensures.whole calm quiet))
 
+pub returns-in-Migrate-clause-whole : goal.returns-in-Migrate-clause-whole
+returns-in-Migrate-clause-whole g c = λ calm quiet.
+    subst (λ (k : Command). IfSome (g.R.Source.left c.args.source.now) (λ bytes. IsWhole k (length c.args.callbacks) bytes c.without_clocks-in-Migrate.result.status)) (sym c.in-Migrate.is)
+    (subst (λ (s : Status). IfSome (g.R.Source.left c.args.source.now) (λ bytes. MigrateIsWhole bytes s)) (sym c.without_clocks-in-Migrate.ensures.status) (c.run_migrate.ensures.whole calm quiet))
+
 pub returns-in-Table-clause-heard : goal.returns-in-Table-clause-heard
 returns-in-Table-clause-heard g c = λ alone played.
     subst (λ (bs : List g.row.B.Denot). IfSome (g.R.Source.left c.args.source.now) (λ bytes. (script : Script) → IsScriptText mode.Serial bytes script
@@ -46,3 +51,7 @@ returns-in-Table-clause-heard_front g c = λ alone want.
 pub returns-in-Check-clause-kept : goal.returns-in-Check-clause-kept
 returns-in-Check-clause-kept g c =
     subst (λ (bs : List g.row.B.Denot). AreKept g.B.Callback.counted g.B.Callback.told c.args.callbacks bs) (sym c.without_clocks-in-Check.ensures.callbacks) (kept_same g.B.Callback.counted g.B.Callback.told c.args.callbacks)
+
+pub returns-in-Migrate-clause-kept : goal.returns-in-Migrate-clause-kept
+returns-in-Migrate-clause-kept g c =
+    subst (λ (bs : List g.row.B.Denot). AreKept g.B.Callback.counted g.B.Callback.told c.args.callbacks bs) (sym c.without_clocks-in-Migrate.ensures.callbacks) (kept_same g.B.Callback.counted g.B.Callback.told c.args.callbacks)

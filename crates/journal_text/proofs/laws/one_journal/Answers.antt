@@ -2,4 +2,4 @@ use Rattle.journal_text.specs.JournalLaws.{one_journal}
 use Rattle.journal_text.proofs.laws.one_journal.Goals as goal
 
 pub returns : goal.returns
-returns c = λ a b g h v w e. one_journal a b g h v w e
+returns c = λ a b g h bytes v w s t. one_journal a b g h bytes v w s t
