@@ -18,8 +18,9 @@ use drmaa_types::{Attribute, Limit, Moment, QueueList, Refusal, TextList, Which}
 /// # Errors
 /// The first of these that holds: `OutOfResource(TemplateText)`; `InvalidArgument` of `RemoteCommand`, `Args`,
 /// `JobEnvironment`, `WorkingDirectory`, `JobName`, `InputPath`, `OutputPath`, `ErrorPath`;
-/// `UnsupportedAttribute(QueueName)` where there are no queues, else `InvalidArgument(QueueName)`; `InvalidArgument` of `MinSlots`, `MaxSlots`, `DeadlineTime`; what the first limit
-/// that is wrong asks for; and `UnsupportedAttribute` of the first of the other attributes.
+/// `UnsupportedAttribute(QueueName)` where there are no queues, else `InvalidArgument(QueueName)`; `InvalidArgument` of
+/// `MinSlots`, `MaxSlots`, `DeadlineTime`; what the first limit that is wrong asks for; and `UnsupportedAttribute` of the
+/// first of the other attributes.
 pub fn validate_job(
     t: &JobTemplate,
     slots: u32,
