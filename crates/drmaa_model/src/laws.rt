@@ -135,9 +135,9 @@ pub fn each_job_is_of_a_queue()
         ArePlaced config.queues (replay config history).plan.rows }
 {}
 
-/// A machine without queues has none of their rules. No job is of a queue at any point of a legal history, and such a job needs
-/// the calendar alone. A least number of slots is bad where it is 0 or above the machine's slots, and a template may name no
-/// queue. The name that is told of a job's queue, and the only one that is listed, is `default`.
+/// A machine without queues has none of their rules. No job is of a queue at any point of a legal history, and the slots that
+/// are free for such a job are those that fit the calendar. A least number of slots is bad where it is 0 or above the machine's
+/// slots, and a template may name no queue. The name that is told of a job's queue, and the only one that is listed, is `default`.
 pub fn a_machine_without_queues_has_none_of_their_rules()
     ensures rows { (config : Config) (history : List Entry) → config.queues ≡ [] → IsLegal config history →
         AreQueueless (replay config history).plan.rows }

@@ -15,6 +15,7 @@ pub struct JobInfo {
     pub state: JobState,
     /// How many slots its last launch had.
     pub slots: Option<u32>,
+    /// The name of its queue, and `default` where the machine has none.
     pub queue: Text,
     /// The seconds from its last launch until it ended, or until now where it is started; 0 where it waits to be launched
     /// again.
