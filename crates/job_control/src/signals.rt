@@ -131,6 +131,17 @@ fn kill_due(book: &Book, at: Moment) -> Option<Order>
     requires kept { IsKept book.now }
     ensures { result ≡ option_map kill_order (find (is_killed at (plan_of book.now)) book.now.rows.items) }
 {
+    if book.is_quiet_at(at) {
+        return None;
+    }
+    first_kill(book, at)
+}
+
+/// The same where time may have something to do.
+fn first_kill(book: &Book, at: Moment) -> Option<Order>
+    requires kept { IsKept book.now }
+    ensures { result ≡ option_map kill_order (find (is_killed at (plan_of book.now)) book.now.rows.items) }
+{
     for row in book.rows() {
         if is_killed(book, at, row) {
             return Some(kill_order(row));

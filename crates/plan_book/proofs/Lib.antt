@@ -1,3 +1,4 @@
+pub mod AlarmLaws
 pub mod ArrivalLaws
 pub mod FirstOrder
 pub mod Flat

@@ -1,14 +1,13 @@
--- What time leaves as it is.
-use Rattle.std.proofs.Common.{◌≡◌, ℕ, Bool, true, false, cond, not, ◌&&◌, ◌||◌, List, [], ◌∷◌, ◌++◌, map, filter, Option, Some, None, refl, ◌∙◌, ap, arith}
-use Rattle.std.specs.Prelude.{is_some, nat_le}
+-- What time leaves as it is, and when it does something.
+use Rattle.std.proofs.Common.{◌≡◌, ℕ, Bool, true, false, cond, not, ◌&&◌, ◌||◌, max, List, [], ◌∷◌, ◌++◌, map, filter, take, length, get_or, eqb, ◌<◌, ◌+◌, Option, Some, None, refl, sym, ◌∙◌, ap, subst, arith}
+use Rattle.std.specs.Prelude.{nat_le, nat_lt}
 use Rattle.std.specs.Option.{option_map_or}
 use Rattle.std.specs.List.{AllByRecursion, list_all, flat_map}
 use Rattle.std.proofs.lemmas.Bool.Decides.{nat_tests}
 use Rattle.std.proofs.lemmas.Bool.{and_parts}
-use Rattle.std.proofs.lemmas.List.{append-nil}
+use Rattle.std.proofs.lemmas.List.{append-nil, take_more}
 use Rattle.drmaa_types.specs.States.{is_waiting, is_started}
 use Rattle.drmaa_types.specs.declared.changes.Change.{Change}
-use Rattle.drmaa_types.specs.declared.identifiers.ReservationId.{ReservationId}
 use Rattle.drmaa_types.specs.declared.moments.End.{End}
 use Rattle.drmaa_types.specs.declared.moments.End.TheVariants.{At, Never}
 use Rattle.drmaa_types.specs.declared.states.Note.TheVariants as note
@@ -18,12 +17,18 @@ use Rattle.drmaa_model.specs.declared.rows.Row.{Row}
 use Rattle.drmaa_model.specs.Plan.{Plan}
 use Rattle.drmaa_model.specs.Rows.{change_of}
 use Rattle.drmaa_model.specs.Courses.{failed, called, is_unasked, lesser_end, optional_end}
-use Rattle.drmaa_model.specs.Time.{is_late, is_past, is_over, is_accepted, lapses, lapsed, expire, is_due, called_in, call_in, kill_order}
-use Rattle.drmaa_model.specs.TimeLaws.{changes-lapsed, expiry, waits-not_started}
-use Rattle.plan_book.specs.Quiet.{is_left, IsLeftUntil}
-use Rattle.plan_book.specs.Sums.{acts_at}
+use Rattle.drmaa_model.specs.RowLaws.{all-implied, all-push}
+use Rattle.drmaa_model.specs.Time.{come_to, let_go, lasts, is_late, is_past, is_over, is_stranded, advance_plan, lapses, lapsed, expire, is_due, called_in, call_in, kill_order}
+use Rattle.drmaa_model.specs.TimeLaws.{changes-lapsed, expiry, timed, waits-not_started}
+use Rattle.reservation_calendar.specs.declared.bookings.Booking.{Booking}
+use Rattle.reservation_calendar.specs.declared.bookings.Key.{Key}
+use Rattle.reservation_calendar.specs.declared.bookings.Key.TheVariants.{Job, Reservation}
+use Rattle.reservation_calendar.specs.Schedules.{Schedule}
+use Rattle.plan_book.specs.Book.{course_then}
+use Rattle.plan_book.specs.Quiet.{is_left, IsLeftUntil, LastsUntil, IsQuiet, acts_at}
+use Rattle.plan_book.specs.Ties.{is_gone, let_go_of}
 
-not-true : (b : Bool) → not b ≡ true → b ≡ false
+pub not-true : (b : Bool) → not b ≡ true → b ≡ false
 not-true true h = absurd (cc)
 not-true false h = refl
 
@@ -96,37 +101,109 @@ lesser-second m (At x) (At y) ahead =
       | false ↦ λ e h. h
     ]) refl ahead
 
-pub left-first : (a b : End) (r : Row) → IsLeftUntil a r → IsLeftUntil (lesser_end a b) r
-left-first a b r left = λ m rs ahead. left m rs (lesser-first m a b ahead)
+pub left-first : (a b : End) (rs : List Accepted) (r : Row) → IsLeftUntil a rs r → IsLeftUntil (lesser_end a b) rs r
+left-first a b rs r left = λ m ahead. left m (lesser-first m a b ahead)
 
-pub left-second : (a b : End) (r : Row) → IsLeftUntil b r → IsLeftUntil (lesser_end a b) r
-left-second a b r left = λ m rs ahead. left m rs (lesser-second m a b ahead)
+pub left-second : (a b : End) (rs : List Accepted) (r : Row) → IsLeftUntil b rs r → IsLeftUntil (lesser_end a b) rs r
+left-second a b rs r left = λ m ahead. left m (lesser-second m a b ahead)
+
+pub rows-first : (a b : End) (rs : List Accepted) (rows : List Row) → AllByRecursion (IsLeftUntil a rs) rows → AllByRecursion (IsLeftUntil (lesser_end a b) rs) rows
+rows-first a b rs rows all = all-implied (IsLeftUntil a rs) (IsLeftUntil (lesser_end a b) rs) (λ r left. left-first a b rs r left) rows all
+
+pub rows-second : (a b : End) (rs : List Accepted) (rows : List Row) → AllByRecursion (IsLeftUntil b rs) rows → AllByRecursion (IsLeftUntil (lesser_end a b) rs) rows
+rows-second a b rs rows all = all-implied (IsLeftUntil b rs) (IsLeftUntil (lesser_end a b) rs) (λ r left. left-second a b rs r left) rows all
+
+pub lasting-first : (a b : End) (rs : List Accepted) → AllByRecursion (LastsUntil a) rs → AllByRecursion (LastsUntil (lesser_end a b)) rs
+lasting-first a b rs all = all-implied (LastsUntil a) (LastsUntil (lesser_end a b)) (λ r lasts m ahead. lasts m (lesser-first m a b ahead)) rs all
+
+pub lasting-second : (a b : End) (rs : List Accepted) → AllByRecursion (LastsUntil b) rs → AllByRecursion (LastsUntil (lesser_end a b)) rs
+lasting-second a b rs all = all-implied (LastsUntil b) (LastsUntil (lesser_end a b)) (λ r lasts m ahead. lasts m (lesser-second m a b ahead)) rs all
+
+not-past : (until m : ℕ) → nat_le until m ≡ false → nat_lt m until ≡ true
+not-past until m ahead = grind (arith, nat_tests)
+
+-- a reservation lasts until its end
+pub lasts-until : (r : Accepted) → LastsUntil (At r.until) r
+lasts-until r = λ m ahead. not-past r.until m ahead
 
 never-ahead : {A : Type 0} (m : ℕ) → nat_le 0 m ≡ false → A
 never-ahead m ahead = absurd (let yes : nat_le 0 m ≡ true = grind (arith, nat_tests) in cc)
 
-left-ahead : (m : ℕ) (stranded : ReservationId → Bool) (reservation : Option ReservationId) (deadline : Option ℕ) (planned : Option End) (waits starts free : Bool) → (waits ≡ true → starts ≡ false)
-    → is_past m (cond waits (cond (is_some reservation) (At 0) (optional_end deadline)) (cond (starts && free) (cond (is_some reservation) (At 0) (option_map_or (λ (end : End). end) planned Never)) Never)) ≡ false
-    → (not (waits && (option_map_or (λ (d : ℕ). nat_le d m) deadline false || option_map_or stranded reservation false))
-    && not (starts && (free && (option_map_or (is_past m) planned false || option_map_or stranded reservation false)))) ≡ true
-left-ahead m stranded reservation deadline planned true true free apart ahead = absurd (let no : true ≡ false = apart refl in cc)
-left-ahead m stranded (Some r) deadline planned true false free apart ahead = never-ahead m ahead
-left-ahead m stranded None None planned true false free apart ahead = refl
-left-ahead m stranded None (Some d) planned true false free apart ahead = ap (λ (b : Bool). not (b || false) && true) ahead
-left-ahead m stranded (Some r) deadline planned false true true apart ahead = never-ahead m ahead
-left-ahead m stranded None deadline None false true true apart ahead = refl
-left-ahead m stranded None deadline (Some Never) false true true apart ahead = refl
-left-ahead m stranded None deadline (Some (At e)) false true true apart ahead = ap (λ (b : Bool). not (b || false)) ahead
-left-ahead m stranded reservation deadline planned false true false apart ahead = refl
-left-ahead m stranded reservation deadline planned false false free apart ahead = refl
+left-ahead : (m : ℕ) (stranded : Bool) (deadline : Option ℕ) (planned : Option End) (waits starts free : Bool) → (waits ≡ true → starts ≡ false)
+    → is_past m (cond waits (cond stranded (At 0) (optional_end deadline)) (cond (starts && free) (cond stranded (At 0) (option_map_or (λ (end : End). end) planned Never)) Never)) ≡ false
+    → (not (waits && (option_map_or (λ (d : ℕ). nat_le d m) deadline false || stranded))
+    && not (starts && (free && (option_map_or (is_past m) planned false || stranded)))) ≡ true
+left-ahead m stranded deadline planned true true free apart ahead = absurd (let no : true ≡ false = apart refl in cc)
+left-ahead m true deadline planned true false free apart ahead = never-ahead m ahead
+left-ahead m false None planned true false free apart ahead = refl
+left-ahead m false (Some d) planned true false free apart ahead = ap (λ (b : Bool). not (b || false) && true) ahead
+left-ahead m true deadline planned false true true apart ahead = never-ahead m ahead
+left-ahead m false deadline None false true true apart ahead = refl
+left-ahead m false deadline (Some Never) false true true apart ahead = refl
+left-ahead m false deadline (Some (At e)) false true true apart ahead = ap (λ (b : Bool). not (b || false)) ahead
+left-ahead m stranded deadline planned false true false apart ahead = refl
+left-ahead m stranded deadline planned false false free apart ahead = refl
 
-pub acts-left : (r : Row) → IsLeftUntil (acts_at r.wants r.course) r
-acts-left r = λ m rs ahead.
-    left-ahead m (λ (n : ReservationId). not (is_accepted rs n)) r.wants.reservation r.wants.deadline r.course.planned (is_waiting r.course.state) (is_started r.course.state) (is_unasked r.course.kill)
+-- a job is left until time may act on it
+pub acts-left : (rs : List Accepted) (r : Row) → IsLeftUntil (acts_at rs r) rs r
+acts-left rs r = λ m ahead.
+    left-ahead m (is_stranded rs r) r.wants.deadline r.course.planned (is_waiting r.course.state) (is_started r.course.state) (is_unasked r.course.kill)
     (waits-not_started r.course.state) ahead
 
--- time leaves all jobs as they are that it leaves until an end that has not come
-pub left-all : (m : ℕ) (rs : List Accepted) (end : End) (rows : List Row) → is_past m end ≡ false → AllByRecursion (IsLeftUntil end) rows → list_all (is_left m rs) rows ≡ true
+-- ---- before its alarm time does nothing to a plan
+
+left-all : (m : ℕ) (rs : List Accepted) (end : End) (rows : List Row) → is_past m end ≡ false → AllByRecursion (IsLeftUntil end rs) rows → list_all (is_left m rs) rows ≡ true
 left-all m rs end [] ahead all = refl
 left-all m rs end (r ∷ rows) ahead all =
-    ap (λ (b : Bool). b && list_all (is_left m rs) rows) (all.0 m rs ahead) ∙ left-all m rs end rows ahead all.1
+    ap (λ (b : Bool). b && list_all (is_left m rs) rows) (all.0 m ahead) ∙ left-all m rs end rows ahead all.1
+
+filter-each : {X : Type 0} (test : X → Bool) (xs : List X) → AllByRecursion (λ x. test x ≡ true) xs → filter test xs ≡ xs
+filter-each test [] all = refl
+filter-each test (x ∷ xs) all = ap (λ b. cond b (x ∷ filter test xs) (filter test xs)) all.0 ∙ ap (λ ys. x ∷ ys) (filter-each test xs all.1)
+
+all-last : (m : ℕ) (alarm : End) (rs : List Accepted) → is_past m alarm ≡ false → AllByRecursion (LastsUntil alarm) rs → AllByRecursion (λ (r : Accepted). lasts m r ≡ true) rs
+all-last m alarm rs ahead all = all-implied (LastsUntil alarm) (λ (r : Accepted). lasts m r ≡ true) (λ r until. until m ahead) rs all
+
+-- time sets the moment alone
+pub quiet-advance : (alarm : End) (entry at : ℕ) (p : Plan) → IsQuiet alarm p → is_past (max p.moment at) alarm ≡ false → advance_plan entry at p ≡ come_to at p
+quiet-advance alarm entry at p is ahead =
+    let m = max p.moment at in
+    let gone : let_go (come_to at p) ≡ come_to at p =
+    ap (λ (rs : List Accepted). let q : Plan = record (come_to at p) { reservations = rs } in q) (filter-each (lasts m) p.reservations (all-last m alarm p.reservations ahead is.reservations)) in
+    ap (λ (q : Plan). call_in (expire entry q)) gone ∙ quiet (come_to at p) entry (left-all m p.reservations alarm p.rows ahead is.rows)
+
+none-gone : (m : ℕ) (rs : List Accepted) → AllByRecursion (λ (r : Accepted). lasts m r ≡ true) rs → (key : Key) → is_gone m rs key ≡ false
+none-gone m rs all (Job job) = refl
+none-gone m [] all (Reservation number) = refl
+none-gone m (r ∷ rs) all (Reservation number) =
+    ap (λ (b : Bool). (not b && eqb r.reservation.0 number.0) || is_gone m rs (Reservation number)) all.0 ∙ none-gone m rs all.1 (Reservation number)
+
+-- the calendar stays
+pub quiet-calendar : (alarm : End) (m : ℕ) (rs : List Accepted) (s : Schedule) → AllByRecursion (LastsUntil alarm) rs → is_past m alarm ≡ false → let_go_of m rs s ≡ s
+quiet-calendar alarm m rs s all ahead =
+    ap (λ (bs : List Booking). let t : Schedule = record s { bookings = bs } in t)
+    (filter-each (λ (b : Booking). not (is_gone m rs b.key)) s.bookings (each s.bookings))
+  where
+    each : (bs : List Booking) → AllByRecursion (λ (b : Booking). not (is_gone m rs b.key) ≡ true) bs
+    each [] = tt
+    each (b ∷ bs) = (ap not (none-gone m rs (all-last m alarm rs ahead all) b.key), each bs)
+
+-- and so does each job's course
+pub quiet-courses : (alarm : End) (at : ℕ) (p : Plan) → IsQuiet alarm p → is_past (max p.moment at) alarm ≡ false → AllByRecursion (λ (r : Row). course_then at p r ≡ r.course) p.rows
+quiet-courses alarm at p is ahead =
+    let m = max p.moment at in
+    let rs = p.reservations in
+    let same : filter (lasts m) rs ≡ rs = filter-each (lasts m) rs (all-last m alarm rs ahead is.reservations) in
+    all-implied (IsLeftUntil alarm rs) (λ (r : Row). course_then at p r ≡ r.course)
+    (λ r left.
+    (let own = and_parts (not (lapses m rs r)) (not (is_due m rs r)) (left m ahead) in
+    ap (λ (xs : List Accepted). (timed m xs r).course) same
+    ∙ ap (λ (x : Row). (called_in m rs x).course) (lapsed-same m rs r (not-true (lapses m rs r) own.0))
+    ∙ ap (λ (x : Row). x.course) (called-same m rs r (not-true (is_due m rs r) own.1)))) p.rows is.rows
+
+-- ---- loops
+
+-- one more element
+pub all-more : {X : Type 0} (P : X → Type 0) (xs : List X) (i : ℕ) (x : X) → i < length xs → x ≡ get_or xs i x → AllByRecursion P (take i xs) → P x → AllByRecursion P (take (i + 1) xs)
+all-more P xs i x within is all here =
+    subst (AllByRecursion P) (sym (take_more xs i x within ∙ ap (λ y. take i xs ++ y ∷ []) (sym is))) (all-push P (take i xs) x all here)

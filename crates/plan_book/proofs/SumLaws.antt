@@ -4,21 +4,18 @@ use Rattle.std.specs.List.{AllByRecursion}
 use Rattle.std.proofs.lemmas.List.Sums.{sum_by-cons, sum_by-append, sum_by_push}
 use Rattle.drmaa_types.specs.States.{is_waiting, is_started}
 use Rattle.drmaa_types.specs.declared.identifiers.JobId.{JobId}
-use Rattle.drmaa_types.specs.declared.moments.End.{End}
 use Rattle.drmaa_model.specs.declared.courses.Course.{Course}
 use Rattle.drmaa_model.specs.declared.courses.Phase.{Phase}
 use Rattle.drmaa_model.specs.declared.courses.Phase.TheVariants.{Idle, Launching, Alive}
 use Rattle.drmaa_model.specs.declared.rows.Row.{Row}
-use Rattle.drmaa_model.specs.Courses.{is_unasked, lesser_end}
+use Rattle.drmaa_model.specs.Courses.{is_unasked}
 use Rattle.drmaa_model.specs.Fit.{IsRising, number_of}
 use Rattle.drmaa_model.specs.Rows.{row_of, with_course}
 use Rattle.drmaa_model.specs.RowLaws.{all-implied, all-push, all_with_course, sum_with_course, sum-found}
 use Rattle.drmaa_model.specs.Size.{phase_room, room_of}
 use Rattle.plan_book.specs.declared.sums.Sums.{Sums}
 use Rattle.plan_book.specs.Owed.{owes, may_ask}
-use Rattle.plan_book.specs.Quiet.{IsLeftUntil}
-use Rattle.plan_book.specs.Sums.{acts_at, AreSums, AreFew, AreParts, with_job, with_others, without_job}
-use Rattle.plan_book.proofs.QuietLaws.{left-first, left-second, acts-left}
+use Rattle.plan_book.specs.Sums.{AreSums, AreFew, AreParts, with_job, with_others, without_job}
 
 -- ---- the sums of few rows are small
 
@@ -63,22 +60,13 @@ sums-few rows sums few are =
 
 -- ---- rows come in
 
-sooner : (soonest other : End) (rows : List Row) → AllByRecursion (IsLeftUntil soonest) rows → AllByRecursion (IsLeftUntil (lesser_end soonest other)) rows
-sooner soonest other rows all = all-implied (IsLeftUntil soonest) (IsLeftUntil (lesser_end soonest other)) (λ r left. left-first soonest other r left) rows all
-
-sooner-other : (soonest other : End) (rows : List Row) → AllByRecursion (IsLeftUntil other) rows → AllByRecursion (IsLeftUntil (lesser_end soonest other)) rows
-sooner-other soonest other rows all = all-implied (IsLeftUntil other) (IsLeftUntil (lesser_end soonest other)) (λ r left. left-second soonest other r left) rows all
-
-pub sums-push : (rows : List Row) (row : Row) (sums : Sums) → row.course.held < 2 ^ 32 → AreSums rows sums → AreSums (rows ++ row ∷ []) (with_job sums row.wants row.course)
+pub sums-push : (rows : List Row) (row : Row) (sums : Sums) → row.course.held < 2 ^ 32 → AreSums rows sums → AreSums (rows ++ row ∷ []) (with_job sums row.course)
 sums-push rows row sums small are = record {
   promised = ap (λ n. n + room_of row.course) are.promised ∙ sym (sum_by_push (λ (r : Row). room_of r.course) rows row);
   owed = ap (λ n. n + owes row.course) are.owed ∙ sym (sum_by_push (λ (r : Row). owes r.course) rows row);
   askable = ap (λ n. n + may_ask row.course) are.askable ∙ sym (sum_by_push (λ (r : Row). may_ask r.course) rows row);
   held = ap (λ n. n + row.course.held) are.held ∙ sym (sum_by_push (λ (r : Row). r.course.held) rows row);
   small = all-push (λ r. r.course.held < 2 ^ 32) rows row are.small small;
-  soonest = all-push (IsLeftUntil (lesser_end sums.soonest (acts_at row.wants row.course))) rows row
-      (sooner sums.soonest (acts_at row.wants row.course) rows are.soonest)
-      (left-second sums.soonest (acts_at row.wants row.course) row (acts-left row));
 }
 
 all-append : (P : Row → Type 0) (rows more : List Row) → AllByRecursion P rows → AllByRecursion P more → AllByRecursion P (rows ++ more)
@@ -92,8 +80,6 @@ sums-append rows more sums added are others = record {
   askable = omega (arith, are.askable, others.askable, sum_by-append (λ (r : Row). may_ask r.course) rows more);
   held = omega (arith, are.held, others.held, sum_by-append (λ (r : Row). r.course.held) rows more);
   small = all-append (λ r. r.course.held < 2 ^ 32) rows more are.small others.small;
-  soonest = all-append (IsLeftUntil (lesser_end sums.soonest added.soonest)) rows more
-      (sooner sums.soonest added.soonest rows are.soonest) (sooner-other sums.soonest added.soonest more others.soonest);
 }
 
 -- ---- one job goes on
@@ -113,14 +99,11 @@ module _ (job : JobId) (course : Course) (rows : List Row) (row : Row) (sums : S
     held = omega (arith, part (λ c. c.held), are.held);
   }
 
-  pub sums-change : course.held < 2 ^ 32 → AreSums (map (with_course job course) rows) (with_job (without_job row.course sums) row.wants course)
+  pub sums-change : course.held < 2 ^ 32 → AreSums (map (with_course job course) rows) (with_job (without_job row.course sums) course)
   sums-change small = record {
     promised = omega (arith, part room_of, sum-then room_of, are.promised);
     owed = omega (arith, part owes, sum-then owes, are.owed);
     askable = omega (arith, part may_ask, sum-then may_ask, are.askable);
     held = omega (arith, part (λ c. c.held), sum-then (λ c. c.held), are.held);
     small = all_with_course job course (λ r. r.course.held < 2 ^ 32) rows row rising found are.small small;
-    soonest = all_with_course job course (IsLeftUntil (lesser_end sums.soonest (acts_at row.wants course))) rows row rising found
-        (sooner sums.soonest (acts_at row.wants course) rows are.soonest)
-        (left-second sums.soonest (acts_at row.wants course) (record row { course = course }) (acts-left (record row { course = course })));
   }

@@ -22,6 +22,7 @@ use Rattle.drmaa_model.specs.Time.{lasts}
 use Rattle.drmaa_model.specs.TimeLaws.{timed}
 use Rattle.reservation_calendar.specs.Schedules.{Schedule}
 pub use Rattle.plan_book.specs.Owed.{owes, may_ask, owed, askable}
+use Rattle.plan_book.specs.Quiet.{IsQuiet}
 use Rattle.plan_book.specs.Ties.{IsTied}
 use Rattle.plan_book.specs.declared.book.Book.{Book}
 use Rattle.plan_book.specs.declared.moves.Move.{Move}
@@ -78,6 +79,7 @@ pub record IsKept (b : Book) : Type 0 where
   pub light : weight (plan_of b) ≤ 4_000_000
   pub queues : HasFewQueues (plan_of b)
   pub tied : IsTied b.calendar (plan_of b)
+  pub quiet : IsQuiet b.alarm (plan_of b)
 
 -- the order is of this kind and for this job, and was handed out or was not
 abbrev pub is_order : JobId → SignalKind → Bool → Order → Bool

@@ -1,10 +1,9 @@
 //! Time goes on: the four rules of time, over the plan as it is kept. None of it takes memory.
 ghost use Rattle.std.specs.Prelude.{◌≡◌, max};
-ghost use Rattle.std.specs.List.{list_all};
 ghost use Rattle.drmaa_model.specs.Time.{advance_plan, come_to, let_go, expire, call_in};
 ghost use Rattle.plan_book.specs.Book.{plan_of, HasPlace, HasRoom, spare, spare_orders, spare_rows};
 ghost use Rattle.plan_book.specs.Places.{AreInOrder};
-ghost use Rattle.plan_book.specs.Quiet.{is_left};
+ghost use Rattle.plan_book.specs.Quiet.{IsQuiet};
 ghost use Rattle.plan_book.specs.Ties.{let_go_of};
 
 use crate::book::Book;
@@ -30,7 +29,7 @@ impl Book {
     }
 
     /// The waiting jobs whose time is over end.
-    pub(crate) fn expire(&mut self, entry: u64)
+    fn expire(&mut self, entry: u64)
         requires room { HasRoom self.old }
         requires order { AreInOrder self.old.reservations.items }
         ensures plan { plan_of self.new ≡ expire entry (plan_of self.old) }
@@ -53,7 +52,7 @@ impl Book {
     }
 
     /// The started jobs whose time is over are asked to end.
-    pub(crate) fn call_in(&mut self)
+    fn call_in(&mut self)
         requires room { HasRoom self.old }
         requires order { AreInOrder self.old.reservations.items }
         ensures plan { plan_of self.new ≡ call_in (plan_of self.old) }
@@ -74,26 +73,31 @@ impl Book {
         self.rows.call_in_rows(&self.reservations, self.moment);
     }
 
-    /// Whether time leaves all jobs as they are, now that it has come to its moment.
-    fn is_quiet(&mut self) -> bool
+    /// Time has come to its moment: the jobs whose time is over end or are asked to end.
+    pub(crate) fn sweep(&mut self, entry: u64)
+        requires room { HasRoom self.old }
         requires order { AreInOrder self.old.reservations.items }
-        ensures value { result ≡ list_all (is_left self.old.moment self.old.reservations.items) self.old.rows.items }
-        ensures same { self.new ≡ self.old }
+        ensures plan { plan_of self.new ≡ call_in (expire entry (plan_of self.old)) }
+        ensures order { AreInOrder self.new.reservations.items }
+        ensures calendar { self.new.calendar ≡ self.old.calendar }
+        ensures room { HasRoom self.new }
+        ensures spare { spare self.new ≡ spare self.old }
+        ensures spare_orders { spare_orders self.new ≡ spare_orders self.old }
+        ensures place { HasPlace self.old → HasPlace self.new }
+        ensures spare_rows { spare_rows self.new ≡ spare_rows self.old }
     {
-        if !is_past(self.rows.soonest(), self.moment) {
-            return true;
+        if are_left(&self.reservations, self.rows.list(), self.moment) {
+            return;
         }
-        let quiet = are_left(&self.reservations, self.rows.list(), self.moment);
-        if quiet {
-            self.rows.add_up();
-        }
-        quiet
+        self.expire(entry);
+        self.call_in();
     }
 
-    /// Time goes on. It takes no memory.
+    /// Time goes on. It takes no memory. Before the alarm it looks at no job and no reservation.
     pub fn advance(&mut self, at: Moment, entry: u64)
         requires room { HasRoom self.old }
         requires order { AreInOrder self.old.reservations.items }
+        requires quiet { IsQuiet self.old.alarm (plan_of self.old) }
         ensures plan { plan_of self.new ≡ advance_plan entry at (plan_of self.old) }
         ensures order { AreInOrder self.new.reservations.items }
         ensures calendar { self.new.calendar ≡ let_go_of (max self.old.moment at) self.old.reservations.items self.old.calendar }
@@ -102,12 +106,15 @@ impl Book {
         ensures spare_orders { spare_orders self.new ≡ spare_orders self.old }
         ensures place { HasPlace self.old → HasPlace self.new }
         ensures spare_rows { spare_rows self.new ≡ spare_rows self.old }
+        ensures quiet { IsQuiet self.new.alarm (plan_of self.new) }
     {
-        self.come_to(at);
-        if self.is_quiet() {
+        let moment = self.moment_at(at);
+        if !is_past(self.alarm, moment) {
+            self.moment = moment;
             return;
         }
-        self.expire(entry);
-        self.call_in();
+        self.come_to(at);
+        self.sweep(entry);
+        self.set_alarm();
     }
 }

@@ -7,9 +7,13 @@ ghost use Rattle.drmaa_model.specs.Operation.{Meets};
 ghost use Rattle.drmaa_model.specs.Targets.{is_meant};
 ghost use Rattle.drmaa_model.specs.Time.{advance_plan};
 ghost use Rattle.plan_book.specs.Book.{plan_of, HasRoom, IsKept, joined, spare, spare_rows};
+ghost use Rattle.plan_book.specs.Places.{AreInOrder};
+ghost use Rattle.plan_book.specs.Quiet.{IsQuiet};
 ghost use Rattle.plan_book.specs.Waiting.{AreWaiting};
 
+use crate::alarms::soonest_of;
 use crate::book::Book;
+use crate::courses::lesser_end;
 use crate::targets::{is_done, is_meant};
 use drmaa_model::{Row, Target};
 use drmaa_types::{Limit, Moment, Refusal};
@@ -66,6 +70,7 @@ impl Book {
         ensures more { spare self.old ≤ spare self.new }
         ensures rows { OnOk result (n ≤ spare_rows self.new) }
         ensures changes { OnOk result (n ≤ spare self.new) }
+        ensures quiet { IsQuiet self.old.alarm (plan_of self.old) → IsQuiet self.new.alarm (plan_of self.new) }
     {
         self.changes.reserve(self.rows.owed() + n)?;
         self.rows.reserve(n)
@@ -78,11 +83,15 @@ impl Book {
         requires changes { length rows.items ≤ spare self.old }
         requires next_job { self.old.next_job + length rows.items < 2 ^ 64 }
         requires next_array { self.old.next_array + arrays < 2 ^ 64 }
+        requires quiet { IsQuiet self.old.alarm (plan_of self.old) }
+        requires order { AreInOrder self.old.reservations.items }
         ensures plan { plan_of self.new ≡ joined rows.items arrays (plan_of self.old) }
         ensures calendar { self.new.calendar ≡ self.old.calendar }
         ensures room { HasRoom self.new }
         ensures spare { spare self.old ≤ spare self.new + length rows.items }
+        ensures quiet { IsQuiet self.new.alarm (plan_of self.new) }
     {
+        self.alarm = lesser_end(self.alarm, soonest_of(&self.reservations, &rows));
         self.next_job += rows.len() as u64;
         self.next_array += arrays;
         self.rows.append_rows(rows);

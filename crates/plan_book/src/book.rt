@@ -1,7 +1,9 @@
 //! The plan as it is kept, and what is read of it.
-ghost use Rattle.std.specs.Prelude.{◌≡◌, ◌≤◌, length, max, filter, OnOk, IfErr};
+ghost use Rattle.std.specs.Prelude.{◌≡◌, ◌≤◌, true, length, max, filter, OnOk, IfErr};
+ghost use Rattle.std.specs.List.{AllByRecursion};
 ghost use Rattle.std.specs.Option.{option_copied, option_map};
 ghost use Rattle.drmaa_types.specs.Queues.{most_queues};
+ghost use Rattle.drmaa_model.specs.declared.rows.Row.{Row};
 ghost use Rattle.drmaa_model.specs.Order.{held};
 ghost use Rattle.drmaa_model.specs.Plan.{opening_plan};
 ghost use Rattle.drmaa_model.specs.Rows.{row_of};
@@ -15,14 +17,13 @@ ghost use Rattle.plan_book.specs.Places.{AreInOrder};
 use crate::kept::Rows;
 use crate::reservations::{is_lasting, reservation_of};
 use crate::rows::Facts;
-use crate::time::course_at;
+use crate::time::{course_at, is_past};
 use drmaa_model::{Accepted, Course, Order, Row};
-use drmaa_types::{Change, JobId, Moment, QueueList, Refusal, ReservationId};
+use drmaa_types::{Change, End, JobId, Moment, QueueList, Refusal, ReservationId};
 use reservation_calendar::Calendar;
 use std::alloc::Global;
 
 /// The plan as it is kept. Contracts see it as `plan_of` of it, and as the room that it has.
-#[derive(Drop)]
 pub struct Book {
     pub total: u32,
     pub queues: QueueList,
@@ -36,6 +37,27 @@ pub struct Book {
     pub next_job: u64,
     pub next_array: u64,
     pub next_reservation: u64,
+    /// Before it time leaves all jobs and reservations as they are. It may be sooner than need be.
+    pub alarm: End,
+}
+
+impl Drop for Book {
+    fn drop(self) {
+        let Book {
+            total: _,
+            queues: _,
+            moment: _,
+            rows: _,
+            reservations: _,
+            calendar: _,
+            orders: _,
+            changes: _,
+            next_job: _,
+            next_array: _,
+            next_reservation: _,
+            alarm: _,
+        } = self;
+    }
 }
 
 impl Book {
@@ -57,6 +79,7 @@ impl Book {
             next_job: 1,
             next_array: 1,
             next_reservation: 1,
+            alarm: End::Never,
         }
     }
 
@@ -93,6 +116,14 @@ impl Book {
         } else {
             self.moment
         }
+    }
+
+    /// Whether time leaves all jobs as they are on its way to this moment. It looks at no job.
+    pub fn is_quiet_at(&self, at: Moment) -> bool
+        requires kept { IsKept self.now }
+        ensures { result ≡ true → AllByRecursion (λ (row : Row). course_then at (plan_of self.now) row ≡ row.course) (plan_of self.now).rows }
+    {
+        !is_past(self.alarm, self.moment_at(at))
     }
 
     /// What is known of a job once time has come to this moment.

@@ -7,9 +7,11 @@ ghost use Rattle.drmaa_model.specs.Time.{advance_plan};
 ghost use Rattle.reservation_calendar.specs.Schedules.{without};
 ghost use Rattle.plan_book.specs.Book.{plan_of, calendar_of, HasPlace, HasRoom, IsKept, spare};
 ghost use Rattle.plan_book.specs.Places.{AreInOrder};
+ghost use Rattle.plan_book.specs.Quiet.{IsQuiet};
 ghost use Rattle.plan_book.specs.Ties.{IsFree, booked_for};
 
 use crate::book::Book;
+use crate::courses::lesser_end;
 use drmaa_model::Accepted;
 use drmaa_types::{End, Limit, Moment, Refusal, ReservationId};
 use reservation_calendar::{Calendar, Key};
@@ -62,6 +64,7 @@ impl Book {
         ensures room { HasRoom self.new }
         ensures spare { spare self.new ≡ spare self.old }
         ensures place { OnOk result (HasPlace self.new) }
+        ensures quiet { IsQuiet self.old.alarm (plan_of self.old) → IsQuiet self.new.alarm (plan_of self.new) }
     {
         self.reservations.reserve(1)
     }
@@ -70,11 +73,14 @@ impl Book {
         requires room { HasRoom self.old }
         requires place { HasPlace self.old }
         requires next { self.old.next_reservation + 1 < 2 ^ 64 }
+        requires quiet { IsQuiet self.old.alarm (plan_of self.old) }
         ensures plan { plan_of self.new ≡ with_reservation accepted (plan_of self.old) }
         ensures calendar { self.new.calendar ≡ self.old.calendar }
         ensures room { HasRoom self.new }
         ensures spare { spare self.new ≡ spare self.old }
+        ensures quiet { IsQuiet self.new.alarm (plan_of self.new) }
     {
+        self.alarm = lesser_end(self.alarm, End::At(accepted.until));
         self.reservations.push_reserved(accepted);
         self.next_reservation += 1;
     }
@@ -107,8 +113,8 @@ impl Book {
         }
         self.advance(at, entry);
         self.drop_reservation(reservation);
-        self.expire(entry);
-        self.call_in();
+        self.sweep(entry);
+        self.set_alarm();
         Ok(())
     }
 

@@ -7,6 +7,7 @@ ghost use Rattle.drmaa_model.specs.Time.{advance_plan, lasts, rows_at};
 ghost use Rattle.drmaa_model.specs.TimeLaws.{timed};
 ghost use Rattle.plan_book.specs.Book.{plan_of, HasRoom, IsKept, spare, spare_orders};
 ghost use Rattle.plan_book.specs.Places.{AreInOrder};
+ghost use Rattle.plan_book.specs.Quiet.{IsQuiet};
 ghost use Rattle.plan_book.specs.Sweeps.{acted, growth, asking, is_asking};
 
 use crate::book::Book;
@@ -87,6 +88,7 @@ impl Book {
         ensures changes { OnOk result (changes ≤ spare self.new) }
         ensures orders { OnOk result (orders ≤ spare_orders self.new) }
         ensures enough { changes ≤ spare self.old → orders ≤ spare_orders self.old → IsOk result }
+        ensures quiet { IsQuiet self.old.alarm (plan_of self.old) → IsQuiet self.new.alarm (plan_of self.new) }
     {
         self.changes.reserve(self.rows.owed() + changes)?;
         self.orders.reserve(self.rows.askable() + orders)
@@ -102,6 +104,7 @@ impl Book {
         ensures calendar { self.new.calendar ≡ self.old.calendar }
         ensures room { HasRoom self.new }
         ensures spare { spare self.old ≤ spare self.new + growth what (acted target.now what self.old.rows.items) }
+        ensures quiet { IsQuiet self.old.alarm (plan_of self.old) → IsQuiet self.new.alarm (plan_of self.new) }
     {
         note_controls(
             self.rows.list(),

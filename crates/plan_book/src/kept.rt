@@ -1,7 +1,6 @@
 //! The rows of a book with what they come to. Where one job goes on or jobs come in, that is kept up; else it is added up anew.
 ghost use Rattle.std.specs.Prelude.{◌≡◌, ◌+◌, ◌≤◌, ◌^◌, ◌<◌, [], ◌++◌, ◌&&◌, not, map, filter, vec_len, vec_capacity, OnOk};
 ghost use Rattle.std.specs.Option.{option_copied};
-ghost use Rattle.std.specs.List.{AllByRecursion};
 ghost use Rattle.drmaa_model.specs.declared.rows.Row.{Row};
 ghost use Rattle.drmaa_model.specs.Controlling.{control_step, is_done};
 ghost use Rattle.drmaa_model.specs.Effects.{left_by, is_forgotten};
@@ -13,20 +12,24 @@ ghost use Rattle.drmaa_model.specs.Targets.{is_meant};
 ghost use Rattle.drmaa_model.specs.Time.{lapsed, called_in};
 ghost use Rattle.plan_book.specs.Book.{owed, askable};
 ghost use Rattle.plan_book.specs.Places.{AreInOrder};
-ghost use Rattle.plan_book.specs.Quiet.{IsLeftUntil};
 
 use crate::sums::{Sums, going_on, sums_of, with_others};
 use crate::{arrivals, homes, rows, sweeps, time};
 use drmaa_model::{Accepted, Course, Row, Target};
-use drmaa_types::{Control, End, JobId, Moment};
+use drmaa_types::{Control, JobId, Moment};
 use std::alloc::{AllocError, Global};
 use std::marker::Model;
 
 /// The kept jobs with what they come to. Contracts see the vector of their rows.
-#[derive(Drop)]
 pub struct Rows {
     list: Vec<Row>,
     sums: Sums,
+}
+
+impl Drop for Rows {
+    fn drop(self) {
+        let Rows { list: _, sums: _ } = self;
+    }
 }
 
 impl Model for Rows {
@@ -98,20 +101,6 @@ impl Rows {
         self.sums.held as u32
     }
 
-    /// Until then time leaves all jobs as they are, whatever reservations there are. It may be sooner than need be.
-    pub fn soonest(&self) -> End
-        ensures { AllByRecursion (IsLeftUntil result) self.now.items }
-    {
-        self.sums.soonest
-    }
-
-    /// Finds out anew what the rows come to, so that `soonest` is that of the jobs as they are.
-    pub(crate) fn add_up(&mut self)
-        ensures { self.new ≡ self.old }
-    {
-        self.sums = sums_of(&self.list);
-    }
-
     /// Takes the memory for so many jobs more.
     ///
     /// # Errors
@@ -141,7 +130,7 @@ impl Rows {
     {
         match rows::place_of(&self.list, job) {
             Ok(place) => {
-                self.sums = going_on(&self.sums, &self.list[place], course);
+                self.sums = going_on(&self.sums, &self.list[place].course, course);
                 self.list[place].course = *course;
             }
             Err(_) => {}

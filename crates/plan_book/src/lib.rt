@@ -3,6 +3,7 @@
 #![tactic(auto)]
 
 mod advances;
+mod alarms;
 mod arrivals;
 mod book;
 mod bookings;

@@ -5,10 +5,14 @@ ghost use Rattle.drmaa_model.specs.Operation.{size_at, Meets, is_answer};
 ghost use Rattle.drmaa_model.specs.Size.{weight};
 ghost use Rattle.drmaa_model.specs.Time.{advance_plan};
 ghost use Rattle.plan_book.specs.Book.{plan_of, calendar_of, HasRoom, spare, spare_orders, IsMove, IsKept, Refuses, grows, asks, moved};
+ghost use Rattle.plan_book.specs.Places.{AreInOrder};
+ghost use Rattle.plan_book.specs.Quiet.{IsQuiet};
 ghost use Rattle.plan_book.specs.Ties.{MayMake, IsBeside, KeepsTie, booked_first, cancelled_last, is_booking};
 
+use crate::alarms::soonest_with;
 use crate::book::Book;
 use crate::changes::push_change;
+use crate::courses::lesser_end;
 use crate::moves::{Booked, Move};
 use crate::orders::edit_orders;
 use crate::rooms::room_of;
@@ -38,6 +42,7 @@ impl Book {
         ensures orders { OnOk result (asks m.now ≤ spare_orders self.new) }
         ensures more { spare self.old ≤ spare self.new }
         ensures enough { grows m.now ≤ spare self.old → asks m.now ≤ spare_orders self.old → IsOk result }
+        ensures quiet { IsQuiet self.old.alarm (plan_of self.old) → IsQuiet self.new.alarm (plan_of self.new) }
     {
         self.changes.reserve(self.rows.owed() + m.grows())?;
         self.orders.reserve(self.rows.askable() + m.asks())
@@ -110,11 +115,16 @@ impl Book {
         requires move_is { IsMove (plan_of self.old) m.now }
         requires changes { grows m.now ≤ spare self.old }
         requires orders { asks m.now ≤ spare_orders self.old }
+        requires quiet { IsQuiet self.old.alarm (plan_of self.old) }
+        requires order { AreInOrder self.old.reservations.items }
         ensures plan { plan_of self.new ≡ moved entry m.now (plan_of self.old) }
         ensures calendar { self.new.calendar ≡ self.old.calendar }
         ensures room { HasRoom self.new }
         ensures spare { spare self.old ≤ spare self.new + grows m.now }
+        ensures quiet { IsQuiet self.new.alarm (plan_of self.new) }
     {
+        let soonest = soonest_with(&self.reservations, &self.rows, m.job, &m.after);
+        self.alarm = lesser_end(self.alarm, soonest);
         let change = Change {
             entry,
             job: m.job,

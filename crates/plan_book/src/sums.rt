@@ -1,15 +1,9 @@
 //! What rows come to.
 ghost use Rattle.std.specs.Prelude.{◌≡◌, ◌<◌, ◌^◌, []};
-ghost use Rattle.drmaa_types.specs.declared.moments.End.{End};
-ghost use Rattle.std.specs.Option.{option_map_or};
-ghost use Rattle.plan_book.specs.Sums.{unless_reserved, acts_at, AreSums, AreFew, AreParts, with_job, with_others, without_job};
+ghost use Rattle.plan_book.specs.Sums.{AreSums, AreFew, AreParts, with_job, with_others, without_job};
 
-use crate::book::opening_moment;
-use crate::courses::{is_unasked, lesser_end, optional_end};
 use crate::rooms::{may_ask, owes, room_of};
-use crate::states::{is_started, is_waiting};
-use drmaa_model::{Course, Row, Wants};
-use drmaa_types::End;
+use drmaa_model::{Course, Row};
 
 /// What all rows come to. The sums have 128 bits, which no number of rows fills.
 #[derive(Clone, Copy)]
@@ -22,8 +16,6 @@ pub struct Sums {
     pub askable: u128,
     /// The slots that they hold.
     pub held: u128,
-    /// Until then time leaves them all as they are.
-    pub soonest: End,
 }
 
 /// What no jobs come to.
@@ -35,7 +27,6 @@ fn no_sums() -> Sums
         owed: 0,
         askable: 0,
         held: 0,
-        soonest: End::Never,
     }
 }
 
@@ -45,15 +36,15 @@ pub fn sums_of(rows: &Vec<Row>) -> Sums
 {
     let mut sums = no_sums();
     for row in rows {
-        sums = with_job(&sums, &row.wants, &row.course);
+        sums = with_job(&sums, &row.course);
     }
     sums
 }
 
 /// What they come to with one job more.
-fn with_job(sums: &Sums, wants: &Wants, course: &Course) -> Sums
+fn with_job(sums: &Sums, course: &Course) -> Sums
     requires few { AreFew sums.now }
-    ensures value { result ≡ with_job sums.now wants.now course.now }
+    ensures value { result ≡ with_job sums.now course.now }
     ensures small { course.now.held < 2 ^ 32 }
 {
     Sums {
@@ -61,7 +52,6 @@ fn with_job(sums: &Sums, wants: &Wants, course: &Course) -> Sums
         owed: sums.owed + owes(course) as u128,
         askable: sums.askable + may_ask(course) as u128,
         held: sums.held + wide(course.held),
-        soonest: lesser_end(sums.soonest, acts_at(wants, course)),
     }
 }
 
@@ -76,19 +66,17 @@ pub fn with_others(sums: &Sums, others: &Sums) -> Sums
         owed: sums.owed + others.owed,
         askable: sums.askable + others.askable,
         held: sums.held + others.held,
-        soonest: lesser_end(sums.soonest, others.soonest),
     }
 }
 
-/// What they come to when the job of this row goes on to this course.
-pub fn going_on(sums: &Sums, row: &Row, course: &Course) -> Sums
+/// What they come to when a job goes on from one course to another.
+pub fn going_on(sums: &Sums, before: &Course, course: &Course) -> Sums
     requires few { AreFew sums.now }
-    requires parts { AreParts row.now.course sums.now }
-    ensures value { result ≡ with_job (without_job row.now.course sums.now) row.now.wants course.now }
+    requires parts { AreParts before.now sums.now }
+    ensures value { result ≡ with_job (without_job before.now sums.now) course.now }
     ensures small { course.now.held < 2 ^ 32 }
 {
-    let others = without_job(sums, &row.course);
-    with_job(&others, &row.wants, course)
+    with_job(&without_job(sums, before), course)
 }
 
 /// What they come to without a job that has this course.
@@ -103,40 +91,6 @@ fn without_job(sums: &Sums, course: &Course) -> Sums
         owed: sums.owed - owes(course) as u128,
         askable: sums.askable - may_ask(course) as u128,
         held: sums.held - wide(course.held),
-        soonest: sums.soonest,
-    }
-}
-
-/// The first moment at which time may act on a job: a waiting one may lapse, and a started one may be asked to end. Where it names a
-/// reservation, which may be gone, that is moment 0.
-fn acts_at(wants: &Wants, course: &Course) -> End
-    ensures { result ≡ acts_at wants.now course.now }
-{
-    if is_waiting(course.state) {
-        return unless_reserved(wants, optional_end(wants.deadline));
-    }
-    if is_started(course.state) && is_unasked(course.kill) {
-        return unless_reserved(wants, end_or_never(course.planned));
-    }
-    End::Never
-}
-
-fn unless_reserved(wants: &Wants, end: End) -> End
-    ensures { result ≡ unless_reserved wants.now end }
-{
-    if wants.reservation.is_some() {
-        End::At(opening_moment())
-    } else {
-        end
-    }
-}
-
-fn end_or_never(end: Option<End>) -> End
-    ensures { result ≡ option_map_or (λ (end : End). end) end End.Never }
-{
-    match end {
-        Some(end) => end,
-        None => End::Never,
     }
 }
 

@@ -17,7 +17,8 @@ use drmaa_model::{Accepted, Course, Order, Row};
 use drmaa_types::{Change, End, JobState, Moment, Note, SignalKind};
 use reservation_calendar::{Calendar, Key};
 
-fn is_stranded(rs: &Vec<Accepted>, row: &Row) -> bool
+/// Whether the job names a reservation that is gone.
+pub fn is_stranded(rs: &Vec<Accepted>, row: &Row) -> bool
     requires order { AreInOrder rs.now.items }
     ensures { result ≡ is_stranded rs.now.items row.now }
 {

@@ -41,10 +41,15 @@ use std::marker::Model;
 
 /// Jobs, reservations, orders, changes and time. Contracts see its plan, and `spare`: how many changes more it has
 /// room for.
-#[derive(Drop)]
 pub struct Core {
     alloc: Global,
     book: Book,
+}
+
+impl Drop for Core {
+    fn drop(self) {
+        let Core { alloc: _, book: _ } = self;
+    }
 }
 
 impl Model for Core {

@@ -10,6 +10,7 @@ mod ready;
 mod reports;
 mod rows;
 mod running;
+mod sums;
 mod times;
 
 pub use cores::Core;

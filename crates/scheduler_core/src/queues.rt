@@ -3,28 +3,34 @@ ghost use Rattle.std.specs.Prelude.{◌≡◌, ◌^◌, ◌<◌};
 ghost use Rattle.drmaa_model.specs.Load.{held_in_queue, in_queue};
 ghost use Rattle.plan_book.specs.Book.{plan_of, IsKept};
 ghost use Rattle.scheduler_core.specs.Launches.{capped, queue_left, room_of};
+ghost use Rattle.scheduler_core.specs.Sums.{IsKnown};
 
+use crate::sums::Known;
 use drmaa_model::{Row, Wants};
 use drmaa_types::queue_at;
 use plan_book::Book;
 
 /// Whether so many slots are within the limit of the queue that an ordinary job is of, where it is of one.
-pub fn has_room(book: &Book, wants: &Wants, slots: u32) -> bool
+pub fn has_room(book: &Book, wants: &Wants, slots: u32, known: &mut Known) -> bool
     requires kept { IsKept book.now }
     requires few { (plan_of book.now).total < 2 ^ 32 }
-    ensures { result ≡ room_of (plan_of book.now) slots wants.now }
+    requires known { IsKnown (plan_of book.now).rows known.old }
+    ensures value { result ≡ room_of (plan_of book.now) slots wants.now }
+    ensures known { IsKnown (plan_of book.now).rows known.new }
 {
-    match left_in_queue(book, wants) {
+    match left_in_queue(book, wants, known) {
         Some(left) => slots <= left,
         None => true,
     }
 }
 
 /// The slots that the limit of the job's queue leaves, where it is of one.
-pub fn left_in_queue(book: &Book, wants: &Wants) -> Option<u32>
+pub fn left_in_queue(book: &Book, wants: &Wants, known: &mut Known) -> Option<u32>
     requires kept { IsKept book.now }
     requires few { (plan_of book.now).total < 2 ^ 32 }
-    ensures { result ≡ queue_left (plan_of book.now) wants.now }
+    requires known { IsKnown (plan_of book.now).rows known.old }
+    ensures value { result ≡ queue_left (plan_of book.now) wants.now }
+    ensures known { IsKnown (plan_of book.now).rows known.new }
 {
     let Some(place) = wants.queue else {
         return None;
@@ -32,7 +38,8 @@ pub fn left_in_queue(book: &Book, wants: &Wants) -> Option<u32>
     let Some(queue) = queue_at(book.queues(), place) else {
         return None;
     };
-    Some(queue.limit.saturating_sub(in_queue(book.rows(), place)))
+    let used = known.in_queue(book, place);
+    Some(queue.limit.saturating_sub(used))
 }
 
 /// So many slots at most, and no more than are left.
@@ -46,7 +53,7 @@ pub fn capped(most: u32, left: Option<u32>) -> u32
 }
 
 /// The slots held by the ordinary jobs of the queue at this place.
-fn in_queue(rows: &Vec<Row>, place: u32) -> u32
+pub fn in_queue(rows: &Vec<Row>, place: u32) -> u32
     requires { in_queue place rows.now.items < 2 ^ 32 }
     ensures { result ≡ in_queue place rows.now.items }
 {

@@ -8,9 +8,11 @@ ghost use Rattle.drmaa_model.specs.Order.{held, is_queued, is_reached, is_ready,
 ghost use Rattle.drmaa_model.specs.Time.{lasts, advance_plan};
 ghost use Rattle.plan_book.specs.Book.{plan_of, IsKept};
 ghost use Rattle.scheduler_core.specs.Launches.{seen, seen_row, may_launch, turn_of, free_of, slots_of, IsMost};
+ghost use Rattle.scheduler_core.specs.Sums.{IsKnown};
 
 use crate::queues::{capped, has_room, left_in_queue};
 use crate::rows::{is_beaten, is_reached};
+use crate::sums::Known;
 use crate::times::course_then;
 use drmaa_model::{Accepted, Row, Wants};
 use drmaa_types::{ArrayId, JobState, Moment, ReservationId};
@@ -32,8 +34,9 @@ pub fn first_ready_at<'a>(book: &'a Book, moment: Moment, used: u32) -> Option<&
         return None;
     }
     let mut best: Option<&Row> = None;
+    let mut known = Known::new();
     for row in book.rows() {
-        best = best_with(book, best, row, moment, used);
+        best = best_with(book, best, row, moment, used, &mut known);
     }
     best
 }
@@ -45,18 +48,21 @@ fn best_with<'a>(
     row: &'a Row,
     moment: Moment,
     used: u32,
+    known: &mut Known,
 ) -> Option<&'a Row>
     requires kept { IsKept book.now }
     requires later { (plan_of book.now).moment ≤ moment }
     requires used { used ≡ held (plan_of book.now).rows }
+    requires known { IsKnown (plan_of book.now).rows known.old }
     ensures may { may_launch moment (plan_of book.now) (seen_row moment (plan_of book.now) row.now) ≡ true →
         option_copied result ≡ Some (option_map_or (λ (first : Row). better first row.now) (option_copied best.entry) row.now) }
     ensures not { may_launch moment (plan_of book.now) (seen_row moment (plan_of book.now) row.now) ≡ false → option_copied result ≡ option_copied best.entry }
+    ensures known { IsKnown (plan_of book.now).rows known.new }
 {
     if is_beaten(best, row) {
         return best;
     }
-    if may_launch_at(book, row, moment, used) {
+    if may_launch_at(book, row, moment, used, known) {
         Some(row)
     } else {
         best
@@ -76,28 +82,32 @@ pub fn is_settled(book: &Book, at: Moment) -> bool
     first_ready_at(book, moment, used).is_none()
 }
 
-fn may_launch_at(book: &Book, row: &Row, moment: Moment, used: u32) -> bool
+fn may_launch_at(book: &Book, row: &Row, moment: Moment, used: u32, known: &mut Known) -> bool
     requires kept { IsKept book.now }
     requires later { (plan_of book.now).moment ≤ moment }
     requires used { used ≡ held (plan_of book.now).rows }
-    ensures { result ≡ may_launch moment (plan_of book.now) (seen_row moment (plan_of book.now) row.now) }
+    requires known { IsKnown (plan_of book.now).rows known.old }
+    ensures value { result ≡ may_launch moment (plan_of book.now) (seen_row moment (plan_of book.now) row.now) }
+    ensures known { IsKnown (plan_of book.now).rows known.new }
 {
     if !is_free(used, row.wants.min, book.total()) {
         return false;
     }
-    if !comes_at(book, row, moment) {
+    if !comes_at(book, row, moment, known) {
         return false;
     }
-    has_slots(book, &row.wants, moment, row.wants.min)
+    has_slots(book, &row.wants, moment, row.wants.min, known)
 }
 
 /// Whether a job may be launched as far as its state, its start and its array go.
-fn comes_at(book: &Book, row: &Row, moment: Moment) -> bool
+fn comes_at(book: &Book, row: &Row, moment: Moment, known: &mut Known) -> bool
     requires kept { IsKept book.now }
     requires few { (plan_of book.now).total < 2 ^ 32 }
     requires later { (plan_of book.now).moment ≤ moment }
-    ensures { result ≡ (is_queued (seen_row moment (plan_of book.now) row.now).course.state
+    requires known { IsKnown (plan_of book.now).rows known.old }
+    ensures value { result ≡ (is_queued (seen_row moment (plan_of book.now) row.now).course.state
         && is_reached moment row.now.wants.start && turn_of (plan_of book.now).rows row.now.wants) }
+    ensures known { IsKnown (plan_of book.now).rows known.new }
 {
     if !is_queued(row.course.state) {
         return false;
@@ -107,6 +117,7 @@ fn comes_at(book: &Book, row: &Row, moment: Moment) -> bool
         &row.wants,
         course_then(book, row, moment).state,
         moment,
+        known,
     )
 }
 
@@ -116,10 +127,12 @@ fn is_free(used: u32, least: u32, total: u32) -> bool
     u64::from(used) + u64::from(least) <= u64::from(total)
 }
 
-fn may_come(book: &Book, wants: &Wants, state: JobState, moment: Moment) -> bool
+fn may_come(book: &Book, wants: &Wants, state: JobState, moment: Moment, known: &mut Known) -> bool
     requires kept { IsKept book.now }
     requires few { (plan_of book.now).total < 2 ^ 32 }
-    ensures { result ≡ (is_queued state && is_reached moment wants.now.start && turn_of (plan_of book.now).rows wants.now) }
+    requires known { IsKnown (plan_of book.now).rows known.old }
+    ensures value { result ≡ (is_queued state && is_reached moment wants.now.start && turn_of (plan_of book.now).rows wants.now) }
+    ensures known { IsKnown (plan_of book.now).rows known.new }
 {
     if !is_queued(state) {
         return false;
@@ -127,13 +140,15 @@ fn may_come(book: &Book, wants: &Wants, state: JobState, moment: Moment) -> bool
     if !is_reached(moment, wants.start) {
         return false;
     }
-    has_turn(book, wants)
+    has_turn(book, wants, known)
 }
 
-fn has_turn(book: &Book, wants: &Wants) -> bool
+fn has_turn(book: &Book, wants: &Wants, known: &mut Known) -> bool
     requires kept { IsKept book.now }
     requires few { (plan_of book.now).total < 2 ^ 32 }
-    ensures { result ≡ turn_of (plan_of book.now).rows wants.now }
+    requires known { IsKnown (plan_of book.now).rows known.old }
+    ensures value { result ≡ turn_of (plan_of book.now).rows wants.now }
+    ensures known { IsKnown (plan_of book.now).rows known.new }
 {
     let Some(bound) = wants.bound else {
         return true;
@@ -141,11 +156,11 @@ fn has_turn(book: &Book, wants: &Wants) -> bool
     let Some(array) = wants.array else {
         return true;
     };
-    in_array(book.rows(), array) < bound
+    known.in_array(book, array) < bound
 }
 
 /// How many members of an array hold slots.
-fn in_array(rows: &Vec<Row>, array: ArrayId) -> u32
+pub fn in_array(rows: &Vec<Row>, array: ArrayId) -> u32
     requires { in_array array rows.now.items < 2 ^ 32 }
     ensures { result ≡ in_array array rows.now.items }
 {
@@ -170,7 +185,7 @@ fn held_by_member(row: &Row, array: ArrayId) -> u32
 }
 
 /// The slots held by the jobs that name a reservation.
-fn in_reservation(rows: &Vec<Row>, number: ReservationId) -> u32
+pub fn in_reservation(rows: &Vec<Row>, number: ReservationId) -> u32
     requires { in_reservation number rows.now.items < 2 ^ 32 }
     ensures { result ≡ in_reservation number rows.now.items }
 {
@@ -195,36 +210,48 @@ fn held_inside(row: &Row, number: ReservationId) -> u32
 }
 
 /// The slots that a job may have more: those of its reservation, or else those that are free.
-fn has_slots(book: &Book, wants: &Wants, moment: Moment, slots: u32) -> bool
+fn has_slots(book: &Book, wants: &Wants, moment: Moment, slots: u32, known: &mut Known) -> bool
     requires kept { IsKept book.now }
     requires few { (plan_of book.now).total < 2 ^ 32 }
     requires later { (plan_of book.now).moment ≤ moment }
-    ensures { result ≡ slots_of (seen moment (plan_of book.now)) slots wants.now }
+    requires known { IsKnown (plan_of book.now).rows known.old }
+    ensures value { result ≡ slots_of (seen moment (plan_of book.now)) slots wants.now }
+    ensures known { IsKnown (plan_of book.now).rows known.new }
 {
     match wants.reservation {
-        Some(number) => has_slots_in(book, number, moment, slots),
-        None => has_slots_free(book, wants, moment, slots),
+        Some(number) => has_slots_in(book, number, moment, slots, known),
+        None => has_slots_free(book, wants, moment, slots, known),
     }
 }
 
 /// The slots that an ordinary job may have more, of the calendar and within the limit of its queue.
-fn has_slots_free(book: &Book, wants: &Wants, moment: Moment, slots: u32) -> bool
+fn has_slots_free(book: &Book, wants: &Wants, moment: Moment, slots: u32, known: &mut Known) -> bool
     requires kept { IsKept book.now }
     requires few { (plan_of book.now).total < 2 ^ 32 }
     requires later { (plan_of book.now).moment ≤ moment }
-    ensures { result ≡ free_of (seen moment (plan_of book.now)) slots wants.now }
+    requires known { IsKnown (plan_of book.now).rows known.old }
+    ensures value { result ≡ free_of (seen moment (plan_of book.now)) slots wants.now }
+    ensures known { IsKnown (plan_of book.now).rows known.new }
 {
-    if !has_room(book, wants, slots) {
+    if !has_room(book, wants, slots, known) {
         return false;
     }
     book.calendar()
         .fits(slots, moment, planned_end(wants, moment))
 }
 
-fn has_slots_in(book: &Book, number: ReservationId, moment: Moment, slots: u32) -> bool
+fn has_slots_in(
+    book: &Book,
+    number: ReservationId,
+    moment: Moment,
+    slots: u32,
+    known: &mut Known,
+) -> bool
     requires kept { IsKept book.now }
     requires few { (plan_of book.now).total < 2 ^ 32 }
-    ensures { result ≡ has_slots_in (seen moment (plan_of book.now)) slots number }
+    requires known { IsKnown (plan_of book.now).rows known.old }
+    ensures value { result ≡ has_slots_in (seen moment (plan_of book.now)) slots number }
+    ensures known { IsKnown (plan_of book.now).rows known.new }
 {
     let Some(r) = lasting_of(book.reservations(), number, moment) else {
         return false;
@@ -232,7 +259,7 @@ fn has_slots_in(book: &Book, number: ReservationId, moment: Moment, slots: u32) 
     if !covers(r, moment) {
         return false;
     }
-    u64::from(in_reservation(book.rows(), number)) + u64::from(slots) <= u64::from(r.slots)
+    u64::from(known.in_reservation(book, number)) + u64::from(slots) <= u64::from(r.slots)
 }
 
 fn covers(r: &Accepted, moment: Moment) -> bool
@@ -268,7 +295,7 @@ pub fn slots_at(book: &Book, row: &Row, moment: Moment, used: u32) -> u32
     match row.wants.reservation {
         Some(number) => most.min(left_in(book, number, moment)),
         None => {
-            let most = capped(most, left_in_queue(book, &row.wants));
+            let most = capped(most, left_in_queue(book, &row.wants, &mut Known::new()));
             let planned = planned_end(&row.wants, moment);
             match book
                 .calendar()

@@ -6,8 +6,8 @@ use Rattle.plan_book.specs.Book.{plan_of}
 use Rattle.scheduler_core.specs.Launches.{free_of, seen}
 use Rattle.scheduler_core.proofs.ready.has_slots.Goals as goal
 
-pub returns-in-None : goal.returns-in-None
-returns-in-None c =
+pub returns-in-None-clause-value : goal.returns-in-None-clause-value
+returns-in-None-clause-value c =
     let q = seen c.args.moment (plan_of c.args.book.now) in
-    c.has_slots_free.ensures
+    c.has_slots_free.ensures.value
     ∙ sym (ap (λ (o : Option ReservationId). option_map_or (has_slots_in q c.args.slots) o (free_of q c.args.slots c.args.wants.now)) c.in-None.is)

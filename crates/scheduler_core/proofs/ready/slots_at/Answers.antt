@@ -12,7 +12,7 @@ returns-in-Some-largest c =
     let found = c.in-Some-largest.ensures {u = tt} in
     most-calendar c.calendar.result.now p c.args.moment c.args.row.now.wants c.in-Some-largest.slots c.capped-most.result c.args.used c.left_in_queue.result c.planned_end-planned.result
     c.requires.kept.fit (subst (λ (s : Schedule). IsTied s p) (sym c.calendar.ensures) c.requires.kept.tied) c.requires.later c.in-None.is c.requires.used c.requires.free
-    (c.capped-most.ensures ∙ ap (λ (n : ℕ). capped n c.left_in_queue.result) (c.min-most.ensures ∙ ap (λ (n : ℕ). min c.args.row.now.wants.max (n - c.args.used)) c.total.ensures)) c.left_in_queue.ensures c.planned_end-planned.ensures
+    (c.capped-most.ensures ∙ ap (λ (n : ℕ). capped n c.left_in_queue.result) (c.min-most.ensures ∙ ap (λ (n : ℕ). min c.args.row.now.wants.max (n - c.args.used)) c.total.ensures)) c.left_in_queue.ensures.value c.planned_end-planned.ensures
     found.range.0 found.range.1 found.fits found.greatest
 
 pub returns-in-None-largest : goal.returns-in-None-largest
@@ -34,4 +34,7 @@ largest-requires-clause-range c =
     let w = c.args.row.now.wants in
     let whole : w.min ≤ c.min-most.result = omega (arith, c.min-most.ensures, c.total.ensures, c.requires.free, c.requires.order) in
     subst (λ (n : ℕ). w.min ≤ n) (sym c.capped-most.ensures)
-    (capped-least p c.args.moment w w.min c.min-most.result c.left_in_queue.result c.requires.kept.fit c.in-None.is c.left_in_queue.ensures c.requires.has whole)
+    (capped-least p c.args.moment w w.min c.min-most.result c.left_in_queue.result c.requires.kept.fit c.in-None.is c.left_in_queue.ensures.value c.requires.has whole)
+
+pub left_in_queue-requires-clause-known : goal.left_in_queue-requires-clause-known
+left_in_queue-requires-clause-known c = c.new.ensures (plan_of c.args.book.now).rows

@@ -49,6 +49,7 @@ returns-clause-kept c =
       light = omega (arith, ap weight (plan c), size, c.requires.kept.light);
       queues = subst HasFewQueues (sym (plan c)) c.requires.kept.queues;
       tied = tied c;
+      quiet = c.put_reservation.ensures.quiet;
     }
 
 pub returns-then-size-limit-clause-meets : goal.returns-then-size-limit-clause-meets

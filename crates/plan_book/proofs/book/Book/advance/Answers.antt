@@ -1,14 +1,19 @@
-use Rattle.std.proofs.Common.{◌≡◌, true, ap, sym, ◌∙◌}
-use Rattle.std.specs.List.{list_all}
+use Rattle.std.proofs.Common.{◌≡◌, ℕ, false, max, sym, ◌∙◌, ap}
 use Rattle.drmaa_model.specs.Plan.{Plan}
-use Rattle.drmaa_model.specs.Time.{expire, call_in}
+use Rattle.drmaa_model.specs.Time.{is_past}
 use Rattle.plan_book.specs.Book.{plan_of}
-use Rattle.plan_book.specs.Quiet.{is_left}
-use Rattle.plan_book.proofs.QuietLaws.{quiet}
+use Rattle.plan_book.proofs.QuietLaws.{quiet-advance, quiet-calendar}
 use Rattle.plan_book.proofs.book.Book.advance.Goals as goal
 
-pub returns-then-is_quiet-clause-plan : goal.returns-then-is_quiet-clause-plan
-returns-then-is_quiet-clause-plan c =
-    let s = c.come_to.new.self in
-    let left : list_all (is_left s.moment s.reservations.items) s.rows.items ≡ true = sym c.is_quiet.ensures.value ∙ c.if-is_quiet.true in
-    ap plan_of c.is_quiet.ensures.same ∙ sym (quiet (plan_of s) c.args.entry left) ∙ ap (λ (p : Plan). call_in (expire c.args.entry p)) c.come_to.ensures.plan
+pub returns-then-not-is_past-clause-plan : goal.returns-then-not-is_past-clause-plan
+returns-then-not-is_past-clause-plan c =
+    let s = c.args.self.now in
+    let p = plan_of s in
+    let ahead : is_past (max p.moment c.args.at) s.alarm ≡ false = ap (λ (m : ℕ). is_past m s.alarm) (sym c.moment_at-moment.ensures) ∙ sym c.is_past.ensures ∙ c.if-not-is_past.true in
+    ap (λ (m : ℕ). let q : Plan = record p { moment = m } in q) c.moment_at-moment.ensures ∙ sym (quiet-advance s.alarm c.args.entry c.args.at p c.requires.quiet ahead)
+
+pub returns-then-not-is_past-clause-calendar : goal.returns-then-not-is_past-clause-calendar
+returns-then-not-is_past-clause-calendar c =
+    let s = c.args.self.now in
+    let ahead : is_past (max s.moment c.args.at) s.alarm ≡ false = ap (λ (m : ℕ). is_past m s.alarm) (sym c.moment_at-moment.ensures) ∙ sym c.is_past.ensures ∙ c.if-not-is_past.true in
+    sym (quiet-calendar s.alarm (max s.moment c.args.at) s.reservations.items s.calendar c.requires.quiet.reservations ahead)

@@ -78,6 +78,7 @@ returns-clause-kept c = record {
   light = omega (arith, ap weight (plan c), size c, c.if-size-limit.false, c.requires.limit);
   queues = subst HasFewQueues (sym (plan c)) c.requires.kept.queues;
   tied = tied c;
+  quiet = c.control_now.ensures.quiet c.advance.ensures.quiet;
 }
 
 pub returns-clause-spare : goal.returns-clause-spare

@@ -1,13 +1,15 @@
-use Rattle.std.proofs.Common.{List, ◌++◌, map, length, ap, ◌∙◌, arith}
+use Rattle.std.proofs.Common.{List, ◌++◌, map, length, ap, sym, ◌∙◌, subst, arith}
 use Rattle.std.specs.Global.{Vec}
-use Rattle.std.specs.List.{flat_map}
+use Rattle.std.specs.List.{AllByRecursion, flat_map}
 use Rattle.drmaa_types.specs.declared.changes.Change.{Change}
 use Rattle.drmaa_model.specs.declared.courses.Order.{Order}
 use Rattle.drmaa_model.specs.declared.rows.Row.{Row}
 use Rattle.drmaa_model.specs.Controlling.{control, control_step, asked_orders}
 use Rattle.drmaa_model.specs.Plan.{Plan}
 use Rattle.plan_book.specs.Book.{plan_of, owed, askable}
+use Rattle.plan_book.specs.Quiet.{IsLeftUntil}
 use Rattle.plan_book.specs.Sweeps.{noted}
+use Rattle.plan_book.proofs.AlarmLaws.{quiet-controlled}
 use Rattle.plan_book.proofs.SweepLaws.{control-owed, control-askable}
 use Rattle.plan_book.proofs.book.Book.control_now.Goals as goal
 
@@ -53,3 +55,11 @@ returns-clause-spare c =
     let sum = control-owed c.args.entry s.moment c.args.target.now c.args.what s.rows.items in
     let notes = ap (λ (v : Vec Row). length (flat_map (noted c.args.entry s.moment c.args.target.now c.args.what) v.items)) c.list.ensures in
     omega (arith, notes, ap owed c.control_rows.ensures, sum, c.requires.room.changes, c.requires.changes, c.note_controls.ensures.len, c.note_controls.ensures.capacity)
+
+pub returns-clause-quiet : goal.returns-clause-quiet
+returns-clause-quiet c quiet =
+    let s = c.args.self.now in
+    record {
+      rows = subst (AllByRecursion (IsLeftUntil s.alarm s.reservations.items)) (sym c.control_rows.ensures) (quiet-controlled s.alarm s.reservations.items s.moment c.args.target.now c.args.what s.rows.items quiet.rows);
+      reservations = quiet.reservations;
+    }

@@ -1,5 +1,6 @@
 use Rattle.std.proofs.Common.{◌≡◌, ◌+◌, ℕ, List, filter, not, ◌&&◌, refl, sym, ◌∙◌, ap, subst, arith}
 use Rattle.std.specs.Prelude.{Result, Err}
+use Rattle.std.specs.List.{AllByRecursion}
 use Rattle.drmaa_types.specs.declared.refusals.Refusal.{Refusal}
 use Rattle.drmaa_types.specs.declared.refusals.Refusal.TheVariants.{OutOfResource}
 use Rattle.drmaa_types.specs.declared.refusals.Limit.TheVariants as resource
@@ -15,8 +16,10 @@ use Rattle.drmaa_model.specs.Targets.{is_meant}
 use Rattle.drmaa_model.specs.Time.{advance_plan}
 use Rattle.drmaa_model.specs.TimeLaws.{weight-advance}
 use Rattle.plan_book.specs.Book.{plan_of, owed, askable, HasFewQueues}
+use Rattle.plan_book.specs.Quiet.{IsLeftUntil}
 use Rattle.plan_book.specs.Ties.{IsTied}
 use Rattle.plan_book.specs.TieLaws.{tied-then}
+use Rattle.plan_book.proofs.AlarmLaws.{quiet-left}
 use Rattle.plan_book.proofs.ArrivalLaws.{left-owed, left-askable, reaped-weight, tied-reaped}
 use Rattle.plan_book.proofs.book.Book.drop_rows.Goals as goal
 use Rattle.plan_book.proofs.book.Book.drop_rows.Goals.{After-drop_done}
@@ -66,6 +69,8 @@ returns-clause-kept c =
       tied = subst (IsTied c.advance.new.self.calendar) (sym (plan c))
           (tied-reaped c.advance.new.self.calendar t q (fit c)
           (tied-then c.args.self.now.calendar c.advance.new.self.calendar c.args.entry c.args.at p q c.requires.kept.fit c.requires.kept.tied c.advance.ensures.calendar refl));
+      quiet = (let was = c.advance.new.self in let left = quiet-left was.alarm (λ (r : Row). not (is_meant t r && is_done r)) (plan_of was) c.advance.ensures.quiet in
+          record { rows = subst (AllByRecursion (IsLeftUntil was.alarm was.reservations.items)) (sym c.drop_done.ensures) left.rows; reservations = left.reservations });
     }
 
 pub returns-clause-spare : goal.returns-clause-spare

@@ -11,8 +11,10 @@ use Rattle.drmaa_model.specs.Time.{advance_plan}
 use Rattle.drmaa_model.specs.TimeLaws.{weight-advance}
 use Rattle.drmaa_model.specs.WeightLaws.{forget-weight}
 use Rattle.plan_book.specs.Book.{plan_of, owed, askable, HasFewQueues}
+use Rattle.plan_book.specs.Quiet.{IsQuiet}
 use Rattle.plan_book.specs.Ties.{IsTied}
 use Rattle.plan_book.specs.TieLaws.{tied-then}
+use Rattle.plan_book.proofs.AlarmLaws.{quiet-forgotten}
 use Rattle.plan_book.proofs.ArrivalLaws.{forgot-owed, forgot-askable, tied-forgot}
 use Rattle.plan_book.proofs.book.Book.forget_home.Goals as goal
 use Rattle.plan_book.proofs.book.Book.forget_home.Goals.{After-leave_reservations}
@@ -66,6 +68,9 @@ returns-clause-kept c =
       tied = subst (IsTied c.advance.new.self.calendar) (sym (plan c))
           (tied-forgot c.advance.new.self.calendar c.args.home q (fit c)
           (tied-then c.args.self.now.calendar c.advance.new.self.calendar c.args.entry c.args.at p q c.requires.kept.fit c.requires.kept.tied c.advance.ensures.calendar refl));
+      quiet = subst (IsQuiet c.advance.new.self.alarm) (sym (plan c))
+          (subst (λ (x : Plan). IsQuiet c.advance.new.self.alarm (forget_home c.args.home x)) c.advance.ensures.plan
+          (quiet-forgotten c.advance.new.self.alarm c.args.home (plan_of c.advance.new.self) c.advance.ensures.quiet));
     }
 
 pub returns-clause-spare : goal.returns-clause-spare

@@ -45,4 +45,5 @@ returns-clause-kept c = record {
   light = (let most = c.requires.limit in omega (arith, ap weight (plan c), most));
   queues = subst HasFewQueues (sym (plan c)) c.requires.kept.queues;
   tied = tied c;
+  quiet = record { rows = c.move_now.ensures.quiet.rows; reservations = c.move_now.ensures.quiet.reservations };
 }

@@ -1,9 +1,15 @@
-use Rattle.std.proofs.Common.{List, sym, ◌∙◌, ap, arith}
+use Rattle.std.proofs.Common.{List, sym, ◌∙◌, ap, subst, arith}
+use Rattle.std.specs.List.{AllByRecursion}
+use Rattle.drmaa_types.specs.declared.moments.End.{End}
 use Rattle.drmaa_types.specs.declared.changes.Change.{Change}
 use Rattle.drmaa_model.specs.declared.courses.Order.{Order}
 use Rattle.drmaa_model.specs.declared.rows.Row.{Row}
+use Rattle.drmaa_model.specs.Courses.{lesser_end}
 use Rattle.drmaa_model.specs.Plan.{Plan}
 use Rattle.plan_book.specs.Book.{plan_of, moved, owed, askable, owes, may_ask}
+use Rattle.plan_book.specs.Quiet.{IsLeftUntil, LastsUntil}
+use Rattle.plan_book.proofs.AlarmLaws.{quiet-put}
+use Rattle.plan_book.proofs.QuietLaws.{left-second, lasting-first}
 use Rattle.plan_book.proofs.MoveLaws.{moved-changes, moved-owed, moved-askable, part-of}
 use Rattle.plan_book.proofs.book.Book.move_now.Goals as goal
 
@@ -41,3 +47,19 @@ returns-clause-spare c =
     let p = plan_of c.args.self.now in
     let sum = moved-owed c.args.entry p c.args.m.now c.requires.fit c.requires.move_is in
     omega (arith, ap owed c.put_course.ensures, sum, c.requires.room.changes, c.requires.changes, c.push_change.ensures.len, c.push_change.ensures.capacity)
+
+pub returns-clause-quiet : goal.returns-clause-quiet
+returns-clause-quiet c =
+    let s = c.args.self.now in
+    let rs = s.reservations.items in
+    let m = c.args.m.now in
+    let row = c.requires.move_is.row in
+    let found = c.requires.move_is.found in
+    let soon = c.soonest_with-soonest.result in
+    record {
+      rows = subst (λ (e : End). AllByRecursion (IsLeftUntil e rs) c.put_course.new.self.items) (sym c.lesser_end-self.ensures)
+          (subst (AllByRecursion (IsLeftUntil (lesser_end s.alarm soon) rs)) (sym c.put_course.ensures)
+          (quiet-put s.alarm soon (plan_of s) m.job m.after row c.requires.quiet c.requires.fit.jobs.rising found
+          (left-second s.alarm soon rs (record row { course = m.after }) (c.soonest_with-soonest.ensures row found))));
+      reservations = subst (λ (e : End). AllByRecursion (LastsUntil e) rs) (sym c.lesser_end-self.ensures) (lasting-first s.alarm soon rs c.requires.quiet.reservations);
+    }

@@ -51,6 +51,7 @@ returns-clause-kept c =
       light = omega (arith, ap weight (plan c), size, more, c.weight.ensures, c.len.ensures, c.if-size-limit.false, c.requires.limit);
       queues = subst HasFewQueues (sym (plan c)) c.requires.kept.queues;
       tied = tied c;
+      quiet = c.put_rows.ensures.quiet;
     }
 
 pub returns-then-size-limit-clause-meets : goal.returns-then-size-limit-clause-meets

@@ -31,4 +31,5 @@ returns-clause-kept c =
       light = omega (arith, ap weight c.advance.ensures.plan, same);
       queues = subst HasFewQueues (sym c.advance.ensures.plan) c.requires.kept.queues;
       tied = tied-then c.args.self.now.calendar c.advance.new.self.calendar c.args.entry c.args.at p (plan_of c.advance.new.self) c.requires.kept.fit c.requires.kept.tied c.advance.ensures.calendar c.advance.ensures.plan;
+      quiet = c.advance.ensures.quiet;
     }

@@ -1,0 +1,107 @@
+//! The alarm: before it time leaves all jobs and reservations as they are, so that an advance sets the moment alone. None of it
+//! takes memory.
+ghost use Rattle.std.specs.Prelude.{◌≡◌, Some};
+ghost use Rattle.std.specs.List.{AllByRecursion};
+ghost use Rattle.std.specs.Option.{option_map_or};
+ghost use Rattle.drmaa_types.specs.declared.moments.End.{End};
+ghost use Rattle.drmaa_model.specs.declared.rows.Row.{Row};
+ghost use Rattle.drmaa_model.specs.Fit.{IsRising, number_of};
+ghost use Rattle.drmaa_model.specs.Rows.{row_of};
+ghost use Rattle.plan_book.specs.Book.{plan_of, HasPlace, HasRoom, spare, spare_orders, spare_rows};
+ghost use Rattle.plan_book.specs.Places.{AreInOrder};
+ghost use Rattle.plan_book.specs.Quiet.{IsLeftUntil, LastsUntil, IsQuiet, acts_at, unless_stranded};
+
+use crate::book::{Book, opening_moment};
+use crate::courses::{is_unasked, lesser_end, optional_end};
+use crate::kept::Rows;
+use crate::states::{is_started, is_waiting};
+use crate::time::is_stranded;
+use drmaa_model::{Accepted, Course, Row};
+use drmaa_types::{End, JobId};
+
+impl Book {
+    /// Sets the alarm anew, by all jobs and reservations.
+    pub(crate) fn set_alarm(&mut self)
+        requires order { AreInOrder self.old.reservations.items }
+        ensures plan { plan_of self.new ≡ plan_of self.old }
+        ensures calendar { self.new.calendar ≡ self.old.calendar }
+        ensures room { HasRoom self.old → HasRoom self.new }
+        ensures spare { spare self.new ≡ spare self.old }
+        ensures spare_orders { spare_orders self.new ≡ spare_orders self.old }
+        ensures place { HasPlace self.old → HasPlace self.new }
+        ensures spare_rows { spare_rows self.new ≡ spare_rows self.old }
+        ensures quiet { IsQuiet self.new.alarm (plan_of self.new) }
+    {
+        let rows = soonest_of(&self.reservations, self.rows.list());
+        self.alarm = lesser_end(rows, first_end(&self.reservations));
+    }
+}
+
+/// The first moment at which time may act on a job that has this course: a waiting one may lapse, and a started one may be asked to
+/// end.
+fn acts_at(rs: &Vec<Accepted>, row: &Row, course: &Course) -> End
+    requires order { AreInOrder rs.now.items }
+    ensures { result ≡ acts_at rs.now.items (record row.now { course = course.now }) }
+{
+    if is_waiting(course.state) {
+        return unless_stranded(is_stranded(rs, row), optional_end(row.wants.deadline));
+    }
+    if is_started(course.state) && is_unasked(course.kill) {
+        return unless_stranded(is_stranded(rs, row), end_or_never(course.planned));
+    }
+    End::Never
+}
+
+fn unless_stranded(stranded: bool, end: End) -> End
+    ensures { result ≡ unless_stranded stranded end }
+{
+    if stranded {
+        End::At(opening_moment())
+    } else {
+        end
+    }
+}
+
+fn end_or_never(end: Option<End>) -> End
+    ensures { result ≡ option_map_or (λ (end : End). end) end End.Never }
+{
+    match end {
+        Some(end) => end,
+        None => End::Never,
+    }
+}
+
+/// Before it time leaves a job as it is that goes on to this course.
+pub fn soonest_with(rs: &Vec<Accepted>, rows: &Rows, job: JobId, course: &Course) -> End
+    requires order { AreInOrder rs.now.items }
+    requires rising { IsRising number_of rows.now.items }
+    ensures { (row : Row) → row_of job rows.now.items ≡ Some row → IsLeftUntil result rs.now.items (record row { course = course.now }) }
+{
+    match rows.row_of(job) {
+        Some(row) => acts_at(rs, row, course),
+        None => End::Never,
+    }
+}
+
+/// Before it time leaves each of the jobs as it is.
+pub fn soonest_of(rs: &Vec<Accepted>, rows: &Vec<Row>) -> End
+    requires order { AreInOrder rs.now.items }
+    ensures { AllByRecursion (IsLeftUntil result rs.now.items) rows.now.items }
+{
+    let mut soonest = End::Never;
+    for row in rows {
+        soonest = lesser_end(soonest, acts_at(rs, row, &row.course));
+    }
+    soonest
+}
+
+/// Before it each reservation lasts.
+fn first_end(rs: &Vec<Accepted>) -> End
+    ensures { AllByRecursion (LastsUntil result) rs.now.items }
+{
+    let mut first = End::Never;
+    for r in rs {
+        first = lesser_end(first, End::At(r.until));
+    }
+    first
+}
