@@ -18,9 +18,15 @@ use std::sync::{Mutex, Wait};
 use std::time::Clock as Pause;
 
 /// How many clients are still at work. No contract rests on what it answers.
-#[derive(Drop)]
 pub struct Done {
     clients: Mutex<u32>,
+}
+
+// By hand, so that how its parts are let go is proved here once, and not again in each crate that lets one go.
+impl Drop for Done {
+    fn drop(self) {
+        let Done { clients: _ } = self;
+    }
 }
 
 impl Done {

@@ -136,7 +136,7 @@ fn launch_round<R: Wait, S: Spawner, C: Clock>(
     let Some(launch) = taken else {
         return Ok(Launched::Nothing);
     };
-    match spawner.start(launch.job, launch.attempt, &launch.words) {
+    match spawner.start(launch.job, launch.attempt, launch.words.get()) {
         Ok(child) => {
             let made = report_start(rt, desk, &launch, true);
             put(&mut reaper.children, &launch, child);

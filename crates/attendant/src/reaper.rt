@@ -7,11 +7,21 @@ use slab::Slab;
 use std::alloc::Global;
 
 /// A child with the run that it is of.
-#[derive(Drop)]
 pub struct Held<T> {
     pub job: JobId,
     pub attempt: u32,
     pub child: T,
+}
+
+// By hand, so that how its parts are let go is proved here once, and not again in each crate that lets one go.
+impl<T: Drop> Drop for Held<T> {
+    fn drop(self) {
+        let Held {
+            job: _,
+            attempt: _,
+            child: _,
+        } = self;
+    }
 }
 
 /// An order that was taken and is not reported, with what its delivery answered: true for Ok.
@@ -22,10 +32,19 @@ pub struct Hand {
 }
 
 /// The children, and the order in hand.
-#[derive(Drop)]
 pub struct Reaper<T> {
     pub(crate) children: Slab<Held<T>>,
     pub(crate) order: Option<Hand>,
+}
+
+// By hand, so that how its parts are let go is proved here once, and not again in each crate that lets one go.
+impl<T: Drop> Drop for Reaper<T> {
+    fn drop(self) {
+        let Reaper {
+            children: _,
+            order: _,
+        } = self;
+    }
 }
 
 impl<T> Reaper<T> {

@@ -2,7 +2,7 @@
 use call_history::{Call, Reply};
 use drmaa_model::Target;
 use drmaa_types::{
-    AttributeList, Control, Exit, JobId, JobState, ListOf, SessionId, Text, TextList,
+    AttributeList, Boxed, Control, Exit, JobId, JobState, ListOf, SessionId, Text, TextList,
 };
 use job_template::JobTemplate;
 use std::alloc::Global;
@@ -97,11 +97,19 @@ pub fn call_of(alloc: Global, ask: Ask) -> Call {
         Ask::Create => Call::CreateJobSession {
             name: Some(text(alloc, "s")),
         },
-        Ask::Run { rerunnable } => Call::RunJob {
-            session: SESSION,
-            template: template(alloc, rerunnable),
-        },
+        Ask::Run { rerunnable } => run(alloc, rerunnable),
         _ => plain_call(ask),
+    }
+}
+
+/// Runs a job. Where memory is wanting it is another call, and then no test passes.
+fn run(alloc: Global, rerunnable: bool) -> Call {
+    match Boxed::new(alloc, template(alloc, rerunnable)) {
+        Ok(template) => Call::RunJob {
+            session: SESSION,
+            template,
+        },
+        Err(_) => Call::TakeLaunch,
     }
 }
 

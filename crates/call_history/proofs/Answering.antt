@@ -63,7 +63,7 @@ kept-kind call.TakeSignal = refl
 kept-kind (call.SignalDone job attempt kind) = refl
 kept-kind (call.SignalFailed job attempt kind) = refl
 
-abbrev MakesOne : StepAnswer → Type 0
+abbrev pub MakesOne : StepAnswer → Type 0
 MakesOne (gives r next) = Unit {0}
 MakesOne nothing = ⊥
 MakesOne not_yet = ⊥
@@ -106,7 +106,7 @@ effect-makes at w call.TakeSignal is = absurd (cc)
 effect-makes at w (call.SignalDone job attempt kind) is = tt
 effect-makes at w (call.SignalFailed job attempt kind) is = tt
 
-always : (at : ℕ) (w : World) (c : Call) → is_answered (kind_of_call c) ≡ true → MakesOne (answer w at c)
+pub always : (at : ℕ) (w : World) (c : Call) → is_answered (kind_of_call c) ≡ true → MakesOne (answer w at c)
 always at w c is = answer-cases at (advance w at) c MakesOne (λ why e. tt) (λ free. effect-makes at (advance w at) c is)
 
 -- such a call makes no entry only for want of memory or room in the journal

@@ -1,3 +1,4 @@
 pub mod Answering
 pub mod Tellings
 pub mod Turning
+pub mod Wanting

@@ -1,5 +1,5 @@
 -- Why a call through a desk is refused: our profile.
-use Rattle.std.specs.Prelude.{◌≡◌, Bool, true, false, Option, Some, None}
+use Rattle.std.specs.Prelude.{◌≡◌, ℕ, Bool, true, false, Option, Some, None}
 use Rattle.drmaa_types.specs.declared.refusals.Refusal.{Refusal}
 use Rattle.drmaa_types.specs.declared.refusals.Refusal.TheVariants as why
 use Rattle.drmaa_types.specs.declared.refusals.Limit.TheVariants as limit
@@ -19,6 +19,11 @@ refusal_of fault.OutOfMemory = Some why.OutOfMemory
 refusal_of fault.NotYet = None
 refusal_of fault.Nothing = None
 refusal_of (fault.Journal n) = Some (why.OutOfResource (limit.Journal n))
+
+-- what is short: room in the journal, where it would have this size and that is too large, or else memory
+abbrev pub shortage : Option ℕ → Refusal
+shortage None = why.OutOfMemory
+shortage (Some size) = why.OutOfResource (limit.Journal size)
 
 -- Refused: by the one entry that the call made, or with no entry, where memory ran out or the journal would be too large.
 pub data IsRefused (config : Config) (before : Dial) (old : Seat) (asked : Call) (reason : Refusal) (after : Dial) (new : Seat) : Type 0 where

@@ -2,10 +2,12 @@
 #![tactic(auto)]
 
 mod asks;
+mod asks_with;
 mod bells;
 mod calls;
 mod desks;
 mod machines;
+mod shortages;
 mod told;
 mod tries;
 mod waits;

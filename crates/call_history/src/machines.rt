@@ -11,8 +11,8 @@ ghost use Rattle.call_history.specs.Callers.{calls_of};
 ghost use Rattle.call_history.specs.Clients.{seen_of, mine_of, number_of, retired_of, KnowsItsOwn};
 
 use drmaa_machine::{Config, Machine};
-use drmaa_types::{Chronicle, Refusal};
-use std::alloc::Global;
+use drmaa_types::{Boxed, Chronicle, Refusal};
+use std::alloc::{AllocError, Global};
 use std::marker::Model;
 use turn_lock::{NotePass, Opener, Pass, TurnLock};
 
@@ -30,12 +30,13 @@ pub type Note = NotePass<Machine>;
 /// its configuration.
 pub struct SharedMachine {
     pub(crate) lock: TurnLock<Machine>,
+    alloc: Global,
 }
 
 // By hand, so that how its parts are let go is proved here once, and not again in each crate that lets a machine go.
 impl Drop for SharedMachine {
     fn drop(self) {
-        let SharedMachine { lock: _ } = self;
+        let SharedMachine { lock: _, alloc: _ } = self;
     }
 }
 
@@ -69,7 +70,18 @@ impl SharedMachine {
     {
         let machine = Machine::new(alloc, config)?;
         let (lock, opener) = locked(alloc, machine)?;
-        Ok((SharedMachine { lock }, opener))
+        Ok((SharedMachine { lock, alloc }, opener))
+    }
+
+    /// This value in memory of its own, as a call holds a template or a filter.
+    ///
+    /// # Errors
+    ///
+    /// Want of memory.
+    pub(crate) fn own<T: Drop>(&self, value: T) -> Result<Boxed<T>, AllocError>
+        ensures { IfOk result (λ b. b ≡ value) }
+    {
+        Boxed::new(self.alloc, value)
     }
 
     /// The next client: its number is the next one, from 0. It has seen what the opener has, and made nothing. It takes no memory.
@@ -167,7 +179,7 @@ impl SharedMachine {
             calls_of result.ledger.history number ≡ own }
         ensures strangers { (number : ℕ) → length (retired_of opener) ≤ number → calls_of result.ledger.history number ≡ [] }
     {
-        let SharedMachine { lock } = self;
+        let SharedMachine { lock, alloc: _ } = self;
         lock.close(opener)
     }
 }

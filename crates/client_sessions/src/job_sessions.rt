@@ -46,7 +46,7 @@ impl JobSession {
             (Call.RunJob self.session template) why (dial (C.given desk.new.clock) (C.least desk.new.clock)) desk.new.client) }
     {
         let session = self.session;
-        let job = desk.ask_for::<R, JobId>(rt, Call::RunJob { session, template })?;
+        let job = desk.ask_to_run(rt, session, template)?;
         Ok(Job { session, job })
     }
 
@@ -87,14 +87,7 @@ impl JobSession {
             step,
             bound: max_parallel,
         };
-        let told = desk.ask_for::<R, SubmittedArray>(
-            rt,
-            Call::RunBulk {
-                session,
-                template,
-                indices,
-            },
-        )?;
+        let told = desk.ask_to_run_array(rt, session, template, indices)?;
         Ok(JobArray {
             session,
             array: told.array,
@@ -122,7 +115,7 @@ impl JobSession {
             (Call.GetJobs self.session filter) why (dial (C.given desk.new.clock) (C.least desk.new.clock)) desk.new.client) }
     {
         let session = self.session;
-        let told = desk.ask_for::<R, JobNumbers>(rt, Call::GetJobs { session, filter })?;
+        let told = desk.ask_for_jobs(rt, session, filter)?;
         Ok(told.numbers)
     }
 

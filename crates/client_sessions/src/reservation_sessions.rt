@@ -42,7 +42,7 @@ impl ReservationSession {
             (Call.RequestReservation self.session template) why (dial (C.given desk.new.clock) (C.least desk.new.clock)) desk.new.client) }
     {
         let session = self.session;
-        desk.ask_for::<R, Reserved>(rt, Call::RequestReservation { session, template })
+        desk.ask_to_reserve(rt, session, template)
     }
 
     /// What is known of an accepted reservation of the session (GFD.231, ReservationSession::getReservation).

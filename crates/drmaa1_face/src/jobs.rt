@@ -7,10 +7,10 @@ ghost use Rattle.drmaa1_face.specs.Answers.{Answered};
 ghost use Rattle.drmaa1_face.specs.FaceEntries.FaceCall.{run, run_bulk, control, ps};
 ghost use Rattle.drmaa1_face.specs.Posts.{post};
 
-use crate::asking::ask_for;
+use crate::asking::{ask_for, ask_to_run, ask_to_run_array};
 use crate::face::Face;
 use crate::faults::FaceFault;
-use call_history::{Call, Desk, SubmittedArray};
+use call_history::{Call, Desk};
 use drmaa_model::{Indices, Target};
 use drmaa_types::{Clock, Control, JobId, JobState};
 use job_template::JobTemplate;
@@ -44,7 +44,7 @@ impl Face {
         let Some(session) = self.active else {
             return Err(FaceFault::NoActiveSession);
         };
-        match ask_for::<R, C, JobId>(rt, desk, Call::RunJob { session, template }) {
+        match ask_to_run(rt, desk, session, template) {
             Ok(job) => Ok(job),
             Err(why) => Err(FaceFault::Refused(why)),
         }
@@ -80,12 +80,7 @@ impl Face {
             step,
             bound: None,
         };
-        let call = Call::RunBulk {
-            session,
-            template,
-            indices,
-        };
-        match ask_for::<R, C, SubmittedArray>(rt, desk, call) {
+        match ask_to_run_array(rt, desk, session, template, indices) {
             Ok(told) => Ok(BulkJobs {
                 first: told.first,
                 count: told.count,

@@ -15,10 +15,10 @@ ghost use Rattle.drmaa1_face.specs.Posts.{post};
 ghost use Rattle.drmaa1_face.specs.Steps.{IsMade, Halts, Stops};
 ghost use Rattle.drmaa1_face.specs.Steps.Ask.{at_once};
 
-use crate::asking::ask_for;
+use crate::asking::{ask_for, ask_for_jobs};
 use crate::face::Face;
 use crate::faults::FaceFault;
-use call_history::{Call, Desk, JobNumbers};
+use call_history::{Call, Desk};
 use drmaa_model::Target;
 use drmaa_types::{
     Clock, IdList, JobFilter, JobId, JobInfo, Refusal, SessionId, Timeout, WaitKind,
@@ -142,7 +142,7 @@ pub(crate) fn every_job<R: Wait, C: Clock>(
     ensures timely { result ≢ Err Refusal.Timeout }
 {
     let filter = any_job();
-    match ask_for::<R, C, JobNumbers>(rt, desk, Call::GetJobs { session, filter }) {
+    match ask_for_jobs(rt, desk, session, filter) {
         Ok(told) => Ok(told.numbers),
         Err(why) => Err(why),
     }

@@ -4,7 +4,7 @@ ghost use Rattle.drmaa_model.specs.Infos.{infos};
 ghost use Rattle.drmaa_model.specs.Effects.{not_yet};
 ghost use Rattle.drmaa_model.specs.Steps.{answer};
 ghost use Rattle.machine_readings.specs.Stores.{world_of, world_at, IsKept};
-ghost use Rattle.drmaa_machine.specs.Looks.{IsAnswer};
+ghost use Rattle.drmaa_machine.specs.Looks.{IsAnswer, overfull};
 ghost use Rattle.drmaa_machine.specs.Waits.{call_of};
 ghost use Rattle.machine_calls.specs.Serving.{Keeps, spare_of};
 
@@ -68,6 +68,20 @@ pub fn look_in(store: &Store, at: Moment, question: Question) -> Answer
         Question::Settled => Answer::Settled(store.core.settled(at)),
         Question::Held => Answer::Held(store.core.held()),
         Question::Changes { from } => Answer::Changes(batch(store.core.changes(), from)),
+        Question::Full => Answer::Full(overfull(store)),
+    }
+}
+
+/// The size that the journal would have with one entry more, where that is above the greatest.
+fn overfull(store: &Store) -> Option<u64>
+    requires { IsKept store.now }
+    ensures { result ≡ overfull (world_of store.now) }
+{
+    let size = store.entries + 1 + store.core.size();
+    if size > store.config.journal {
+        Some(size)
+    } else {
+        None
     }
 }
 

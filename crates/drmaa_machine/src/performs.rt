@@ -43,12 +43,12 @@ pub fn perform(store: &mut Store, at: Moment, call: &Call) -> Result<Replies, No
         Call::ReservationSessionNames => read(store, at, call),
         Call::OpenMonitoring => monitor(store, at),
         Call::CloseSession { session } => close(store, at, *session),
-        Call::RunJob { session, template } => run_job(store, at, *session, template),
+        Call::RunJob { session, template } => run_job(store, at, *session, template.get()),
         Call::RunBulk {
             session,
             template,
             indices,
-        } => run_bulk(store, at, *session, template, *indices),
+        } => run_bulk(store, at, *session, template.get(), *indices),
         Call::GetJobs { .. } => read(store, at, call),
         Call::GetJobArray { .. } => read(store, at, call),
         Call::Control {
@@ -67,7 +67,10 @@ pub fn perform(store: &mut Store, at: Moment, call: &Call) -> Result<Replies, No
             timeout,
         } => wait(store, at, *session, jobs, *kind, *begun, *timeout),
         Call::RequestReservation { session, template } => request_reservation(
-            store, at, *session, template,
+            store,
+            at,
+            *session,
+            template.get(),
         ),
         Call::GetReservation { .. } => read(store, at, call),
         Call::GetReservations { .. } => read(store, at, call),

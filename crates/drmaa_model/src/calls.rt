@@ -1,7 +1,7 @@
 //! The calls that a machine serves.
 use drmaa_types::{
-    ArrayId, Control, Exit, IdList, JobFilter, JobId, Moment, ReservationId, SessionId, SignalKind,
-    Text, Timeout, WaitKind,
+    ArrayId, Boxed, Control, Exit, IdList, JobFilter, JobId, Moment, ReservationId, SessionId,
+    SignalKind, Text, Timeout, WaitKind,
 };
 use job_template::{JobTemplate, ReservationTemplate};
 
@@ -54,7 +54,8 @@ pub enum Report {
     },
 }
 
-/// A call. Each that is served is one entry of the history.
+/// A call. Each that is served is one entry of the history. A template or a filter lies in memory of its own, so that an entry
+/// is not as large as the largest of them.
 #[derive(Drop)]
 pub enum Call {
     /// Makes a job session and opens it (GFD.231, SessionManager, as the seven that follow).
@@ -88,17 +89,17 @@ pub enum Call {
     /// Submits a job (GFD.231, JobSession, as the three that follow).
     RunJob {
         session: SessionId,
-        template: JobTemplate,
+        template: Boxed<JobTemplate>,
     },
     /// Submits an array of jobs.
     RunBulk {
         session: SessionId,
-        template: JobTemplate,
+        template: Boxed<JobTemplate>,
         indices: Indices,
     },
     GetJobs {
         session: SessionId,
-        filter: JobFilter,
+        filter: Boxed<JobFilter>,
     },
     GetJobArray {
         session: SessionId,
@@ -134,7 +135,7 @@ pub enum Call {
     /// Asks for slots ahead (GFD.231, ReservationSession, as the two that follow).
     RequestReservation {
         session: SessionId,
-        template: ReservationTemplate,
+        template: Boxed<ReservationTemplate>,
     },
     GetReservation {
         session: SessionId,
@@ -151,7 +152,7 @@ pub enum Call {
     /// Tells of all jobs (GFD.231, MonitoringSession, as the three that follow).
     AllJobs {
         session: SessionId,
-        filter: JobFilter,
+        filter: Boxed<JobFilter>,
     },
     AllReservations {
         session: SessionId,

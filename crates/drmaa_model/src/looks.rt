@@ -10,6 +10,8 @@ pub enum Question {
     Held,
     /// The changes from this place on, counted from 0; at most 64 of them.
     Changes { from: u64 },
+    /// The size that the journal would have with one entry more that brings no change, where that is above the greatest.
+    Full,
 }
 
 /// Its answer.
@@ -18,4 +20,5 @@ pub enum Answer {
     Settled(bool),
     Held(u32),
     Changes(ChangeBatch),
+    Full(Option<u64>),
 }

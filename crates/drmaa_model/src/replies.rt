@@ -13,7 +13,7 @@ pub struct Launch {
     /// How many slots it holds.
     pub slots: u32,
     /// The words that start it.
-    pub words: TextList,
+    pub words: Boxed<TextList>,
 }
 
 /// A signal that is to be sent to the process of a job's last launch.

@@ -1,7 +1,7 @@
 //! When two values are the same: in every part.
 ghost use Rattle.std.specs.Prelude.{◌≡◌, ◌↔◌, IsTrue};
 
-use drmaa_types::ListOf;
+use drmaa_types::{Boxed, ListOf};
 
 /// A value that can be compared with another one.
 pub(crate) trait Same {
@@ -17,6 +17,12 @@ impl<T: Same> Same for Option<T> {
             (Some(one), Some(other)) => one.is_same(other),
             (None, Some(_)) | (Some(_), None) => false,
         }
+    }
+}
+
+impl<T: Same> Same for Boxed<T> {
+    fn is_same(&self, other: &Boxed<T>) -> bool {
+        self.get().is_same(other.get())
     }
 }
 

@@ -30,13 +30,13 @@ pub fn push_call(out: &mut Vec<u8>, call: &Call) -> Result<(), AllocError>
         Call::ReservationSessionNames => out.extend_from_slice(b"names-reservations"),
         Call::OpenMonitoring => out.extend_from_slice(b"monitor"),
         Call::CloseSession { session } => push_one(out, b"close", session),
-        Call::RunJob { session, template } => push_run(out, session, template),
+        Call::RunJob { session, template } => push_run(out, session, template.get()),
         Call::RunBulk {
             session,
             template,
             indices,
-        } => push_bulk(out, session, template, indices),
-        Call::GetJobs { session, filter } => push_sought(out, b"jobs", session, filter),
+        } => push_bulk(out, session, template.get(), indices),
+        Call::GetJobs { session, filter } => push_sought(out, b"jobs", session, filter.get()),
         Call::GetJobArray { session, array } => push_two(out, b"array", session, array),
         Call::Control {
             session,
@@ -60,7 +60,11 @@ pub fn push_call(out: &mut Vec<u8>, call: &Call) -> Result<(), AllocError>
             *timeout,
             jobs.as_slice(),
         ),
-        Call::RequestReservation { session, template } => push_request(out, session, template),
+        Call::RequestReservation { session, template } => push_request(
+            out,
+            session,
+            template.get(),
+        ),
         Call::GetReservation {
             session,
             reservation,
@@ -70,7 +74,7 @@ pub fn push_call(out: &mut Vec<u8>, call: &Call) -> Result<(), AllocError>
             session,
             reservation,
         } => push_two(out, b"cancel", session, reservation),
-        Call::AllJobs { session, filter } => push_sought(out, b"all-jobs", session, filter),
+        Call::AllJobs { session, filter } => push_sought(out, b"all-jobs", session, filter.get()),
         Call::AllReservations { session } => push_one(out, b"all-reservations", session),
         Call::AllQueues { session } => push_one(out, b"queues", session),
         Call::AllMachines { session } => push_one(out, b"machines", session),

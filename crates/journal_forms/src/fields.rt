@@ -1,5 +1,6 @@
 //! Fields of calls and replies: one to three values, or a list, each behind a space.
-ghost use Rattle.std.specs.Prelude.{◌≡◌, ◌++◌, OnOk};
+ghost use Rattle.std.specs.Prelude.{◌≡◌, ◌++◌, OnOk, IfOk, IfErr};
+ghost use Rattle.text_codec.specs.declared.unread.Unread.{Unread};
 ghost use Rattle.text_codec.specs.Formats.{Answers, list_of, pair};
 ghost use Rattle.text_codec.specs.Sums.{arm, keyed};
 
@@ -22,6 +23,14 @@ pub(crate) fn boxed<A: ReadForm + Drop>(cursor: &mut Cursor) -> Result<Boxed<A>,
     ensures { Answers (arm A.form (λ x. x)) cursor.old result cursor.new }
 {
     let value = one(cursor)?;
+    own(cursor, value)
+}
+
+/// This value, which was read, in memory of its own.
+pub(crate) fn own<T: Drop>(cursor: &Cursor, value: T) -> Result<Boxed<T>, Unread>
+    ensures ok { IfOk result (λ b. b ≡ value) }
+    ensures err { IfErr result (λ why. why ≡ Unread.OutOfMemory) }
+{
     Ok(Boxed::new(cursor.alloc(), value)?)
 }
 

@@ -59,7 +59,7 @@ fn push_launch(out: &mut Vec<u8>, launch: &Launch) -> Result<(), AllocError>
 {
     push_three(out, b"launch", &launch.job, &launch.attempt, &launch.slots)?;
     out.extend_from_slice(b" ")?;
-    push_list(out, launch.words.as_slice())
+    push_list(out, launch.words.get().as_slice())
 }
 
 #[tactic(auto, unfolding(crate::specs::Replies::signal, text_codec::specs::Formats::mapped, text_codec::specs::Formats::pair))]

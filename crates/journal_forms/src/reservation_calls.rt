@@ -8,7 +8,7 @@ ghost use Rattle.journal_forms.specs.WordGroups as groups;
 ghost use Rattle.journal_forms.specs.Calls.{call_form};
 ghost use Rattle.text_words.specs.declared.call_words.CallWord.TheVariants as word;
 
-use crate::fields::{one, push_one, two};
+use crate::fields::{one, own, push_one, two};
 use crate::word_groups::ReservationWord;
 use drmaa_model::Call;
 use drmaa_types::SessionId;
@@ -24,6 +24,7 @@ pub(crate) fn reserve_at(cursor: &mut Cursor) -> Result<Call, Unread>
     let session = one(cursor)?;
     cursor.expect(b" ")?;
     let template = read_frame(cursor)?;
+    let template = own(cursor, template)?;
     Ok(Call::RequestReservation { session, template })
 }
 

@@ -25,7 +25,7 @@ impl Store {
         match call {
             Call::JobSessionNames => self.names(SessionKind::Jobs),
             Call::ReservationSessionNames => self.names(SessionKind::Reservations),
-            Call::GetJobs { session, filter } => self.jobs(at, *session, filter),
+            Call::GetJobs { session, filter } => self.jobs(at, *session, filter.get()),
             Call::GetJobArray { session, array } => self.job_array(at, *session, *array),
             Call::GetState { session, job } => Ok(self.state(at, *session, *job)),
             Call::GetInfo { session, job } => self.job_info(at, *session, *job),
@@ -43,7 +43,7 @@ impl Store {
                 reservation,
             } => self.reservation(at, *session, *reservation),
             Call::GetReservations { session } => self.reservations(at, *session),
-            Call::AllJobs { session, filter } => self.all_jobs(at, *session, filter),
+            Call::AllJobs { session, filter } => self.all_jobs(at, *session, filter.get()),
             Call::AllReservations { session } => self.all_reservations(at, *session),
             Call::AllQueues { session } => self.all_queues(at, *session),
             Call::AllMachines { session } => self.all_machines(at, *session),

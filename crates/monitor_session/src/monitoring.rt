@@ -43,7 +43,7 @@ impl MonitoringSession {
             (Call.AllJobs self.session filter) why (dial (C.given desk.new.clock) (C.least desk.new.clock)) desk.new.client) }
     {
         let session = self.session;
-        desk.ask_for::<R, InfoList>(rt, Call::AllJobs { session, filter })
+        desk.ask_for_all_jobs(rt, session, filter)
     }
 
     /// What is known of each accepted reservation, by number (GFD.231, MonitoringSession::getAllReservations).

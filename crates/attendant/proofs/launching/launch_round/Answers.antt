@@ -44,7 +44,7 @@ returns-then-not-made-clause-steps g c =
         made = record {
           is_new = taken.is_new;
           mine_is = c.if-not-made.ensures.made ∙ taken.mine_is ∙ sym (append-nil _);
-          asked_is = c.in-Ok-start.ensures.asked;
+          asked_is = rw c.get.ensures at c.in-Ok-start.ensures.asked;
           fate_is = c.in-Ok-start.ensures.fates;
           puts = record {
             child = c.in-Ok-start.child;
@@ -74,7 +74,7 @@ returns-then-not-report_start-clause-steps g c =
         made = record {
           is_new = taken.is_new;
           mine_is = c.if-not-report_start.ensures.made ∙ taken.mine_is ∙ sym (append-nil _);
-          asked_is = c.in-Err-start.ensures.asked;
+          asked_is = rw c.get.ensures at c.in-Err-start.ensures.asked;
           fate_is = c.in-Err-start.ensures.fates;
           puts = λ k. reserved_get c.args.reaper.now.children c.reserve.new.self c.reserve.ensures.rest_kept k;
         };
@@ -101,7 +101,7 @@ returns-in-Ok-start-clause-steps g c =
         is_new = taken.is_new;
         mine_is = w.1 ∙ ap (λ (l : List Act). l ++ reports_of (number_of c.take_launch.new.desk.client) true c.in-Some.launch (Some w.0)) taken.mine_is
             ∙ ap (λ (n : ℕ). (own_acts c.args.desk.now.client ++ entry_of (number_of c.args.desk.now.client) TakeLaunch (reply.Launch c.in-Some.launch) ∷ []) ++ reports_of n true c.in-Some.launch (Some w.0)) c.take_launch.ensures.desk.number;
-        asked_is = c.in-Ok-start.ensures.asked;
+        asked_is = rw c.get.ensures at c.in-Ok-start.ensures.asked;
         fate_is = c.in-Ok-start.ensures.fates;
         puts = record {
           child = c.in-Ok-start.child;
@@ -128,7 +128,7 @@ returns-clause-steps g c =
         is_new = taken.is_new;
         mine_is = w.1 ∙ ap (λ (l : List Act). l ++ reports_of (number_of c.take_launch.new.desk.client) false c.in-Some.launch (Some w.0)) taken.mine_is
             ∙ ap (λ (n : ℕ). (own_acts c.args.desk.now.client ++ entry_of (number_of c.args.desk.now.client) TakeLaunch (reply.Launch c.in-Some.launch) ∷ []) ++ reports_of n false c.in-Some.launch (Some w.0)) c.take_launch.ensures.desk.number;
-        asked_is = c.in-Err-start.ensures.asked;
+        asked_is = rw c.get.ensures at c.in-Err-start.ensures.asked;
         fate_is = c.in-Err-start.ensures.fates;
         puts = λ k. reserved_get c.args.reaper.now.children c.reserve.new.self c.reserve.ensures.rest_kept k;
       };

@@ -8,4 +8,4 @@ pub returns-in-Err-clause-err : goal.returns-in-Err-clause-err
 returns-in-Err-clause-err g c = rw c.any_job-filter.ensures at c.in-Err.ensures.err
 
 pub returns-in-Err-clause-timely : goal.returns-in-Err-clause-timely
-returns-in-Err-clause-timely g c is = listing-never _ _ _ c.args.session _ c.in-Err.why c.ask_for.ensures.legal c.in-Err.ensures.err (cc)
+returns-in-Err-clause-timely g c is = listing-never _ _ _ c.args.session _ c.in-Err.why c.ask_for_jobs.ensures.legal c.in-Err.ensures.err (cc)

@@ -1,5 +1,6 @@
 -- Each call is served by its function.
-use Rattle.std.proofs.Common.{◌≤◌, refl}
+use Rattle.std.proofs.Common.{◌≤◌, refl, sym, ◌∙◌, ap}
+use Rattle.drmaa_model.specs.declared.calls.Call.TheVariants as call
 use Rattle.machine_calls.specs.Serving.{spare_of}
 use Rattle.machine_calls.proofs.Spares.{after-error}
 use Rattle.drmaa_machine.proofs.Askings.{as-asked, unsparing, plain, foreseeing, reporting, used}
@@ -60,13 +61,14 @@ pub returns-in-CloseSession-clause-sparing : goal.returns-in-CloseSession-clause
 returns-in-CloseSession-clause-sparing c = plain _ _ _ _ _ _ c.in-CloseSession.is refl refl c.close.ensures.spare
 
 pub returns-in-RunJob-clause-comes : goal.returns-in-RunJob-clause-comes
-returns-in-RunJob-clause-comes c = as-asked _ _ _ _ _ _ c.in-RunJob.is c.run_job.ensures.comes
+returns-in-RunJob-clause-comes c = as-asked _ _ _ _ _ _ (c.in-RunJob.is ∙ ap (λ t. call.RunJob c.in-RunJob.session t) (sym c.get.ensures)) c.run_job.ensures.comes
 
 pub returns-in-RunJob-clause-sparing : goal.returns-in-RunJob-clause-sparing
 returns-in-RunJob-clause-sparing c = unsparing _ _ _ _ _ _ c.in-RunJob.is refl refl refl c.run_job.ensures.unspent
 
 pub returns-in-RunBulk-clause-comes : goal.returns-in-RunBulk-clause-comes
-returns-in-RunBulk-clause-comes c = as-asked _ _ _ _ _ _ c.in-RunBulk.is c.run_bulk.ensures.comes
+returns-in-RunBulk-clause-comes c =
+    as-asked _ _ _ _ _ _ (c.in-RunBulk.is ∙ ap (λ t. call.RunBulk c.in-RunBulk.session t c.in-RunBulk.indices) (sym c.get-in-RunBulk.ensures)) c.run_bulk.ensures.comes
 
 pub returns-in-RunBulk-clause-sparing : goal.returns-in-RunBulk-clause-sparing
 returns-in-RunBulk-clause-sparing c = unsparing _ _ _ _ _ _ c.in-RunBulk.is refl refl refl c.run_bulk.ensures.unspent
@@ -104,7 +106,9 @@ pub returns-in-Wait-clause-sparing : goal.returns-in-Wait-clause-sparing
 returns-in-Wait-clause-sparing c = plain _ _ _ _ _ _ c.in-Wait.is refl refl c.wait.ensures.spare
 
 pub returns-in-RequestReservation-clause-comes : goal.returns-in-RequestReservation-clause-comes
-returns-in-RequestReservation-clause-comes c = as-asked _ _ _ _ _ _ c.in-RequestReservation.is c.request_reservation.ensures.comes
+returns-in-RequestReservation-clause-comes c =
+    as-asked _ _ _ _ _ _ (c.in-RequestReservation.is ∙ ap (λ t. call.RequestReservation c.in-RequestReservation.session t) (sym c.get-in-RequestReservation.ensures))
+    c.request_reservation.ensures.comes
 
 pub returns-in-RequestReservation-clause-sparing : goal.returns-in-RequestReservation-clause-sparing
 returns-in-RequestReservation-clause-sparing c = plain _ _ _ _ _ _ c.in-RequestReservation.is refl refl c.request_reservation.ensures.spare

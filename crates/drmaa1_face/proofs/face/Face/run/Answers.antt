@@ -12,7 +12,7 @@ use Rattle.drmaa1_face.proofs.face.Face.run.Goals.{in-Ok, in-Err}
 pub returns-clause-answer : goal.returns-clause-answer
 returns-clause-answer g c =
     let some : c.args.self.now ≡ Some c.in-Some.session = cc in
-    elim c.match-ask_for.branch [
+    elim c.match-ask_to_run.branch [
       | in-Ok w ↦ rw (w.result-is, some) (run c.args.template w.in-Ok.job, refl, w.in-Ok.ensures.ok)
       | in-Err w ↦ rw (w.result-is, some) (
         record { 0 = 0 },

@@ -12,7 +12,7 @@ use Rattle.drmaa1_face.proofs.face.Face.run_bulk.Goals.{in-Ok, in-Err}
 pub returns-clause-answer : goal.returns-clause-answer
 returns-clause-answer g c =
     let some : c.args.self.now ≡ Some c.in-Some.session = cc in
-    elim c.match-ask_for.branch [
+    elim c.match-ask_to_run_array.branch [
       | in-Ok w ↦ rw (w.result-is, some) (run_bulk c.args.template c.args.begin c.args.end c.args.step w.in-Ok.told.array (record { first = w.in-Ok.told.first; count = w.in-Ok.told.count }), (w.in-Ok.told.array, refl), w.in-Ok.ensures.ok)
       | in-Err w ↦ rw (w.result-is, some) (
         record { first = record { 0 = 0 }; count = 0 },

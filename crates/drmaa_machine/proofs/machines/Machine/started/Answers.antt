@@ -1,4 +1,4 @@
-use Rattle.std.proofs.Common.{◌∙◌, ap, sym}
+use Rattle.std.proofs.Common.{◌∙◌, ap}
 use Rattle.drmaa_model.specs.History.{now_of}
 use Rattle.drmaa_model.specs.World.{World}
 use Rattle.drmaa_machine.specs.View.{View}

@@ -1,0 +1,4 @@
+use Rattle.call_history.proofs.desks.Desk.ask_to_reserve.Goals as goal
+
+pub returns-in-Err-clause-err : goal.returns-in-Err-clause-err
+returns-in-Err-clause-err g c = c.give_up.ensures.reservation c.args.session c.args.template
