@@ -1,5 +1,5 @@
 //! What a line asks.
-ghost use Rattle.std.specs.Prelude.{◌≡◌, IfOk, Some};
+ghost use Rattle.std.specs.Prelude.{◌≡◌, IfOk, Some, option_copied};
 ghost use Rattle.script_asks.specs.Asks as asks;
 ghost use Rattle.script_asks.specs.Attempts.{attempt_in};
 
@@ -8,10 +8,10 @@ use crate::templates::{reservation_template_of, template_of};
 use crate::{Attempts, Given};
 use drmaa_model::{Call, Indices, Target};
 use drmaa_types::{
-    ArrayId, Control, Exit, JobId, Moment, ReservationId, SessionId, SignalKind, Text, Timeout,
+    ArrayId, Boxed, Control, Exit, JobId, Moment, ReservationId, SessionId, SignalKind, Timeout,
     WaitKind,
 };
-use script_lines::{Filter, Line, Ref};
+use script_lines::{Apart, Filter, Line, Name, Ref};
 use script_text::{Keyed, Script};
 use std::alloc::{AllocError, Global};
 
@@ -156,14 +156,25 @@ fn ask_cancel(names: &Keyed<Given>, session: &Ref, reservation: &Ref) -> Option<
     })
 }
 
+/// The reservation that a line names, where it names one.
+fn reservation_in(reserved: &Option<Apart<Ref>>) -> Option<&Ref>
+    ensures { option_copied result ≡ reserved.now }
+{
+    match reserved {
+        Some(reserved) => Some(reserved.get()),
+        None => None,
+    }
+}
+
 fn ask_run(
+    alloc: Global,
     script: &Script,
     names: &Keyed<Given>,
     session: &Ref,
-    template: &Text,
-    reserved: &Option<Ref>,
+    template: &Name,
+    reserved: Option<&Ref>,
 ) -> Result<Option<Call>, AllocError>
-    ensures { IfOk result (λ c. c ≡ asks.ask_run script.now names.now session.now template.now reserved.now) }
+    ensures { IfOk result (λ c. c ≡ asks.ask_run script.now names.now session.now template.now (option_copied reserved.entry)) }
 {
     let Some(session) = number_of(names, session) else {
         return Ok(None);
@@ -171,21 +182,22 @@ fn ask_run(
     match template_of(script, names, template, reserved)? {
         Some(template) => Ok(Some(Call::RunJob {
             session: SessionId(session),
-            template,
+            template: Boxed::new(alloc, template)?,
         })),
         None => Ok(None),
     }
 }
 
 fn ask_bulk(
+    alloc: Global,
     script: &Script,
     names: &Keyed<Given>,
     session: &Ref,
-    template: &Text,
+    template: &Name,
     indices: Indices,
-    reserved: &Option<Ref>,
+    reserved: Option<&Ref>,
 ) -> Result<Option<Call>, AllocError>
-    ensures { IfOk result (λ c. c ≡ asks.ask_bulk script.now names.now session.now template.now indices reserved.now) }
+    ensures { IfOk result (λ c. c ≡ asks.ask_bulk script.now names.now session.now template.now indices (option_copied reserved.entry)) }
 {
     let Some(session) = number_of(names, session) else {
         return Ok(None);
@@ -193,7 +205,7 @@ fn ask_bulk(
     match template_of(script, names, template, reserved)? {
         Some(template) => Ok(Some(Call::RunBulk {
             session: SessionId(session),
-            template,
+            template: Boxed::new(alloc, template)?,
             indices,
         })),
         None => Ok(None),
@@ -201,6 +213,7 @@ fn ask_bulk(
 }
 
 fn ask_jobs(
+    alloc: Global,
     names: &Keyed<Given>,
     session: &Ref,
     filter: &Filter,
@@ -213,13 +226,14 @@ fn ask_jobs(
     match filter_of(names, filter)? {
         Some(filter) => Ok(Some(Call::GetJobs {
             session: SessionId(session),
-            filter,
+            filter: Boxed::new(alloc, filter)?,
         })),
         None => Ok(None),
     }
 }
 
 fn ask_all_jobs(
+    alloc: Global,
     names: &Keyed<Given>,
     session: &Ref,
     filter: &Filter,
@@ -232,7 +246,7 @@ fn ask_all_jobs(
     match filter_of(names, filter)? {
         Some(filter) => Ok(Some(Call::AllJobs {
             session: SessionId(session),
-            filter,
+            filter: Boxed::new(alloc, filter)?,
         })),
         None => Ok(None),
     }
@@ -265,10 +279,11 @@ fn ask_wait(
 }
 
 fn ask_reserve(
+    alloc: Global,
     script: &Script,
     names: &Keyed<Given>,
     session: &Ref,
-    template: &Text,
+    template: &Name,
 ) -> Result<Option<Call>, AllocError>
     ensures { IfOk result (λ c. c ≡ asks.ask_reserve script.now names.now session.now template.now) }
 {
@@ -278,7 +293,7 @@ fn ask_reserve(
     match reservation_template_of(script, template)? {
         Some(template) => Ok(Some(Call::RequestReservation {
             session: SessionId(session),
-            template,
+            template: Boxed::new(alloc, template)?,
         })),
         None => Ok(None),
     }
@@ -406,7 +421,14 @@ pub fn ask(
             template,
             reserved,
             ..
-        } => ask_run(script, names, session, template, reserved),
+        } => ask_run(
+            alloc,
+            script,
+            names,
+            session,
+            template,
+            reservation_in(reserved),
+        ),
         Line::Bulk {
             session,
             template,
@@ -423,9 +445,17 @@ pub fn ask(
                 step: *step,
                 bound: *bound,
             };
-            ask_bulk(script, names, session, template, indices, reserved)
+            ask_bulk(
+                alloc,
+                script,
+                names,
+                session.get(),
+                template,
+                indices,
+                reserved.get().as_ref(),
+            )
         }
-        Line::Jobs { session, filter } => ask_jobs(names, session, filter),
+        Line::Jobs { session, filter } => ask_jobs(alloc, names, session, filter.get()),
         Line::Array { session, array } => Ok(ask_array(names, session, array)),
         Line::Suspend { session, job } => Ok(ask_control(names, session, job, Control::Suspend)),
         Line::Resume { session, job } => Ok(ask_control(names, session, job, Control::Resume)),
@@ -480,7 +510,7 @@ pub fn ask(
             names,
             begun,
             WaitKind::Started,
-            session,
+            session.get(),
             *timeout,
             jobs.as_slice(),
         ),
@@ -493,7 +523,7 @@ pub fn ask(
             names,
             begun,
             WaitKind::Terminated,
-            session,
+            session.get(),
             *timeout,
             jobs.as_slice(),
         ),
@@ -501,7 +531,7 @@ pub fn ask(
             session,
             template,
             ..
-        } => ask_reserve(script, names, session, template),
+        } => ask_reserve(alloc, script, names, session, template),
         Line::Reservation {
             session,
             reservation,
@@ -511,7 +541,7 @@ pub fn ask(
             session,
             reservation,
         } => Ok(ask_cancel(names, session, reservation)),
-        Line::AllJobs { session, filter } => ask_all_jobs(names, session, filter),
+        Line::AllJobs { session, filter } => ask_all_jobs(alloc, names, session, filter.get()),
         Line::AllReservations { session } => Ok(ask_all_reservations(names, session)),
         Line::Queues { session } => Ok(ask_queues(names, session)),
         Line::Machines { session } => Ok(ask_machines(names, session)),

@@ -3,8 +3,7 @@ ghost use Rattle.std.specs.Prelude.{◌≡◌, IfOk};
 ghost use Rattle.script_asks.specs.Replies as replies;
 
 use drmaa_model::Reply;
-use drmaa_types::Text;
-use script_lines::Line;
+use script_lines::{Line, Name};
 use script_text::{Keyed, Kind, binding};
 use std::alloc::AllocError;
 
@@ -79,7 +78,7 @@ fn given_in(kind: Kind, reply: &Reply) -> Option<Given>
 #[tactic(auto, using(script_text::specs::NameLaws::not_there))]
 fn with_given(
     names: Keyed<Given>,
-    name: Text,
+    name: Name,
     given: Option<Given>,
 ) -> Result<Keyed<Given>, AllocError>
     ensures { IfOk result (λ more. more ≡ replies.bind_to name given names) }

@@ -1,12 +1,12 @@
 //! The numbers that references stand for.
-ghost use Rattle.std.specs.Prelude.{◌≡◌, IfOk, option_map};
+ghost use Rattle.std.specs.Prelude.{◌≡◌, IfOk, option_copied, option_map};
 ghost use Rattle.std.specs.Map.{lookup};
 ghost use Rattle.std.specs.Str.{bytes_eq};
 ghost use Rattle.script_asks.specs.Asks as asks;
 
 use crate::Given;
-use drmaa_types::{IdList, JobFilter, JobId, ListOf, Moment, ReservationId, Text};
-use script_lines::{Filter, Ref};
+use drmaa_types::{IdList, JobFilter, JobId, ListOf, Moment, ReservationId};
+use script_lines::{Filter, Name, Ref};
 use script_text::Keyed;
 use std::alloc::{AllocError, Global};
 use text_dates::Said;
@@ -43,7 +43,7 @@ fn member_given(index: u32, given: Given) -> Option<u64>
 }
 
 /// What a name was given.
-fn found(names: &Keyed<Given>, name: &Text) -> Option<Given>
+fn found(names: &Keyed<Given>, name: &Name) -> Option<Given>
     ensures { result ≡ lookup (bytes_eq name.now) names.now }
 {
     names.find(name).copied()
@@ -61,8 +61,8 @@ pub fn number_of(names: &Keyed<Given>, reference: &Ref) -> Option<u64>
 }
 
 /// The number of a reference that may be left out. None where it stands and has none.
-pub(crate) fn number_if(names: &Keyed<Given>, reference: &Option<Ref>) -> Option<Option<u64>>
-    ensures { result ≡ asks.number_if names.now reference.now }
+pub(crate) fn number_if(names: &Keyed<Given>, reference: Option<&Ref>) -> Option<Option<u64>>
+    ensures { result ≡ asks.number_if names.now (option_copied reference.entry) }
 {
     match reference {
         Some(reference) => Some(Some(number_of(names, reference)?)),
@@ -155,7 +155,7 @@ pub(crate) fn filter_of(
 ) -> Result<Option<JobFilter>, AllocError>
     ensures { IfOk result (λ f. f ≡ asks.filter_of names.now filter.now) }
 {
-    match number_if(names, &filter.job) {
+    match number_if(names, filter.job.as_ref()) {
         Some(job) => Ok(Some(filter_for(filter, job)?)),
         None => Ok(None),
     }

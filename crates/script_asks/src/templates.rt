@@ -1,14 +1,13 @@
 //! The templates that lines name.
-ghost use Rattle.std.specs.Prelude.{◌≡◌, IfOk};
+ghost use Rattle.std.specs.Prelude.{◌≡◌, IfOk, option_copied};
 ghost use Rattle.std.specs.Map.{lookup};
 ghost use Rattle.std.specs.Str.{bytes_eq};
 ghost use Rattle.script_asks.specs.Asks as asks;
 
 use crate::Given;
 use crate::numbers::{number_if, reservation_id};
-use drmaa_types::Text;
 use job_template::{JobTemplate, ReservationTemplate};
-use script_lines::Ref;
+use script_lines::{Name, Ref};
 use script_text::{Keyed, Script};
 use std::alloc::AllocError;
 
@@ -25,10 +24,10 @@ fn template_in(template: &JobTemplate, reserved: Option<u64>) -> Result<JobTempl
 pub(crate) fn template_of(
     script: &Script,
     names: &Keyed<Given>,
-    template: &Text,
-    reserved: &Option<Ref>,
+    template: &Name,
+    reserved: Option<&Ref>,
 ) -> Result<Option<JobTemplate>, AllocError>
-    ensures { IfOk result (λ t. t ≡ asks.template_of script.now names.now template.now reserved.now) }
+    ensures { IfOk result (λ t. t ≡ asks.template_of script.now names.now template.now (option_copied reserved.entry)) }
 {
     let Some(template) = script.jobs.find(template) else {
         return Ok(None);
@@ -42,7 +41,7 @@ pub(crate) fn template_of(
 /// The reservation template of a name. None where there is none.
 pub(crate) fn reservation_template_of(
     script: &Script,
-    template: &Text,
+    template: &Name,
 ) -> Result<Option<ReservationTemplate>, AllocError>
     ensures { IfOk result (λ t. t ≡ lookup (bytes_eq template.now) script.now.reservations) }
 {

@@ -5,10 +5,10 @@ ghost use Rattle.script_lines.specs.Lines as lines;
 ghost use Rattle.script_lines.specs.WordGroups as groups;
 ghost use Rattle.script_lines.specs.declared.words.LineWord.TheVariants as line_word;
 
-use crate::Line;
 use crate::filters::{filter_behind, made_filter};
-use crate::shapes::{item, members_behind, name_item, ran_behind, timeout_at};
+use crate::shapes::{fitted, item, item_apart, members_behind, name_item, ran_behind, timeout_at};
 use crate::word_groups::{SoughtWord, WaitWord};
+use crate::{Apart, Line};
 use text_codec::{Cursor, Unread, read_all};
 
 /// Reads what a job is run by.
@@ -54,6 +54,7 @@ pub(crate) fn sought_line(word: SoughtWord, cursor: &mut Cursor) -> Result<Line,
 {
     let session = item(cursor)?;
     let filter = made_filter(filter_behind(cursor)?);
+    let filter = Apart::new(cursor.alloc(), filter)?;
     Ok(match word {
         SoughtWord::Jobs => Line::Jobs { session, filter },
         SoughtWord::AllJobs => Line::AllJobs { session, filter },
@@ -65,10 +66,10 @@ pub(crate) fn sought_line(word: SoughtWord, cursor: &mut Cursor) -> Result<Line,
 pub(crate) fn wait_line(word: WaitWord, cursor: &mut Cursor) -> Result<Line, Unread>
     ensures { Answers (lines.line_arms (groups.wait_word word)) cursor.old result cursor.new }
 {
-    let session = item(cursor)?;
+    let session = item_apart(cursor)?;
     cursor.expect(b" ")?;
     let timeout = timeout_at(cursor)?;
-    let jobs = read_all(cursor, b" ")?;
+    let jobs = fitted(read_all(cursor, b" ")?);
     Ok(match word {
         WaitWord::WaitStarted => Line::WaitStarted {
             session,

@@ -1,5 +1,5 @@
 //! The lines of blocks: what each says.
-use crate::Ref;
+use crate::{Apart, Name, Ref};
 use drmaa_types::{JobState, ListOf, SignalKind, Text, Timeout};
 use text_dates::Said;
 
@@ -25,22 +25,22 @@ pub struct Filter {
 pub enum Line {
     /// `create-jobs NAME TEXT` or `create-jobs NAME`: makes a job session, with a name of its own where there is no text.
     CreateJobs {
-        name: Text,
+        name: Name,
         session: Option<Text>,
     },
     /// `create-reservations NAME TEXT` or `create-reservations NAME`.
     CreateReservations {
-        name: Text,
+        name: Name,
         session: Option<Text>,
     },
     /// `open-jobs NAME TEXT`.
     OpenJobs {
-        name: Text,
+        name: Name,
         session: Text,
     },
     /// `open-reservations NAME TEXT`.
     OpenReservations {
-        name: Text,
+        name: Name,
         session: Text,
     },
     /// `destroy-jobs TEXT`.
@@ -57,7 +57,7 @@ pub enum Line {
     NamesReservations,
     /// `monitor NAME`.
     Monitor {
-        name: Text,
+        name: Name,
     },
     /// `close S`.
     Close {
@@ -65,26 +65,26 @@ pub enum Line {
     },
     /// `run NAME S TEMPLATE`, then `reserved R` where the job runs in a reservation.
     Run {
-        name: Text,
+        name: Name,
         session: Ref,
-        template: Text,
-        reserved: Option<Ref>,
+        template: Name,
+        reserved: Option<Apart<Ref>>,
     },
     /// `bulk NAME S TEMPLATE BEGIN END STEP BOUND`, then `reserved R` where the jobs run in a reservation.
     Bulk {
-        name: Text,
-        session: Ref,
-        template: Text,
+        name: Name,
+        session: Apart<Ref>,
+        template: Name,
         begin: u32,
         end: u32,
         step: u32,
         bound: Option<u32>,
-        reserved: Option<Ref>,
+        reserved: Apart<Option<Ref>>,
     },
     /// `jobs S FILTER..`.
     Jobs {
         session: Ref,
-        filter: Filter,
+        filter: Apart<Filter>,
     },
     /// `array S A`.
     Array {
@@ -163,21 +163,21 @@ pub enum Line {
     },
     /// `wait-started S TIMEOUT J..`; the timeout is a number of seconds, or `infinite`.
     WaitStarted {
-        session: Ref,
+        session: Apart<Ref>,
         timeout: Timeout,
         jobs: ListOf<Ref>,
     },
     /// `wait-terminated S TIMEOUT J..`; the timeout is a number of seconds, or `infinite`.
     WaitTerminated {
-        session: Ref,
+        session: Apart<Ref>,
         timeout: Timeout,
         jobs: ListOf<Ref>,
     },
     /// `reserve NAME S RTEMPLATE`.
     Reserve {
-        name: Text,
+        name: Name,
         session: Ref,
-        template: Text,
+        template: Name,
     },
     /// `reservation S R`.
     Reservation {
@@ -196,7 +196,7 @@ pub enum Line {
     /// `all-jobs S FILTER..`.
     AllJobs {
         session: Ref,
-        filter: Filter,
+        filter: Apart<Filter>,
     },
     /// `all-reservations S`.
     AllReservations {

@@ -5,7 +5,7 @@ ghost use Rattle.text_codec.specs.Formats as form;
 ghost use Rattle.script_lines.specs.Refs as refs;
 ghost use Rattle.script_lines.specs.RefLaws as laws;
 
-use drmaa_types::Text;
+use crate::Name;
 use std::alloc::{AllocError, Global};
 use text_codec::{Cursor, Form, Unread, behind_key, name_of, number_of};
 
@@ -13,9 +13,9 @@ use text_codec::{Cursor, Form, Unread, behind_key, name_of, number_of};
 #[derive(Drop)]
 pub enum Ref {
     /// The name that an earlier line binds.
-    Bound(Text),
+    Bound(Name),
     /// The job with this index of the array that an earlier line binds.
-    Member { array: Text, index: u32 },
+    Member { array: Name, index: u32 },
     /// The number itself, behind `#`.
     Number(u64),
 }
@@ -64,7 +64,10 @@ fn member(alloc: Global, array: &[u8], digits: &[u8]) -> Result<Option<Ref>, All
         return Ok(None);
     };
     match index_of(digits) {
-        Some(index) => Ok(Some(Ref::Member { array, index })),
+        Some(index) => {
+            let array = Name::new(alloc, array)?;
+            Ok(Some(Ref::Member { array, index }))
+        }
         None => Ok(None),
     }
 }
@@ -74,7 +77,7 @@ fn bound_to(alloc: Global, word: &[u8]) -> Result<Option<Ref>, AllocError>
     ensures { IfOk result (λ r. r ≡ refs.bound_to word.now) }
 {
     match name_of(alloc, word)? {
-        Some(name) => Ok(Some(Ref::Bound(name))),
+        Some(name) => Ok(Some(Ref::Bound(Name::new(alloc, name)?))),
         None => Ok(None),
     }
 }

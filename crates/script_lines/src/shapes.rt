@@ -1,23 +1,24 @@
 //! What stands behind the words of lines: the parts that lines share.
 ghost use Rattle.std.specs.Prelude.{◌≡◌, codes};
 ghost use Rattle.text_codec.specs.Formats.{Answers};
-ghost use Rattle.text_codec.specs.Fields.{always, no_more};
+ghost use Rattle.text_codec.specs.Fields.{always, no_more, read_set};
 ghost use Rattle.text_codec.specs.Sums.{arm};
 ghost use Rattle.text_codec.specs.Words.{name};
+ghost use Rattle.script_lines.specs.Refs.{reference};
 ghost use Rattle.script_lines.specs.Shapes as shapes;
 
-use crate::Ref;
-use drmaa_types::{Text, Timeout};
+use crate::{Apart, Name, Ref};
+use drmaa_types::{ListOf, Timeout};
 use text_codec::{Cursor, Form, Unread, read_name, read_set};
 
 /// The indices of an array, with their bound, and a reservation.
-type Indexed = (u32, (u32, (u32, (Option<u32>, (Option<Ref>, ())))));
+type Indexed = (u32, (u32, (u32, (Option<u32>, (Apart<Option<Ref>>, ())))));
 
 /// A session, a template, and a reservation.
-pub(crate) type Ran = (Ref, (Text, (Option<Ref>, ())));
+pub(crate) type Ran = (Ref, (Name, (Option<Apart<Ref>>, ())));
 
 /// A session, a template, and the indices.
-pub(crate) type Members = (Ref, (Text, Indexed));
+pub(crate) type Members = (Apart<Ref>, (Name, Indexed));
 
 /// Reads a value behind a space.
 pub(crate) fn item<A: Form>(cursor: &mut Cursor) -> Result<A, Unread>
@@ -36,12 +37,30 @@ pub(crate) fn one_behind<A: Form>(cursor: &mut Cursor) -> Result<(A, ()), Unread
     Ok((value, ()))
 }
 
+/// A list that has room for no more than its items.
+pub(crate) fn fitted<T>(list: ListOf<T>) -> ListOf<T>
+    ensures { result ≡ list }
+{
+    let mut items = list.into_vec();
+    items.shrink_to_fit();
+    ListOf::from_vec(items)
+}
+
 /// Reads a name behind a space.
-pub(crate) fn name_item(cursor: &mut Cursor) -> Result<Text, Unread>
+pub(crate) fn name_item(cursor: &mut Cursor) -> Result<Name, Unread>
     ensures { Answers (arm name (λ x. x)) cursor.old result cursor.new }
 {
     cursor.expect(b" ")?;
-    read_name(cursor)
+    let name = read_name(cursor)?;
+    Ok(Name::new(cursor.alloc(), name)?)
+}
+
+/// Reads a value behind a space, which is to lie apart.
+pub(crate) fn item_apart<A: Form>(cursor: &mut Cursor) -> Result<Apart<A>, Unread>
+    ensures { Answers (arm A.form (λ x. x)) cursor.old result cursor.new }
+{
+    let value = item(cursor)?;
+    Ok(Apart::new(cursor.alloc(), value)?)
 }
 
 #[tactic(auto, unfolding(crate::specs::Shapes::two_fields, text_codec::specs::Fields::always, text_codec::specs::Fields::no_more))]
@@ -65,13 +84,23 @@ pub(crate) fn timeout_at(cursor: &mut Cursor) -> Result<Timeout, Unread>
     Ok(Timeout::Seconds(seconds))
 }
 
+/// Reads a reservation, which may be left out, and is to lie apart.
+fn reserved_behind(cursor: &mut Cursor) -> Result<Option<Apart<Ref>>, Unread>
+    ensures { Answers (read_set (codes " reserved ") reference.read) cursor.old result cursor.new }
+{
+    match read_set(cursor, b" reserved ")? {
+        Some(reserved) => Ok(Some(Apart::new(cursor.alloc(), reserved)?)),
+        None => Ok(None),
+    }
+}
+
 #[tactic(auto, unfolding(crate::specs::Shapes::ran_fields, text_codec::specs::Fields::always, text_codec::specs::Fields::field, text_codec::specs::Fields::no_more))]
 pub(crate) fn ran_behind(cursor: &mut Cursor) -> Result<Ran, Unread>
     ensures { Answers shapes.ran_fields.body.read cursor.old result cursor.new }
 {
     let session = item(cursor)?;
     let template = name_item(cursor)?;
-    let reserved = read_set(cursor, b" reserved ")?;
+    let reserved = reserved_behind(cursor)?;
     Ok((session, (template, (reserved, ()))))
 }
 
@@ -96,7 +125,7 @@ fn index_behind(cursor: &mut Cursor) -> Result<Indexed, Unread>
     let step = item(cursor)?;
     cursor.expect(b" ")?;
     let bound = bound_at(cursor)?;
-    let reserved = read_set(cursor, b" reserved ")?;
+    let reserved = Apart::new(cursor.alloc(), read_set(cursor, b" reserved ")?)?;
     Ok((begin, (end, (step, (bound, (reserved, ()))))))
 }
 
@@ -104,7 +133,7 @@ fn index_behind(cursor: &mut Cursor) -> Result<Indexed, Unread>
 pub(crate) fn members_behind(cursor: &mut Cursor) -> Result<Members, Unread>
     ensures { Answers shapes.member_fields.body.read cursor.old result cursor.new }
 {
-    let session = item(cursor)?;
+    let session = item_apart(cursor)?;
     let template = name_item(cursor)?;
     let indexed = index_behind(cursor)?;
     Ok((session, (template, indexed)))

@@ -6,9 +6,8 @@ ghost use Rattle.script_asks.specs.Replies.{names_after};
 ghost use Rattle.script_play.specs.Names.{all_new, with_found};
 
 use drmaa_model::Reply;
-use drmaa_types::Text;
 use script_asks::{Given, with_reply};
-use script_lines::Line;
+use script_lines::{Line, Name};
 use script_text::{Keyed, binding};
 use std::alloc::{AllocError, Global};
 use std::marker::Model;
@@ -19,7 +18,7 @@ use std::mem;
 #[derive(Drop)]
 pub struct Names {
     given: Keyed<Given>,
-    pairs: Vec<(Text, Given)>,
+    pairs: Vec<(Name, Given)>,
 }
 
 impl Model for Names {
@@ -97,10 +96,10 @@ impl Names {
 
 /// The pairs with one more, where the name was given something.
 fn with_pair(
-    pairs: Vec<(Text, Given)>,
-    name: Text,
+    pairs: Vec<(Name, Given)>,
+    name: Name,
     found: Option<Given>,
-) -> Result<Vec<(Text, Given)>, AllocError>
+) -> Result<Vec<(Name, Given)>, AllocError>
     ensures { IfOk result (λ more. more.items ≡ with_found name found pairs.items) }
 {
     let mut pairs = pairs;
@@ -111,7 +110,7 @@ fn with_pair(
 }
 
 /// A table of these pairs, whose names are all different.
-fn table_of(alloc: Global, pairs: &[(Text, Given)]) -> Result<Keyed<Given>, AllocError>
+fn table_of(alloc: Global, pairs: &[(Name, Given)]) -> Result<Keyed<Given>, AllocError>
     requires { all_new [] pairs.now ≡ true }
     ensures { IfOk result (λ table. table ≡ pairs.now) }
 {
@@ -123,7 +122,7 @@ fn table_of(alloc: Global, pairs: &[(Text, Given)]) -> Result<Keyed<Given>, Allo
 }
 
 /// These pairs once more.
-fn copy_of(alloc: Global, pairs: &[(Text, Given)]) -> Result<Vec<(Text, Given)>, AllocError>
+fn copy_of(alloc: Global, pairs: &[(Name, Given)]) -> Result<Vec<(Name, Given)>, AllocError>
     ensures { IfOk result (λ copy. copy.items ≡ pairs.now) }
 {
     let mut copy = Vec::new(alloc);

@@ -3,8 +3,8 @@ ghost use Rattle.std.specs.Prelude.{◌≡◌, [], ◌∷◌, ◌++◌, IfOk, op
 ghost use Rattle.script_text.specs.Names as names;
 
 use crate::keyed::Keyed;
-use drmaa_types::{ListOf, Text};
-use script_lines::{Line, with_last};
+use drmaa_types::ListOf;
+use script_lines::{Line, Name, with_last};
 use std::alloc::{AllocError, Global};
 use std::marker::Model;
 
@@ -19,10 +19,16 @@ pub enum Kind {
 }
 
 /// Lines, in order. Contracts see the list of them; the names that they bind are looked up.
-#[derive(Drop)]
 pub struct Block {
     lines: ListOf<Line>,
     names: Keyed<Kind>,
+}
+
+// By hand, so that how its parts are let go is proved here once, and not again in each crate that lets one go.
+impl Drop for Block {
+    fn drop(self) {
+        let Block { lines: _, names: _ } = self;
+    }
 }
 
 impl Model for Block {
@@ -38,7 +44,7 @@ impl Model for Block {
 }
 
 /// What a line binds its name to. None where it binds none.
-pub fn binding(line: &Line) -> Result<Option<(Text, Kind)>, AllocError>
+pub fn binding(line: &Line) -> Result<Option<(Name, Kind)>, AllocError>
     ensures { IfOk result (λ b. b ≡ names.binds line.now) }
 {
     match line {
@@ -71,7 +77,7 @@ pub fn binding(line: &Line) -> Result<Option<(Text, Kind)>, AllocError>
 #[tactic(auto, using(crate::specs::NameLaws::unbound_none))]
 fn with_binding(
     bound: Keyed<Kind>,
-    binding: Option<(Text, Kind)>,
+    binding: Option<(Name, Kind)>,
 ) -> Result<Keyed<Kind>, AllocError>
     requires { names.is_new bound binding ≡ true }
     ensures { IfOk result (λ longer. longer ≡ bound ++ names.onto binding []) }
@@ -90,7 +96,7 @@ fn with_binding(
 fn with_named<T: Drop>(
     items: ListOf<T>,
     bound: Keyed<Kind>,
-    binding: Option<(Text, Kind)>,
+    binding: Option<(Name, Kind)>,
     item: T,
 ) -> Result<(ListOf<T>, Keyed<Kind>), AllocError>
     requires { names.is_new bound binding ≡ true }
@@ -121,10 +127,18 @@ impl Block {
     }
 
     /// What a name is bound to by these lines.
-    pub fn bound(&self, name: &Text) -> Option<&Kind>
+    pub fn bound(&self, name: &Name) -> Option<&Kind>
         ensures { option_copied result ≡ names.bound name.now self.now }
     {
         self.names.find(name)
+    }
+
+    /// What a name is bound to by these lines; it becomes the name that is kept for them.
+    pub(crate) fn meet(&self, name: &mut Name) -> Option<&Kind>
+        ensures kind { option_copied result ≡ names.bound name.old self.now }
+        ensures same { name.new ≡ name.old }
+    {
+        self.names.meet(name)
     }
 
     /// The lines with one line more, which binds no name that is bound.

@@ -23,11 +23,23 @@ pub type NamedReservationTemplates = Keyed<ReservationTemplate>;
 pub type BlockList = ListOf<Block>;
 
 /// A script: the machine, the templates, the block that is played first, and the clients' blocks.
-#[derive(Drop)]
 pub struct Script {
     pub config: Config,
     pub jobs: NamedTemplates,
     pub reservations: NamedReservationTemplates,
     pub setup: Option<Block>,
     pub clients: BlockList,
+}
+
+// By hand, so that how its parts are let go is proved here once, and not again in each crate that lets one go.
+impl Drop for Script {
+    fn drop(self) {
+        let Script {
+            config: _,
+            jobs: _,
+            reservations: _,
+            setup: _,
+            clients: _,
+        } = self;
+    }
 }

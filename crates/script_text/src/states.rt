@@ -1,7 +1,8 @@
 //! The reader of scripts, as an automaton on the lines that are not skipped.
-ghost use Rattle.std.specs.Prelude.{◌≡◌, Some};
+ghost use Rattle.std.specs.Prelude.{◌≡◌, IfOk, Some};
 ghost use Rattle.std.specs.Str.{bytes_eq};
 ghost use Rattle.text_codec.specs.Formats.{Says};
+ghost use Rattle.script_lines.specs.Templates.{with_field, with_reservation_field};
 ghost use Rattle.script_text.specs.Automaton as automaton;
 ghost use Rattle.script_text.specs.Scripts as scripts;
 ghost use Rattle.script_text.specs.ScriptLaws.{reads_scripts};
@@ -11,14 +12,14 @@ use crate::bindings::is_there;
 use crate::follow::may_stand;
 use crate::header::{config_of, read_header, read_queue};
 use crate::{Block, Keyed, Mode, Script};
-use drmaa_types::{ListOf, QueueSpec, Text, are_queues};
-use job_template::ReservationTemplate;
+use drmaa_types::{Boxed, ListOf, QueueSpec, are_queues};
+use job_template::{JobTemplate, ReservationTemplate};
 use script_lines::{
-    Draft, JobField, Line, ReservationField, is_reservation_set, is_set, new_reservation,
+    Draft, JobField, Line, Name, ReservationField, is_reservation_set, is_set, new_reservation,
     read_job_field, read_line, read_reservation_field, with_field, with_last,
     with_reservation_field,
 };
-use std::alloc::Global;
+use std::alloc::{AllocError, Global};
 use std::marker::Model;
 use text_codec::{Cursor, Unread};
 use text_lines::LineReader;
@@ -26,8 +27,8 @@ use text_lines::LineReader;
 /// A script, and a name that none of its templates has.
 #[derive(Drop)]
 pub struct Naming {
-    script: Script,
-    name: Text,
+    script: Boxed<Script>,
+    name: Name,
 }
 
 impl Model for Naming {
@@ -42,7 +43,7 @@ impl Model for Naming {
     ghost invariant = { λ n. is_named n.script n.name ≡ false };
 }
 
-/// What was read so far, of a script for some command.
+/// What was read so far, of a script for some command. What is large lies in memory of its own, since each line moves it.
 #[derive(Drop)]
 pub enum Reader {
     /// Nothing.
@@ -52,29 +53,29 @@ pub enum Reader {
     /// The machine line, and lines of queues behind it.
     Queueing {
         mode: Mode,
-        script: Script,
+        script: Boxed<Script>,
     },
     /// Whole blocks, behind the machine line and those of queues.
     Top {
         mode: Mode,
-        script: Script,
+        script: Boxed<Script>,
     },
     /// A job's template block without its last line, too.
     Filling {
         mode: Mode,
         naming: Naming,
-        draft: Draft,
+        draft: Boxed<Draft>,
     },
     /// A reservation's template block without its last line, too.
     Reserving {
         mode: Mode,
         naming: Naming,
-        template: ReservationTemplate,
+        template: Boxed<ReservationTemplate>,
     },
     /// The setup block or a client's block without its last line, too.
     Asking {
         mode: Mode,
-        script: Script,
+        script: Boxed<Script>,
         block: Block,
         in_setup: bool,
     },
@@ -99,19 +100,24 @@ fn after_start(alloc: Global, mode: Mode, line: &[u8]) -> Result<Reader, Unread>
         setup: None,
         clients: ListOf::new(alloc),
     };
+    let script = Boxed::new(alloc, script)?;
     Ok(Reader::Queueing { mode, script })
 }
 
 /// The script with one queue more.
-fn with_queue(alloc: Global, script: Script, queue: QueueSpec) -> Result<Script, Unread>
+fn with_queue(
+    alloc: Global,
+    script: Boxed<Script>,
+    queue: QueueSpec,
+) -> Result<Boxed<Script>, Unread>
     ensures { Says (Some (scripts.with_queue script queue)) result }
 {
-    let mut script = script;
+    let mut script = script.into_inner();
     let queues = std::mem::replace(&mut script.config.queues, ListOf::new(alloc));
     match with_last(queues, queue) {
         Ok(queues) => {
             script.config.queues = queues;
-            Ok(script)
+            Ok(Boxed::new(alloc, script)?)
         }
         Err(fault) => {
             drop(script);
@@ -120,11 +126,16 @@ fn with_queue(alloc: Global, script: Script, queue: QueueSpec) -> Result<Script,
     }
 }
 
-fn queued(alloc: Global, mode: Mode, script: Script, queue: QueueSpec) -> Result<Reader, Unread>
+fn queued(
+    alloc: Global,
+    mode: Mode,
+    script: Boxed<Script>,
+    queue: QueueSpec,
+) -> Result<Reader, Unread>
     ensures { Says (automaton.queued mode script queue) result }
 {
     let script = with_queue(alloc, script, queue)?;
-    if are_queues(script.config.slots, &script.config.queues) {
+    if are_queues(script.get().config.slots, &script.get().config.queues) {
         Ok(Reader::Queueing { mode, script })
     } else {
         drop(script);
@@ -159,10 +170,15 @@ fn may_open(in_setup: bool, script: &Script) -> bool
     }
 }
 
-fn begin_block(alloc: Global, mode: Mode, script: Script, in_setup: bool) -> Result<Reader, Unread>
+fn begin_block(
+    alloc: Global,
+    mode: Mode,
+    script: Boxed<Script>,
+    in_setup: bool,
+) -> Result<Reader, Unread>
     ensures { Says (automaton.begin_block mode script in_setup) result }
 {
-    if may_open(in_setup, &script) {
+    if may_open(in_setup, script.get()) {
         let block = Block::new(alloc);
         Ok(Reader::Asking {
             mode,
@@ -176,7 +192,7 @@ fn begin_block(alloc: Global, mode: Mode, script: Script, in_setup: bool) -> Res
     }
 }
 
-fn opened(alloc: Global, mode: Mode, script: Script, line: &[u8]) -> Result<Reader, Unread>
+fn opened(alloc: Global, mode: Mode, script: Boxed<Script>, line: &[u8]) -> Result<Reader, Unread>
     ensures { Says (automaton.opened mode script line.now) result }
 {
     if is_words(line, b"setup") {
@@ -190,17 +206,17 @@ fn opened(alloc: Global, mode: Mode, script: Script, line: &[u8]) -> Result<Read
 }
 
 /// Whether a template of either kind has this name.
-fn is_named(script: &Script, name: &Text) -> bool
+fn is_named(script: &Script, name: &Name) -> bool
     ensures { result ≡ scripts.is_named script.now name.now }
 {
     is_there(&script.jobs, name) || is_there(&script.reservations, name)
 }
 
-fn named(alloc: Global, mode: Mode, script: Script, name: Text) -> Result<Reader, Unread>
+fn named(alloc: Global, mode: Mode, script: Boxed<Script>, name: Name) -> Result<Reader, Unread>
     ensures { Says (automaton.named mode script name) result }
 {
-    if is_early(&script) && !is_named(&script, &name) {
-        let draft = Draft::new(alloc);
+    if is_early(script.get()) && !is_named(script.get(), &name) {
+        let draft = Boxed::new(alloc, Draft::new(alloc))?;
         let naming = Naming { script, name };
         Ok(Reader::Filling {
             mode,
@@ -213,11 +229,16 @@ fn named(alloc: Global, mode: Mode, script: Script, name: Text) -> Result<Reader
     }
 }
 
-fn to_reserve(alloc: Global, mode: Mode, script: Script, name: Text) -> Result<Reader, Unread>
+fn to_reserve(
+    alloc: Global,
+    mode: Mode,
+    script: Boxed<Script>,
+    name: Name,
+) -> Result<Reader, Unread>
     ensures { Says (automaton.to_reserve mode script name) result }
 {
-    if is_early(&script) && !is_named(&script, &name) {
-        let template = new_reservation(alloc);
+    if is_early(script.get()) && !is_named(script.get(), &name) {
+        let template = Boxed::new(alloc, new_reservation(alloc))?;
         let naming = Naming { script, name };
         Ok(Reader::Reserving {
             mode,
@@ -232,15 +253,20 @@ fn to_reserve(alloc: Global, mode: Mode, script: Script, name: Text) -> Result<R
 
 /// The name that ends a line.
 #[tactic(auto, unfolding(crate::specs::Automaton::read_name))]
-fn read_name(cursor: &mut Cursor) -> Result<Text, Unread>
+fn read_name(cursor: &mut Cursor) -> Result<Name, Unread>
     ensures { Says (automaton.read_name cursor.old) result }
 {
     let name = text_codec::read_name(cursor)?;
     cursor.end()?;
-    Ok(name)
+    Ok(Name::new(cursor.alloc(), name)?)
 }
 
-fn after_top(alloc: Global, mode: Mode, script: Script, line: &[u8]) -> Result<Reader, Unread>
+fn after_top(
+    alloc: Global,
+    mode: Mode,
+    script: Boxed<Script>,
+    line: &[u8],
+) -> Result<Reader, Unread>
     ensures { Says (automaton.after_top mode script line.now) result }
 {
     let mut cursor = Cursor::new(alloc, line);
@@ -265,7 +291,12 @@ fn after_top(alloc: Global, mode: Mode, script: Script, line: &[u8]) -> Result<R
     }
 }
 
-fn after_queueing(alloc: Global, mode: Mode, script: Script, line: &[u8]) -> Result<Reader, Unread>
+fn after_queueing(
+    alloc: Global,
+    mode: Mode,
+    script: Boxed<Script>,
+    line: &[u8],
+) -> Result<Reader, Unread>
     ensures { Says (automaton.next (Reader.Queueing mode script) line.now) result }
 {
     let mut cursor = Cursor::new(alloc, line);
@@ -282,22 +313,34 @@ fn after_queueing(alloc: Global, mode: Mode, script: Script, line: &[u8]) -> Res
     }
 }
 
+/// The template with one field more.
+fn draft_with(
+    alloc: Global,
+    draft: Boxed<Draft>,
+    field: JobField,
+) -> Result<Boxed<Draft>, AllocError>
+    ensures { IfOk result (λ d. d ≡ with_field draft field) }
+{
+    let draft = with_field(alloc, draft.into_inner(), field)?;
+    Boxed::new(alloc, draft)
+}
+
 fn filled(
     alloc: Global,
     mode: Mode,
     naming: Naming,
-    draft: Draft,
+    draft: Boxed<Draft>,
     field: JobField,
 ) -> Result<Reader, Unread>
     ensures { Says (automaton.filled mode naming.0 naming.1 draft field) result }
 {
-    if is_set(&draft, &field) {
+    if is_set(draft.get(), &field) {
         drop(field);
         drop(draft);
         drop(naming);
         return Err(Unread::Unspelled);
     }
-    match with_field(alloc, draft, field) {
+    match draft_with(alloc, draft, field) {
         Ok(draft) => Ok(Reader::Filling {
             mode,
             naming,
@@ -310,16 +353,27 @@ fn filled(
     }
 }
 
+/// What was made so far.
+fn template_of(draft: Boxed<Draft>) -> JobTemplate
+    ensures { result ≡ draft.template }
+{
+    let Draft { template, .. } = draft.into_inner();
+    template
+}
+
 /// The script with one template more.
 #[tactic(auto, using(crate::specs::NameLaws::not_there, crate::specs::NameLaws::neither))]
-fn with_template(naming: Naming, draft: Draft) -> Result<Script, Unread>
-    ensures { Says (Some (scripts.with_template naming.0 naming.1 draft.template)) result }
+fn with_template(
+    alloc: Global,
+    naming: Naming,
+    template: JobTemplate,
+) -> Result<Boxed<Script>, Unread>
+    ensures { Says (Some (scripts.with_template naming.0 naming.1 template)) result }
 {
     let Naming { script, name } = naming;
-    let Draft { template, .. } = draft;
-    let mut script = script;
+    let mut script = script.into_inner();
     match script.jobs.add(name, template) {
-        Ok(()) => Ok(script),
+        Ok(()) => Ok(Boxed::new(alloc, script)?),
         Err(fault) => {
             drop(script);
             Err(fault.into())
@@ -331,13 +385,13 @@ fn after_filling(
     alloc: Global,
     mode: Mode,
     naming: Naming,
-    draft: Draft,
+    draft: Boxed<Draft>,
     line: &[u8],
 ) -> Result<Reader, Unread>
     ensures { Says (automaton.next (Reader.Filling mode naming draft) line.now) result }
 {
     if is_words(line, b"end") {
-        let script = with_template(naming, draft)?;
+        let script = with_template(alloc, naming, template_of(draft))?;
         Ok(Reader::Top { mode, script })
     } else {
         match read_job_field(alloc, line) {
@@ -351,22 +405,34 @@ fn after_filling(
     }
 }
 
+/// The reservation template with one field more.
+fn reservation_with(
+    alloc: Global,
+    template: Boxed<ReservationTemplate>,
+    field: ReservationField,
+) -> Result<Boxed<ReservationTemplate>, AllocError>
+    ensures { IfOk result (λ t. t ≡ with_reservation_field template field) }
+{
+    let template = with_reservation_field(alloc, template.into_inner(), field)?;
+    Boxed::new(alloc, template)
+}
+
 fn reserved(
     alloc: Global,
     mode: Mode,
     naming: Naming,
-    template: ReservationTemplate,
+    template: Boxed<ReservationTemplate>,
     field: ReservationField,
 ) -> Result<Reader, Unread>
     ensures { Says (automaton.reserved mode naming.0 naming.1 template field) result }
 {
-    if is_reservation_set(&template, &field) {
+    if is_reservation_set(template.get(), &field) {
         drop(field);
         drop(template);
         drop(naming);
         return Err(Unread::Unspelled);
     }
-    match with_reservation_field(alloc, template, field) {
+    match reservation_with(alloc, template, field) {
         Ok(template) => Ok(Reader::Reserving {
             mode,
             naming,
@@ -381,13 +447,17 @@ fn reserved(
 
 /// The script with one reservation template more.
 #[tactic(auto, using(crate::specs::NameLaws::not_there, crate::specs::NameLaws::neither))]
-fn with_reservation(naming: Naming, template: ReservationTemplate) -> Result<Script, Unread>
+fn with_reservation(
+    alloc: Global,
+    naming: Naming,
+    template: Boxed<ReservationTemplate>,
+) -> Result<Boxed<Script>, Unread>
     ensures { Says (Some (scripts.with_reservation naming.0 naming.1 template)) result }
 {
     let Naming { script, name } = naming;
-    let mut script = script;
-    match script.reservations.add(name, template) {
-        Ok(()) => Ok(script),
+    let mut script = script.into_inner();
+    match script.reservations.add(name, template.into_inner()) {
+        Ok(()) => Ok(Boxed::new(alloc, script)?),
         Err(fault) => {
             drop(script);
             Err(fault.into())
@@ -399,13 +469,13 @@ fn after_reserving(
     alloc: Global,
     mode: Mode,
     naming: Naming,
-    template: ReservationTemplate,
+    template: Boxed<ReservationTemplate>,
     line: &[u8],
 ) -> Result<Reader, Unread>
     ensures { Says (automaton.next (Reader.Reserving mode naming template) line.now) result }
 {
     if is_words(line, b"end") {
-        let script = with_reservation(naming, template)?;
+        let script = with_reservation(alloc, naming, template)?;
         Ok(Reader::Top { mode, script })
     } else {
         match read_reservation_field(alloc, line) {
@@ -420,54 +490,44 @@ fn after_reserving(
 }
 
 /// The script with one block more.
-fn with_block(script: Script, block: Block, in_setup: bool) -> Result<Script, Unread>
+fn with_block(
+    alloc: Global,
+    script: Boxed<Script>,
+    block: Block,
+    in_setup: bool,
+) -> Result<Boxed<Script>, Unread>
     ensures { Says (Some (scripts.with_block script block in_setup)) result }
 {
-    let Script {
-        config,
-        jobs,
-        reservations,
-        setup,
-        clients,
-    } = script;
+    let mut script = script.into_inner();
     if in_setup {
-        drop(setup);
-        return Ok(Script {
-            config,
-            jobs,
-            reservations,
-            setup: Some(block),
-            clients,
-        });
+        script.setup = Some(block);
+        return Ok(Boxed::new(alloc, script)?);
     }
+    let clients = std::mem::replace(&mut script.clients, ListOf::new(alloc));
     match with_last(clients, block) {
-        Ok(clients) => Ok(Script {
-            config,
-            jobs,
-            reservations,
-            setup,
-            clients,
-        }),
+        Ok(clients) => {
+            script.clients = clients;
+            Ok(Boxed::new(alloc, script)?)
+        }
         Err(fault) => {
-            drop(config);
-            drop(jobs);
-            drop(reservations);
-            drop(setup);
+            drop(script);
             Err(fault.into())
         }
     }
 }
 
 fn asked(
+    alloc: Global,
     mode: Mode,
-    script: Script,
+    script: Boxed<Script>,
     block: Block,
     in_setup: bool,
     line: Line,
 ) -> Result<Reader, Unread>
     ensures { Says (automaton.asked mode script block in_setup line) result }
 {
-    if may_stand(mode, in_setup, &script, &block, &line) {
+    let mut line = line;
+    if may_stand(alloc, mode, in_setup, script.get(), &block, &mut line) {
         match block.with(line) {
             Ok(block) => Ok(Reader::Asking {
                 mode,
@@ -491,7 +551,7 @@ fn asked(
 fn after_asking(
     alloc: Global,
     mode: Mode,
-    script: Script,
+    script: Boxed<Script>,
     block: Block,
     in_setup: bool,
     line: &[u8],
@@ -499,11 +559,11 @@ fn after_asking(
     ensures { Says (automaton.next (Reader.Asking mode script block in_setup) line.now) result }
 {
     if is_words(line, b"end") {
-        let script = with_block(script, block, in_setup)?;
+        let script = with_block(alloc, script, block, in_setup)?;
         Ok(Reader::Top { mode, script })
     } else {
         match read_line(alloc, line) {
-            Ok(said) => asked(mode, script, block, in_setup, said),
+            Ok(said) => asked(alloc, mode, script, block, in_setup, said),
             Err(fault) => {
                 drop(block);
                 drop(script);
@@ -546,7 +606,9 @@ impl LineReader for Reader {
 
     fn ends(self) -> Option<Script> {
         match self {
-            Reader::Queueing { script, .. } | Reader::Top { script, .. } => Some(script),
+            Reader::Queueing { script, .. } | Reader::Top { script, .. } => Some(
+                script.into_inner(),
+            ),
             other => {
                 drop(other);
                 None
