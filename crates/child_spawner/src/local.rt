@@ -17,12 +17,23 @@ use std::marker::Model;
 
 /// Starts real processes through `sh`. It tells neither what was asked of it nor a fate, and counts
 /// each start that failed, for want of memory too.
-#[derive(Drop)]
 pub struct LocalSpawner<H: Host = SystemHost> {
     alloc: Global,
     host: H,
     folder: Text,
     faults: u64,
+}
+
+// By hand, so that how its parts are let go is proved here once, and not again in each crate that lets one go.
+impl<H: Host> Drop for LocalSpawner<H> {
+    fn drop(self) {
+        let LocalSpawner {
+            alloc: _,
+            host: _,
+            folder: _,
+            faults: _,
+        } = self;
+    }
 }
 
 impl<H: Host> Model for LocalSpawner<H> {
@@ -153,7 +164,6 @@ fn launch<H: Host>(
 }
 
 /// A real process. It tells nothing of itself, and counts each poll and signal that failed.
-#[derive(Drop)]
 pub struct LocalChild<H: Host = SystemHost> {
     alloc: Global,
     host: H,
@@ -161,6 +171,20 @@ pub struct LocalChild<H: Host = SystemHost> {
     process: H::Process,
     ended: Option<Exit>,
     faults: u64,
+}
+
+// By hand, so that how its parts are let go is proved here once, and not again in each crate that lets one go.
+impl<H: Host> Drop for LocalChild<H> {
+    fn drop(self) {
+        let LocalChild {
+            alloc: _,
+            host: _,
+            file: _,
+            process: _,
+            ended: _,
+            faults: _,
+        } = self;
+    }
 }
 
 impl<H: Host> Model for LocalChild<H> {

@@ -13,7 +13,6 @@ use std::alloc::{AllocError, Global};
 use std::marker::Model;
 
 /// A spawner that starts nothing, keeps what was asked of it, and fails where it was told to.
-#[derive(Drop)]
 pub struct MemorySpawner {
     alloc: Global,
     fates: FateList,
@@ -22,6 +21,21 @@ pub struct MemorySpawner {
     faults: u64,
     asked: Vec<Asked>,
     tells: bool,
+}
+
+// By hand, so that how its parts are let go is proved here once, and not again in each crate that lets one go.
+impl Drop for MemorySpawner {
+    fn drop(self) {
+        let MemorySpawner {
+            alloc: _,
+            fates: _,
+            failing: _,
+            starts: _,
+            faults: _,
+            asked: _,
+            tells: _,
+        } = self;
+    }
 }
 
 impl Model for MemorySpawner {

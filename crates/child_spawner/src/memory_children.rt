@@ -13,7 +13,6 @@ use std::marker::Model;
 const KILLED: u8 = 9;
 
 /// A child that stands for no process and plays its fate.
-#[derive(Drop)]
 pub struct MemoryChild {
     start: u64,
     job: JobId,
@@ -27,6 +26,26 @@ pub struct MemoryChild {
     polls: u64,
     signals: u64,
     faults: u64,
+}
+
+// By hand, so that how its parts are let go is proved here once, and not again in each crate that lets one go.
+impl Drop for MemoryChild {
+    fn drop(self) {
+        let MemoryChild {
+            start: _,
+            job: _,
+            attempt: _,
+            fate: _,
+            killed: _,
+            stops: _,
+            conts: _,
+            kills: _,
+            polls_left: _,
+            polls: _,
+            signals: _,
+            faults: _,
+        } = self;
+    }
 }
 
 impl Model for MemoryChild {

@@ -21,12 +21,23 @@ const NUMBERS: usize = 64;
 /// see the callbacks as they were at first and as they are, the places, and the changes handed over.
 /// Each call keeps `HaveHeard`: each callback heard, since the ears were made, exactly the changes from its
 /// place up to the number handed. The struct has no bound, so that a callback may hold a boxed closure.
-#[derive(Drop)]
 pub struct Ears<B> {
     begun: Snapshot<Callbacks<B>>,
     callbacks: Vec<B>,
     places: Vec<Option<u64>>,
     handed: Handed,
+}
+
+// By hand, so that how its parts are let go is proved here once, and not again in each crate that lets one go.
+impl<B: Drop> Drop for Ears<B> {
+    fn drop(self) {
+        let Ears {
+            begun: _,
+            callbacks: _,
+            places: _,
+            handed: _,
+        } = self;
+    }
 }
 
 impl<B> Model for Ears<B> {
@@ -107,6 +118,12 @@ impl<B: Callback> Ears<B> {
         ensures all { (config : Config) (history : List Entry) → HaveHeard B.counted B.told self → self.handed ≡ changes_of config history
             → HaveHeardAll B.counted B.told config history self.places self.begun result }
     {
-        Callbacks::from_vec(self.callbacks)
+        let Ears {
+            begun: _,
+            callbacks,
+            places: _,
+            handed: _,
+        } = self;
+        Callbacks::from_vec(callbacks)
     }
 }

@@ -27,11 +27,21 @@ use std::sync::Wait;
 /// Register entry in the history of the note, and the changes handed over are the first ones of that history. Each call keeps
 /// `HaveHeard`: each callback heard, since the hub was made, exactly those changes from its place on. So the struct has no
 /// bound, and a callback may hold a boxed closure.
-#[derive(Drop)]
 pub struct Hub<B> {
     ears: Ears<B>,
     handed: u64,
     note: Option<Note>,
+}
+
+// By hand, so that how its parts are let go is proved here once, and not again in each crate that lets one go.
+impl<B: Drop> Drop for Hub<B> {
+    fn drop(self) {
+        let Hub {
+            ears: _,
+            handed: _,
+            note: _,
+        } = self;
+    }
 }
 
 impl<B> Model for Hub<B> {
@@ -165,7 +175,12 @@ impl<B: Callback> Hub<B> {
         ensures all { (config : Config) → MayBe config self.note → HaveHeard B.counted B.told self.ears → self.ears.handed ≡ changes_of config (noted self.note)
             → HaveHeardAll B.counted B.told config (noted self.note) self.ears.places self.ears.begun result }
     {
-        self.ears.take_back()
+        let Hub {
+            ears,
+            handed: _,
+            note: _,
+        } = self;
+        ears.take_back()
     }
 }
 

@@ -32,10 +32,16 @@ const SERVED: usize = 2;
 const LAST: u64 = u64::MAX - 1;
 
 /// The words and the slot of one lock.
-#[derive(Drop)]
 pub struct Bench<V: Chronicle + Drop> {
     table: Table<Option<V>, View<V::Ask, V::Answer, V::Fixed>, Snapshot<V>, Order<V>, Global>,
     ghost sized: { (table.shared.table_id.words ≡ 3) × (table.shared.table_id.slots ≡ 1) },
+}
+
+// By hand, so that how its parts are let go is proved here once, and not again in each crate that lets one go.
+impl<V: Chronicle + Drop> Drop for Bench<V> {
+    fn drop(self) {
+        let Bench { table: _ } = self;
+    }
 }
 
 impl<V: Chronicle + Drop> Bench<V> {
@@ -243,7 +249,8 @@ impl<V: Chronicle + Drop> Bench<V> {
         requires none_left { left_of seat.me.0.retired ≡ 0 }
         ensures { HasLeft V.entries V.fixed V.legal (V.fixed self.table.shared.key.value) seat.me.0 result }
     {
-        let mut closed = self.table.close_with(seat);
+        let Bench { table } = self;
+        let mut closed = table.close_with(seat);
         let value = closed.take(0);
         closed.free();
         value.unwrap()

@@ -17,9 +17,15 @@ use std::sync::Wait;
 
 /// A value that one pass at a time may use, in the order of tickets. Contracts see which lock it is and the
 /// fixed part of the value that it was made with.
-#[derive(Drop)]
 pub struct TurnLock<V: Chronicle + Drop> {
     pub(crate) bench: Bench<V>,
+}
+
+// By hand, so that how its parts are let go is proved here once, and not again in each crate that lets one go.
+impl<V: Chronicle + Drop> Drop for TurnLock<V> {
+    fn drop(self) {
+        let TurnLock { bench: _ } = self;
+    }
 }
 
 impl<V: Chronicle + Drop> Model for TurnLock<V> {
@@ -69,8 +75,7 @@ impl<V: Chronicle + Drop> TurnLock<V> {
         ensures low { pass.old.view.low ≤ pass.new.view.low }
         ensures free { IsFree self.now pass.new }
     {
-        let NotePass { seat } = note;
-        self.bench.learn(&mut pass.seat, seat);
+        self.bench.learn(&mut pass.seat, note.into_seat());
         self.bench.look(&mut pass.seat);
     }
 
@@ -128,11 +133,6 @@ impl<V: Chronicle + Drop> TurnLock<V> {
         ensures { HasLeft V.entries V.fixed V.legal self.fixed opener.view result }
     {
         let TurnLock { bench } = self;
-        let Opener {
-            seat,
-            next: _,
-            gone: _,
-        } = opener;
-        bench.close(seat)
+        bench.close(opener.into_seat())
     }
 }

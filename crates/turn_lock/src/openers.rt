@@ -1,6 +1,7 @@
 //! The opener gives passes out and takes them back.
 ghost use Rattle.std.specs.Prelude.{◌≡◌, ℕ, ◌<◌, ◌≤◌, length, []};
 ghost use Rattle.turn_lock.specs.Histories.{of, IsLegalSoFar, left_of};
+ghost use Rattle.turn_lock.specs.Seats.{IsOpener};
 ghost use Rattle.turn_lock.specs.Views.{hiring, hired};
 ghost use Rattle.turn_lock.specs.Tokens.{Token, Named, BelongsTo, IsFree, Retires};
 
@@ -13,11 +14,21 @@ use std::marker::Model;
 /// Who opens the passes of one lock. Contracts see its lock, what it has seen, and the list of its passes by
 /// number: none where a pass is out, and its own entries where it was retired. No entry that the opener has
 /// seen is of a number that is not yet given.
-#[derive(Drop)]
 pub struct Opener<V: Chronicle> {
     pub(crate) seat: Place<V>,
     pub(crate) next: u32,
     pub(crate) gone: u32,
+}
+
+// By hand, so that how its parts are let go is proved here once, and not again in each crate that lets one go.
+impl<V: Chronicle + Drop> Drop for Opener<V> {
+    fn drop(self) {
+        let Opener {
+            seat: _,
+            next: _,
+            gone: _,
+        } = self;
+    }
 }
 
 impl<V: Chronicle> Model for Opener<V> {
@@ -58,10 +69,22 @@ impl<V: Chronicle + Drop> Opener<V> {
         ensures legal { IsLegalSoFar (V.legal lock.now.fixed) self.new.view.seen }
         ensures low { self.old.view.low ≤ self.new.view.low }
     {
-        let Pass { seat, number: _ } = pass;
-        lock.bench.retire(&mut self.seat, seat);
+        lock.bench.retire(&mut self.seat, pass.into_seat());
         lock.bench.look(&mut self.seat);
         self.gone += 1;
+    }
+
+    /// The seat of an opener whose lock is closed.
+    pub(crate) fn into_seat(self) -> Place<V>
+        ensures same { (result.table_id ≡ self.lock) × (result.me.0 ≡ self.view) }
+        ensures opener { (next : ℕ) × (gone : ℕ) × IsOpener result next gone }
+    {
+        let Opener {
+            seat,
+            next: _,
+            gone: _,
+        } = self;
+        seat
     }
 
     /// How many passes are open and not retired.
