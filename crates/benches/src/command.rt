@@ -25,9 +25,7 @@ pub fn only_number(words: &[String]) -> Option<usize> {
 /// What is measured.
 #[derive(Clone, Copy)]
 pub enum Subject {
-    Spawner,
     Parts,
-    Texts,
     Threads,
 }
 
@@ -35,9 +33,7 @@ impl Subject {
     /// The one that the program's first word names.
     pub fn of_word(word: &String) -> Option<Subject> {
         match word.as_str() {
-            "spawner" => Some(Subject::Spawner),
             "parts" => Some(Subject::Parts),
-            "texts" => Some(Subject::Texts),
             "threads" => Some(Subject::Threads),
             _ => None,
         }
@@ -67,9 +63,7 @@ impl Ending {
             Ending::Done => Ok(ExitCode::SUCCESS),
             Ending::Undone => Ok(ExitCode::FAILURE),
             Ending::UnknownWords => {
-                eprintln!(rt;
-                    "usage: benches spawner TOTAL AT_ONCE, parts COUNT, texts read-journal, print-journal or read-script, or threads COUNT"
-                )?;
+                eprintln!(rt; "usage: benches parts COUNT, or threads COUNT")?;
                 Ok(ExitCode::from(UNKNOWN_WORDS))
             }
         }

@@ -5,11 +5,11 @@
 #[cfg(test)]
 mod children;
 #[cfg(test)]
+mod hosts;
+#[cfg(test)]
 mod messages;
 #[cfg(test)]
 mod pool;
-#[cfg(test)]
-mod processes;
 #[cfg(test)]
 mod queue;
 #[cfg(test)]

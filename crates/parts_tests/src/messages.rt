@@ -1,12 +1,15 @@
-//! The messages of a text's faults.
-use std::test::Fail;
+//! The message of a fault that no run of the program prints.
+use std::alloc::Global;
 use text_lines::TextFault;
 
+fn is_said(alloc: Global, fault: TextFault, wanted: &str) -> bool {
+    match fault.to_string(alloc) {
+        Ok(said) => said.as_str() == wanted,
+        Err(_) => false,
+    }
+}
+
 #[test]
-fn a_fault_says_where_it_is(rt: HostRuntime) -> Result<(), Fail> {
-    let line = TextFault::Line(7).to_string(rt.alloc())?;
-    assert_eq!(rt; line.as_str(), "line 7 is not in the grammar");
-    let memory = TextFault::OutOfMemory.to_string(rt.alloc())?;
-    assert_eq!(rt; memory.as_str(), "out of memory");
-    Ok(())
+fn want_of_memory_is_said(rt: HostRuntime) {
+    assert!(rt; is_said(rt.alloc(), TextFault::OutOfMemory, "out of memory"));
 }

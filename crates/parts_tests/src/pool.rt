@@ -1,7 +1,7 @@
 //! Slots that are taken for jobs and given back.
 use drmaa_types::JobId;
 use slot_pool::{Short, SlotPool};
-use std::process::Abort;
+use std::alloc::Global;
 
 /// What is asked of a pool for a job, with what comes of it.
 #[derive(Clone, Copy)]
@@ -31,8 +31,11 @@ fn goes(pool: &mut SlotPool, job: JobId, step: Step) -> bool {
     }
 }
 
-/// Steps of a pool of 4 slots: the job, what it does, and how many slots are used then.
-const SMALL: [(u64, Step, u32); 6] = [
+/// The job, what it does, and how many slots are used then.
+type Row = (u64, Step, u32);
+
+/// Steps of a pool of 4 slots.
+const SMALL: &[Row] = &[
     (1, Step::Takes(3), 3),
     (3, Step::Takes(1), 4),
     (2, Step::Lacks(Short { used: 4, asked: 2 }), 4),
@@ -50,23 +53,27 @@ const TWO: Short = Short {
 };
 
 /// Steps of a pool as large as its numbers.
-const LARGE: [(u64, Step, u32); 3] = [
+const LARGE: &[Row] = &[
     (7, Step::Takes(ALMOST), ALMOST),
     (8, Step::Lacks(TWO), ALMOST),
     (8, Step::Takes(1), u32::MAX),
 ];
 
-/// Goes through the steps with a pool of so many slots.
-fn play(rt: &impl Abort, mut pool: SlotPool, steps: &[(u64, Step, u32)]) {
-    assert!(rt; pool.used() == 0);
-    for (job, step, used) in steps {
-        assert!(rt; goes(&mut pool, JobId(*job), *step));
-        assert!(rt; pool.used() == *used);
+/// Whether a new pool of so many slots goes through the steps.
+fn plays(alloc: Global, slots: u32, steps: &[Row]) -> bool {
+    let mut pool = SlotPool::new(alloc, slots);
+    if pool.used() != 0 {
+        return false;
     }
+    for (job, step, used) in steps {
+        if !goes(&mut pool, JobId(*job), *step) || pool.used() != *used {
+            return false;
+        }
+    }
+    true
 }
 
 #[test]
 fn slots_are_taken_where_there_are_enough(rt: HostRuntime) {
-    play(&rt, SlotPool::new(rt.alloc(), 4), &SMALL);
-    play(&rt, SlotPool::new(rt.alloc(), u32::MAX), &LARGE);
+    assert!(rt; plays(rt.alloc(), 4, SMALL) && plays(rt.alloc(), u32::MAX, LARGE));
 }

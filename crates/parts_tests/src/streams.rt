@@ -3,25 +3,19 @@ use byte_streams::{
     MemorySource, ReadError, Sink, Source, StdSink, StdSource, read_all, write_all,
 };
 use drmaa_types::{Bytes, Failed, PlaceList};
-use std::alloc::{AllocError, Global};
+use std::alloc::Global;
 use std::io;
 use std::io::{Read, Write};
-use std::test::Fail;
 
-/// This many bytes.
-fn bytes(alloc: Global, count: usize) -> Result<Vec<u8>, AllocError> {
-    let mut bytes = Vec::with_capacity(alloc, count)?;
+/// A source with so many bytes, one read of which fails. Where memory is wanting it has fewer, and then no test passes.
+fn source(alloc: Global, count: usize, failing: u64) -> MemorySource {
+    let mut bytes = Vec::new(alloc);
     for _ in 0..count {
-        bytes.push(7)?;
+        let _ = bytes.push(7);
     }
-    Ok(bytes)
-}
-
-/// A source with so many bytes, one read of which fails.
-fn source(alloc: Global, count: usize, failing: u64) -> Result<MemorySource, AllocError> {
-    let failing = Vec::from_slice(alloc, &[failing])?;
-    let bytes = Bytes::from_vec(bytes(alloc, count)?);
-    Ok(MemorySource::new(bytes, PlaceList::from_vec(failing)))
+    let mut places = Vec::new(alloc);
+    let _ = places.push(failing);
+    MemorySource::new(Bytes::from_vec(bytes), PlaceList::from_vec(places))
 }
 
 /// How many bytes of a source are read up to a limit, and whether that is the whole; or why it is not read.
@@ -37,7 +31,9 @@ fn read(
 }
 
 /// How many bytes a source has, which read fails, the limit, how many are read, and whether that is the whole.
-const READS: [(usize, u64, usize, Result<(usize, bool), ReadError>); 7] = [
+type Row = (usize, u64, usize, Result<(usize, bool), ReadError>);
+
+const READS: &[Row] = &[
     (0, 0, 0, Ok((0, true))),
     (1, 0, 0, Ok((0, false))),
     (130, 0, 130, Ok((130, true))),
@@ -47,13 +43,18 @@ const READS: [(usize, u64, usize, Result<(usize, bool), ReadError>); 7] = [
     (130, 3, 1000, Err(ReadError::Fault)),
 ];
 
-#[test]
-fn reads_all_up_to_the_limit_or_to_a_fault(rt: HostRuntime) -> Result<(), Fail> {
-    for (count, failing, limit, wanted) in &READS {
-        let mut source = source(rt.alloc(), *count, *failing)?;
-        assert!(rt; read(rt.alloc(), &mut source, *limit) == *wanted);
+fn are_read(alloc: Global, rows: &[Row]) -> bool {
+    for (count, failing, limit, wanted) in rows {
+        if read(alloc, &mut source(alloc, *count, *failing), *limit) != *wanted {
+            return false;
+        }
     }
-    Ok(())
+    true
+}
+
+#[test]
+fn reads_all_up_to_the_limit_or_to_a_fault(rt: HostRuntime) {
+    assert!(rt; are_read(rt.alloc(), READS));
 }
 
 /// A reader that gives one byte and fails then.
@@ -87,17 +88,30 @@ impl Write for Stuck {
     }
 }
 
-#[test]
-fn a_broken_reader_and_a_full_or_stuck_writer_are_faults(rt: HostRuntime) {
-    let mut broken = StdSource::new(Breaks { is_broken: false });
+/// What three reads of a source give.
+fn three_reads<S: Source>(source: &mut S) -> [Result<usize, Failed>; 3] {
     let mut into = [0; 8];
-    for want in [Ok(1), Err(Failed), Err(Failed)] {
-        assert!(rt; broken.read(&mut into) == want);
-    }
-    let mut room = [0; 2];
-    let mut full = StdSink::new(room.as_mut_slice());
-    for want in [Ok(2), Err(Failed)] {
-        assert!(rt; full.write(b"abc") == want);
-    }
-    assert!(rt; write_all(&mut StdSink::new(Stuck), b"abc") == Err(Failed));
+    [
+        source.read(&mut into),
+        source.read(&mut into),
+        source.read(&mut into),
+    ]
+}
+
+/// What two writes of three bytes to a sink give.
+fn two_writes<S: Sink>(sink: &mut S) -> [Result<usize, Failed>; 2] {
+    [sink.write(b"abc"), sink.write(b"abc")]
+}
+
+#[test]
+fn a_broken_reader_is_a_fault(rt: HostRuntime) {
+    let told = three_reads(&mut StdSource::new(Breaks { is_broken: false }));
+    assert!(rt; told == [Ok(1), Err(Failed), Err(Failed)]);
+}
+
+#[test]
+fn a_full_or_stuck_writer_is_a_fault(rt: HostRuntime) {
+    let told = two_writes(&mut StdSink::new([0; 2].as_mut_slice()));
+    let whole = write_all(&mut StdSink::new(Stuck), b"abc");
+    assert!(rt; told == [Ok(2), Err(Failed)] && whole == Err(Failed));
 }

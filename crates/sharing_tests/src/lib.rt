@@ -2,13 +2,9 @@
 #![tactic(auto)]
 
 #[cfg(test)]
-mod answers;
-#[cfg(test)]
 mod calls;
 #[cfg(test)]
 mod clocks;
-#[cfg(test)]
-mod controlling;
 #[cfg(test)]
 mod ears;
 #[cfg(test)]
@@ -26,19 +22,7 @@ mod jobs;
 #[cfg(test)]
 mod machines;
 #[cfg(test)]
-mod managing;
-#[cfg(test)]
-mod monitoring;
-#[cfg(test)]
-mod reporting;
-#[cfg(test)]
-mod reserving;
-#[cfg(test)]
-mod steps;
-#[cfg(test)]
-mod stories;
-#[cfg(test)]
-mod submitting;
+mod rooms;
 #[cfg(test)]
 mod threads;
 #[cfg(test)]
@@ -46,4 +30,4 @@ mod tries;
 #[cfg(test)]
 mod turns;
 #[cfg(test)]
-mod waiting;
+mod typed;

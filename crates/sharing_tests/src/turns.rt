@@ -1,9 +1,11 @@
-ghost use Rattle.std.specs.Prelude.{◌≡◌, ◌+◌, ◌<◌, [], length};
+//! The lock: a note that is learnt, a turn that is held, and threads that act.
+ghost use Rattle.std.specs.Prelude.{◌≡◌, ◌+◌, ◌<◌, [], length, All, IfOk};
 ghost use Rattle.turn_lock.specs.Tokens.{BelongsTo, IsFree};
 
+use std::alloc::{AllocError, Global};
+use std::process::Abort;
 use std::sync::Wait;
-use std::test::Fail;
-use std::thread::{Threads, join};
+use std::thread::{Threads, map_vec};
 use turn_lock::{Busy, CallerId, Chronicle, ChronicleEntry, Opener, Pass, TurnLock};
 
 /// A list of numbers, each with who told it.
@@ -52,12 +54,26 @@ impl Chronicle for Log {
     }
 }
 
-fn new_log(rt: &HostRuntime) -> Log
-    ensures { result.entries.items ≡ [] }
+/// A lock over an empty list, and its opener.
+fn new_lock(rt: &impl Abort, alloc: Global) -> (TurnLock<Log>, Opener<Log>)
+    ensures lock { BelongsTo result.0 result.1 }
+    ensures retired { result.1.view.retired ≡ [] }
 {
-    Log {
-        entries: Vec::new(rt.alloc()),
+    let log = Log {
+        entries: Vec::new(alloc),
+    };
+    match TurnLock::new(alloc, log) {
+        Ok(made) => made,
+        Err(_) => panic!(rt; "there is memory"),
     }
+}
+
+/// The list, once all passes are back.
+fn closed(rt: &impl Abort, lock: TurnLock<Log>, opener: Opener<Log>) -> Log
+    requires { BelongsTo lock opener }
+{
+    assert!(rt; opener.left() == 0);
+    lock.close(opener)
 }
 
 /// Enters, acts, and says whether the value answered.
@@ -69,48 +85,115 @@ fn act<R: Wait>(rt: &R, lock: &TurnLock<Log>, pass: &mut Pass<Log>, ask: u64) ->
     turn.act(lock, pass, ask).is_ok()
 }
 
-/// How many entries this caller has.
-fn told(log: &Log, number: u32) -> usize {
-    log.entries
-        .iter()
-        .filter(|entry| entry.caller.0 == number)
-        .count()
-}
-
-/// Acts 1,000 times.
-fn thousand<R: Wait>(rt: &R, lock: &TurnLock<Log>, mut pass: Pass<Log>) -> Pass<Log>
-    requires { IsFree lock.now pass }
-    ensures { IsFree lock.now result }
-{
-    for ask in 0..1_000 {
-        act(rt, lock, &mut pass, ask);
-    }
-    pass
-}
-
-/// Tries, and waits where the turn is not to be had at once.
-fn try_or_enter<R: Wait>(rt: &R, lock: &TurnLock<Log>, pass: &mut Pass<Log>, ask: u64)
+/// Acts, if no other pass has the turn, and says whether the value answered.
+fn try_act(lock: &TurnLock<Log>, pass: &mut Pass<Log>, ask: u64) -> Result<bool, Busy>
     requires { IsFree lock.now pass.old }
     ensures { IsFree lock.now pass.new }
 {
     match lock.try_enter(pass) {
-        Ok(turn) => {
-            let _ = turn.act(lock, pass, ask);
-        }
-        Err(_) => {
-            act(rt, lock, pass, ask);
-        }
+        Ok(turn) => Ok(turn.act(lock, pass, ask).is_ok()),
+        Err(busy) => Err(busy),
     }
 }
 
-/// Makes a note, acts once by trying and once by waiting, looks in without an entry, and learns the note, 50 times over.
-fn play<R: Wait>(rt: &R, lock: &TurnLock<Log>, mut pass: Pass<Log>) -> Pass<Log>
+/// How many entries this caller has.
+fn told(log: &Log, number: u32) -> usize {
+    let mut count: usize = 0;
+    for entry in log.entries.iter() {
+        if entry.caller.0 == number {
+            count = count.saturating_add(1);
+        }
+    }
+    count
+}
+
+/// Who asked what and was answered what, where there are three entries.
+fn told_in_order(log: &Log) -> Option<[(u32, u64, u64); 3]> {
+    let told = |entry: &ChronicleEntry<u64, u64>| (entry.caller.0, entry.ask, entry.answer);
+    match log.entries.as_slice() {
+        [one, two, three] => Some([told(one), told(two), told(three)]),
+        _ => None,
+    }
+}
+
+/// The first acts, and the second after it has learnt what the first notes then. Whether both were answered.
+fn act_and_learn<R: Wait>(
+    rt: &R,
+    lock: &TurnLock<Log>,
+    first: &mut Pass<Log>,
+    second: &mut Pass<Log>,
+) -> [bool; 2]
+    requires first { IsFree lock.now first.old }
+    requires second { IsFree lock.now second.old }
+    ensures first { IsFree lock.now first.new }
+    ensures second { IsFree lock.now second.new }
+{
+    let told = act(rt, lock, first, 5);
+    let note = lock.note(first);
+    lock.learn(second, note);
+    [told, act(rt, lock, second, 7)]
+}
+
+/// How much the first finds, and what the second, which tries, is told while the first has the turn, and after it.
+fn try_beside<R: Wait>(
+    rt: &R,
+    lock: &TurnLock<Log>,
+    first: &mut Pass<Log>,
+    second: &mut Pass<Log>,
+) -> (usize, [Result<bool, Busy>; 2])
+    requires first { IsFree lock.now first.old }
+    requires second { IsFree lock.now second.old }
+    ensures first { IsFree lock.now first.new }
+    ensures second { IsFree lock.now second.new }
+{
+    let turn = lock.enter(rt, first);
+    let found = turn.value().entries.len();
+    let beside = try_act(lock, second, 3);
+    turn.leave(lock, first);
+    (found, [beside, try_act(lock, second, 3)])
+}
+
+/// Whether both acted at first, the second found their entries and a turn that was held, and then acted.
+fn are_told(acted: [bool; 2], tried: (usize, [Result<bool, Busy>; 2]), log: &Log) -> bool {
+    let busy = Busy {
+        served: 2,
+        drawn: 3,
+    };
+    let entries = Some([(0, 5, 5), (1, 7, 7), (1, 3, 3)]);
+    acted == [true; 2] && tried == (2, [Err(busy), Ok(true)]) && told_in_order(log) == entries
+}
+
+#[test]
+fn a_note_is_learnt_and_a_held_turn_is_busy(rt: HostRuntime) {
+    let (lock, mut opener) = new_lock(&rt, rt.alloc());
+    let mut first = opener.open_pass(&lock);
+    let mut second = opener.open_pass(&lock);
+    let acted = act_and_learn(&rt, &lock, &mut first, &mut second);
+    let tried = try_beside(&rt, &lock, &mut first, &mut second);
+    opener.retire(&lock, first);
+    opener.retire(&lock, second);
+    let log = closed(&rt, lock, opener);
+    assert!(rt; are_told(acted, tried, &log));
+}
+
+/// Acts by trying, or where the turn is not to be had at once by waiting.
+fn try_or_wait<R: Wait>(rt: &R, lock: &TurnLock<Log>, pass: &mut Pass<Log>, ask: u64)
+    requires { IsFree lock.now pass.old }
+    ensures { IsFree lock.now pass.new }
+{
+    if try_act(lock, pass, ask).is_err() {
+        act(rt, lock, pass, ask);
+    }
+}
+
+/// Makes a note, acts once by trying and once by waiting, looks in without an entry, and learns the note, so many times over.
+fn play<R: Wait>(rt: &R, lock: &TurnLock<Log>, mut pass: Pass<Log>, rounds: u64) -> Pass<Log>
     requires { IsFree lock.now pass }
     ensures { IsFree lock.now result }
 {
-    for ask in 0..50 {
+    for ask in 0..rounds {
         let note = lock.note(&mut pass);
-        try_or_enter(rt, lock, &mut pass, ask);
+        try_or_wait(rt, lock, &mut pass, ask);
         act(rt, lock, &mut pass, ask);
         lock.enter(rt, &mut pass).leave(lock, &mut pass);
         lock.learn(&mut pass, note);
@@ -118,199 +201,74 @@ fn play<R: Wait>(rt: &R, lock: &TurnLock<Log>, mut pass: Pass<Log>) -> Pass<Log>
     pass
 }
 
-type Two = (Pass<Log>, Pass<Log>);
+const PASSES: u32 = 8;
 
-type Four = (Two, Two);
+const ROUNDS: u64 = 150;
 
-fn two_thousand<R: Threads + Wait + Sync>(rt: &R, lock: &TurnLock<Log>, passes: Two) -> Two
-    requires { IsFree lock.now passes.0 × IsFree lock.now passes.1 }
-    ensures { IsFree lock.now result.0 × IsFree lock.now result.1 }
+/// As many passes as there are to be. Where memory is wanting some are left out, and then no test passes.
+fn open_all(alloc: Global, lock: &TurnLock<Log>, opener: &mut Opener<Log>) -> Vec<Pass<Log>>
+    requires lock { BelongsTo lock.now opener.old }
+    requires retired { opener.old.view.retired ≡ [] }
+    ensures lock { BelongsTo lock.now opener.new }
+    ensures free { All (IsFree lock.now) result.items }
 {
-    let (first, second) = passes;
-    join(
-        rt,
-        move || -> Pass<Log>
-            requires { IsFree lock.now first }
-            ensures { IsFree lock.entry.now result }
-        { thousand(rt, lock, first) },
-        move || -> Pass<Log>
-            requires { IsFree lock.now second }
-            ensures { IsFree lock.entry.now result }
-        { thousand(rt, lock, second) },
-    )
+    let mut passes = Vec::new(alloc);
+    for _number in 0..PASSES {
+        let _ = passes.push(opener.open_pass(lock));
+    }
+    passes
 }
 
-fn two_play<R: Threads + Wait + Sync>(rt: &R, lock: &TurnLock<Log>, passes: Two) -> Two
-    requires { IsFree lock.now passes.0 × IsFree lock.now passes.1 }
-    ensures { IsFree lock.now result.0 × IsFree lock.now result.1 }
-{
-    let (first, second) = passes;
-    join(
-        rt,
-        move || -> Pass<Log>
-            requires { IsFree lock.now first }
-            ensures { IsFree lock.entry.now result }
-        { play(rt, lock, first) },
-        move || -> Pass<Log>
-            requires { IsFree lock.now second }
-            ensures { IsFree lock.entry.now result }
-        { play(rt, lock, second) },
-    )
-}
-
-fn four_play<R: Threads + Wait + Sync>(rt: &R, lock: &TurnLock<Log>, passes: Four) -> Four
-    requires { IsFree lock.now passes.0.0 × IsFree lock.now passes.0.1 × IsFree lock.now passes.1.0 × IsFree lock.now passes.1.1 }
-    ensures { IsFree lock.now result.0.0 × IsFree lock.now result.0.1 × IsFree lock.now result.1.0 × IsFree lock.now result.1.1 }
-{
-    let (first, second) = passes;
-    join(
-        rt,
-        move || -> Two
-            requires { IsFree lock.now first.0 × IsFree lock.now first.1 }
-            ensures { IsFree lock.entry.now result.0 × IsFree lock.entry.now result.1 }
-        { two_play(rt, lock, first) },
-        move || -> Two
-            requires { IsFree lock.now second.0 × IsFree lock.now second.1 }
-            ensures { IsFree lock.entry.now result.0 × IsFree lock.entry.now result.1 }
-        { two_play(rt, lock, second) },
-    )
-}
-
-fn eight_play<R: Threads + Wait + Sync>(
+/// Each pass plays in a thread of its own.
+fn all_play<R: Threads + Wait + Sync>(
     rt: &R,
     lock: &TurnLock<Log>,
-    first: Four,
-    second: Four,
-) -> (Four, Four)
-    requires { IsFree lock.now first.0.0 × IsFree lock.now first.0.1 × IsFree lock.now first.1.0 × IsFree lock.now first.1.1 × IsFree lock.now second.0.0 × IsFree lock.now second.0.1 × IsFree lock.now second.1.0 × IsFree lock.now second.1.1 }
-    ensures { IsFree lock.now result.0.0.0 × IsFree lock.now result.0.0.1 × IsFree lock.now result.0.1.0 × IsFree lock.now result.0.1.1 × IsFree lock.now result.1.0.0 × IsFree lock.now result.1.0.1 × IsFree lock.now result.1.1.0 × IsFree lock.now result.1.1.1 }
+    passes: Vec<Pass<Log>>,
+) -> Result<Vec<Pass<Log>>, AllocError>
+    requires { All (IsFree lock.now) passes.items }
+    ensures { IfOk result (λ after. All (IsFree lock.now) after.items) }
 {
-    join(
+    map_vec(
         rt,
-        move || -> Four
-            requires { IsFree lock.now first.0.0 × IsFree lock.now first.0.1 × IsFree lock.now first.1.0 × IsFree lock.now first.1.1 }
-            ensures { IsFree lock.entry.now result.0.0 × IsFree lock.entry.now result.0.1 × IsFree lock.entry.now result.1.0 × IsFree lock.entry.now result.1.1 }
-        { four_play(rt, lock, first) },
-        move || -> Four
-            requires { IsFree lock.now second.0.0 × IsFree lock.now second.0.1 × IsFree lock.now second.1.0 × IsFree lock.now second.1.1 }
-            ensures { IsFree lock.entry.now result.0.0 × IsFree lock.entry.now result.0.1 × IsFree lock.entry.now result.1.0 × IsFree lock.entry.now result.1.1 }
-        { four_play(rt, lock, second) },
+        passes,
+        &|pass: Pass<Log>| -> Pass<Log>
+            requires { IsFree lock.now pass }
+            ensures { IsFree lock.entry.now result }
+        { play(rt, lock, pass, ROUNDS) },
     )
 }
 
-fn open_two(lock: &TurnLock<Log>, opener: &mut Opener<Log>) -> Two
+/// The passes are taken back.
+fn retire_all(lock: &TurnLock<Log>, opener: &mut Opener<Log>, mut passes: Vec<Pass<Log>>)
     requires lock { BelongsTo lock.now opener.old }
-    requires room { length opener.old.view.retired + 2 < 100 }
-    ensures lock { BelongsTo lock.now opener.new }
-    ensures count { length opener.new.view.retired ≡ length opener.old.view.retired + 2 }
-    ensures free { IsFree lock.now result.0 × IsFree lock.now result.1 }
-{
-    let first = opener.open_pass(lock);
-    let second = opener.open_pass(lock);
-    (first, second)
-}
-
-fn retire_four(lock: &TurnLock<Log>, opener: &mut Opener<Log>, passes: Four)
-    requires lock { BelongsTo lock.now opener.old }
-    requires free { IsFree lock.now passes.0.0 × IsFree lock.now passes.0.1 × IsFree lock.now passes.1.0 × IsFree lock.now passes.1.1 }
+    requires free { All (IsFree lock.now) passes.items }
     ensures { BelongsTo lock.now opener.new }
 {
-    let ((first, second), (third, fourth)) = passes;
-    opener.retire(lock, first);
-    opener.retire(lock, second);
-    opener.retire(lock, third);
-    opener.retire(lock, fourth);
-}
-
-#[test]
-fn a_note_is_learnt(rt: HostRuntime) -> Result<(), Fail> {
-    let Ok((lock, mut opener)) = TurnLock::new(rt.alloc(), new_log(&rt)) else {
-        panic!(rt; "there is memory")
-    };
-    let mut first = opener.open_pass(&lock);
-    let mut second = opener.open_pass(&lock);
-    assert!(rt; act(&rt, &lock, &mut first, 5));
-    let note = lock.note(&mut first);
-    lock.learn(&mut second, note);
-    assert!(rt; act(&rt, &lock, &mut second, 7));
-    assert!(rt; opener.left() == 2);
-    opener.retire(&lock, first);
-    opener.retire(&lock, second);
-    assert!(rt; opener.left() == 0);
-    let log = lock.close(opener);
-    for (place, (number, ask)) in [(0, (0, 5)), (1, (1, 7))] {
-        let entry = log.entries.get(place).expect(&rt, "an entry");
-        assert!(rt; entry.caller.0 == number && entry.ask == ask && entry.answer == ask);
-    }
-    assert!(rt; log.entries.len() == 2);
-    Ok(())
-}
-
-#[test]
-fn a_held_turn_is_busy(rt: HostRuntime) -> Result<(), Fail> {
-    let Ok((lock, mut opener)) = TurnLock::new(rt.alloc(), new_log(&rt)) else {
-        panic!(rt; "there is memory")
-    };
-    let mut first = opener.open_pass(&lock);
-    let mut second = opener.open_pass(&lock);
-    let turn = lock.enter(&rt, &mut first);
-    assert!(rt; turn.value().entries.len() == 0);
-    match lock.try_enter(&mut second) {
-        Ok(turn) => {
-            turn.leave(&lock, &mut second);
-            panic!(rt; "the turn is held")
+    for _ in 0..PASSES {
+        if let Some(pass) = passes.pop() {
+            opener.retire(lock, pass);
         }
-        Err(busy) => assert!(rt;
-            busy == Busy {
-                served: 0,
-                drawn: 1
-            }
-        ),
     }
-    turn.leave(&lock, &mut first);
-    match lock.try_enter(&mut second) {
-        Ok(turn) => assert!(rt; turn.act(&lock, &mut second, 3).is_ok()),
-        Err(_) => panic!(rt; "the turn is free"),
+}
+
+/// Whether each pass has made its entries, and nobody else any.
+fn have_all_told(log: &Log) -> bool {
+    let each = (2 * ROUNDS) as usize;
+    for number in 0..PASSES {
+        if told(log, number) != each {
+            return false;
+        }
     }
-    opener.retire(&lock, first);
-    opener.retire(&lock, second);
-    assert!(rt; opener.left() == 0);
-    assert!(rt; told(&lock.close(opener), 1) == 1);
-    Ok(())
+    log.entries.len() == PASSES as usize * each
 }
 
 #[test]
-fn two_threads_act_a_thousand_times(rt: HostRuntime) -> Result<(), Fail> {
-    let Ok((lock, mut opener)) = TurnLock::new(rt.alloc(), new_log(&rt)) else {
-        panic!(rt; "there is memory")
-    };
-    let passes = open_two(&lock, &mut opener);
-    let (first, second) = two_thousand(&rt, &lock, passes);
-    opener.retire(&lock, first);
-    opener.retire(&lock, second);
-    assert!(rt; opener.left() == 0);
-    let log = lock.close(opener);
-    assert!(rt; (log.entries.len(), told(&log, 0), told(&log, 1)) == (2_000, 1_000, 1_000));
-    Ok(())
-}
-
-#[test]
-fn eight_threads_note_learn_try_and_enter(rt: HostRuntime) -> Result<(), Fail> {
-    let Ok((lock, mut opener)) = TurnLock::new(rt.alloc(), new_log(&rt)) else {
-        panic!(rt; "there is memory")
-    };
-    let a = open_two(&lock, &mut opener);
-    let b = open_two(&lock, &mut opener);
-    let c = open_two(&lock, &mut opener);
-    let d = open_two(&lock, &mut opener);
-    let (first, second) = eight_play(&rt, &lock, (a, b), (c, d));
-    retire_four(&lock, &mut opener, first);
-    retire_four(&lock, &mut opener, second);
-    assert!(rt; opener.left() == 0);
-    let log = lock.close(opener);
-    assert!(rt; log.entries.len() == 800);
-    for number in 0..8 {
-        assert!(rt; told(&log, number) == 100);
+fn eight_threads_note_learn_try_and_enter(rt: HostRuntime) {
+    let (lock, mut opener) = new_lock(&rt, rt.alloc());
+    let passes = open_all(rt.alloc(), &lock, &mut opener);
+    if let Ok(passes) = all_play(&rt, &lock, passes) {
+        retire_all(&lock, &mut opener, passes);
     }
-    Ok(())
+    let log = closed(&rt, lock, opener);
+    assert!(rt; have_all_told(&log));
 }

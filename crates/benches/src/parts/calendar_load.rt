@@ -1,10 +1,9 @@
 //! Bookings made in a calendar, asked about and cancelled again.
 use super::way::Way;
-use crate::rates::each;
+use crate::watch::Watch;
 use drmaa_types::{End, JobId, Moment};
 use reservation_calendar::{Calendar, Key};
 use std::io;
-use std::time::Instant;
 
 /// The slots of the machine: of bookings of one slot three overlap, so that one slot stays free.
 const SLOTS: u32 = 4;
@@ -28,18 +27,15 @@ pub fn measure(rt: HostRuntime, count: u32, way: Way) -> io::Result<bool> {
 
 // The same in an empty calendar.
 fn measure_in(rt: HostRuntime, calendar: &mut Calendar, count: u32, way: Way) -> io::Result<bool> {
-    let begun = Instant::now(&rt)?;
+    let mut watch = Watch::start(rt);
     let booked = book_all(calendar, count, way);
-    let book = each(begun.elapsed(&rt)?, count);
-    let begun = Instant::now(&rt)?;
+    let book = watch.each(count);
     let found = find_places(calendar);
-    let search = each(begun.elapsed(&rt)?, ASKED);
-    let begun = Instant::now(&rt)?;
+    let search = watch.each(ASKED);
     let fitting = ask_fits(calendar);
-    let fits = each(begun.elapsed(&rt)?, ASKED);
-    let begun = Instant::now(&rt)?;
+    let fits = watch.each(ASKED);
     let gone = cancel_all(calendar, count, way);
-    let cancel = each(begun.elapsed(&rt)?, count);
+    let cancel = watch.each(count);
     let name = way.name();
     println!(rt;
         "calendar, {count} {name}: book {book} ns, earliest {search} ns, fits {fits} ns, cancel {cancel} ns"

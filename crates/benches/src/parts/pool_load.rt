@@ -2,11 +2,10 @@
 ghost use Rattle.std.specs.Prelude.{◌≤◌};
 
 use super::way::Way;
-use crate::rates::each;
+use crate::watch::Watch;
 use drmaa_types::JobId;
 use slot_pool::SlotPool;
 use std::io;
-use std::time::Instant;
 
 /// Lets so many jobs hold a slot of a new pool each, gives all back again, and prints how long each
 /// step took. It answers whether all were held.
@@ -22,13 +21,12 @@ pub fn measure(rt: HostRuntime, count: u32, way: Way) -> io::Result<bool> {
 fn measure_in(rt: HostRuntime, pool: &mut SlotPool, count: u32, way: Way) -> io::Result<bool>
     requires { count ≤ pool.old.spare }
 {
-    let begun = Instant::now(&rt)?;
+    let mut watch = Watch::start(rt);
     let all = take_all(pool, count, way);
-    let take = each(begun.elapsed(&rt)?, count);
+    let take = watch.each(count);
     let used = pool.used();
-    let begun = Instant::now(&rt)?;
     let given = give_all(pool, count, way);
-    let give = each(begun.elapsed(&rt)?, count);
+    let give = watch.each(count);
     let name = way.name();
     println!(rt; "pool, {count} {name}: take {take} ns, give {give} ns")?;
     Ok(all && used == count && given == count)

@@ -2,11 +2,10 @@
 ghost use Rattle.std.specs.Prelude.{◌≡◌, ◌+◌, ◌<◌, ◌≤◌, []};
 
 use super::way::Way;
-use crate::rates::each;
+use crate::watch::Watch;
 use drmaa_types::JobId;
 use run_queue::{QueueItem, RunQueue};
 use std::io;
-use std::time::Instant;
 
 /// How many times the queue is looked through.
 const LOOKS: u32 = 100;
@@ -22,15 +21,13 @@ pub fn measure(rt: HostRuntime, count: u32, way: Way) -> io::Result<bool> {
 fn measure_in(rt: HostRuntime, queue: &mut RunQueue, count: u32, way: Way) -> io::Result<bool>
     requires { queue.old.items ≡ [] }
 {
-    let begun = Instant::now(&rt)?;
+    let mut watch = Watch::start(rt);
     let all = insert_all(queue, count, way);
-    let insert = each(begun.elapsed(&rt)?, count);
-    let begun = Instant::now(&rt)?;
+    let insert = watch.each(count);
     let found = look(queue, count);
-    let look = each(begun.elapsed(&rt)?, LOOKS);
-    let begun = Instant::now(&rt)?;
+    let look = watch.each(LOOKS);
     let removed = remove_all(queue, count, way);
-    let remove = each(begun.elapsed(&rt)?, count);
+    let remove = watch.each(count);
     let name = way.name();
     println!(rt;
         "queue, {count} {name}: insert {insert} ns, remove {remove} ns, look to the half {look} ns"

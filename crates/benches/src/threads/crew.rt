@@ -4,9 +4,10 @@ ghost use Rattle.turn_lock.specs.Tokens.{IsFree};
 
 use super::client::submit;
 use attendant::{Done, Reaper, run_attendant};
-use call_history::{Bell, Config, Desk, SharedMachine};
+use call_history::{Bell, Desk};
 use child_spawner::{LocalChild, LocalSpawner};
-use drmaa_types::{Moment, QueueList, Refusal, StepClock, Text};
+use client_sessions::{open_desk, plain_machine};
+use drmaa_types::{Moment, Refusal, StepClock};
 use std::alloc::Global;
 use std::sync::Wait;
 use std::thread::{Threads, join};
@@ -14,9 +15,6 @@ use std::time::Clock as Pause;
 
 /// How many jobs run at once.
 const SLOTS: u32 = 4;
-
-/// The greatest size of the journal.
-const JOURNAL: u64 = 4_000_000;
 
 /// Launches and reaps until the client is over and all its jobs have ended.
 fn attend<R: Wait + Pause>(
@@ -99,33 +97,11 @@ pub fn run<R: Threads + Wait + Pause + Sync>(
     spawner: LocalSpawner,
     count: usize,
 ) -> Option<Vec<u64>> {
-    let config = Config {
-        slots: SLOTS,
-        name: Text::from_string(String::from_str(alloc, "bench").ok()?),
-        suspend: true,
-        journal: JOURNAL,
-        queues: QueueList::new(alloc),
-    };
-    let (shared, mut opener) = SharedMachine::new(alloc, config).ok()?;
+    let (shared, mut opener) = plain_machine(alloc, SLOTS, "bench").ok()?;
     let bell = Bell::new();
-    let client = Desk {
-        shared: &shared,
-        client: shared.open_client(&mut opener),
-        clock: stopped(),
-        bell: &bell,
-    };
-    let launcher = Desk {
-        shared: &shared,
-        client: shared.open_client(&mut opener),
-        clock: stopped(),
-        bell: &bell,
-    };
-    let reaping = Desk {
-        shared: &shared,
-        client: shared.open_client(&mut opener),
-        clock: stopped(),
-        bell: &bell,
-    };
+    let client = open_desk(&shared, &mut opener, stopped(), &bell);
+    let launcher = open_desk(&shared, &mut opener, stopped(), &bell);
+    let reaping = open_desk(&shared, &mut opener, stopped(), &bell);
     let (attended, spent) = side_by_side(rt, alloc, launcher, reaping, client, spawner, count);
     match attended {
         Ok(()) => spent,
