@@ -4,8 +4,8 @@ use Rattle.turn_lock.specs.Tokens.{BelongsTo, IsFree}
 use Rattle.sharing_tests.proofs.turns.open_all.Given as goal
 
 -- no more passes are open than rounds were made, and each holds no turn
-abbrev pub invariant-loop-_number : goal.invariant-loop-_number
-invariant-loop-_number l = record {
+abbrev pub invariant-loop-number : goal.invariant-loop-number
+invariant-loop-number l = record {
   lock : BelongsTo l.lock l.opener;
   count : length l.opener.view.retired ≡ l._number;
   free : All (IsFree l.lock) l.passes.items;
