@@ -1,5 +1,5 @@
 //! The program `drmaa`: plays scripts of clients, writes the journal of what they were answered or the listing of their jobs,
-//! checks journals, and writes them as version 2.
+//! and checks journals, writes them in other forms, forecasts their starts, and goes on with them by reservations.
 #![tactic(auto)]
 
 use byte_streams::{StdSink, StdSource};

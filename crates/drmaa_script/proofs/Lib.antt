@@ -1,7 +1,5 @@
-pub mod Checked
-pub mod Fronts
+pub mod Asked
 pub mod Kept
-pub mod Migrated
 pub mod Played
 pub mod Ran
 pub mod Somes

@@ -15,13 +15,13 @@ use Rattle.script_text.specs.declared.scripts.Mode.TheVariants as mode
 use Rattle.script_text.specs.declared.scripts.Script.{Script}
 use Rattle.thread_play.specs.Hubs.{HearRun}
 use Rattle.thread_play.specs.Runs.{IsWhole}
-use Rattle.drmaa_script.specs.declared.status.Status.{Status}
-use Rattle.drmaa_script.specs.declared.status.Status.TheVariants.{Done, Text, Words, ReadFault, WriteFault, Memory, JournalFull, NotLegal}
+use Rattle.journal_commands.specs.declared.status.Status.{Status}
+use Rattle.journal_commands.specs.declared.status.Status.TheVariants.{Done, Text, Words, ReadFault, WriteFault, Memory, JournalFull, NotLegal}
 use Rattle.drmaa_script.specs.Outcomes.{IsScriptText}
 use Rattle.drmaa_script.specs.Registers.{registers_of}
 use Rattle.drmaa_script.specs.Running.{IsTextOfRun, RanEnds}
 use Rattle.drmaa_script.specs.Runs.{RunEnds, IsRunEnd, LeavesClocks}
-use Rattle.drmaa_script.specs.Statuses.{IsUnread, ended_as}
+use Rattle.journal_commands.specs.Statuses.{IsUnread, ended_as}
 
 module _ {C : Type 0} (given : C → Option (List ℕ)) (s : Script) (old new : Option (List ℕ)) (asked asked_after : Option (List Asked)) (fate : ℕ → Fate) (clocks : List C) where
   -- the text of a run was written

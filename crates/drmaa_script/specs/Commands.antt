@@ -1,19 +1,26 @@
--- The words of the commands: our profile.
-use Rattle.std.specs.Prelude.{◌≢◌, ℕ, List, [], ◌∷◌, codes}
-use Rattle.drmaa_script.specs.declared.commands.Command.{Command}
-use Rattle.drmaa_script.specs.declared.commands.Command.TheVariants.{Serial, Threads, Table, Check, Migrate}
+-- Which command words ask for: our profile.
+use Rattle.std.specs.Prelude.{ℕ, List}
+use Rattle.command_words.specs.Commands.{AsksFor}
+use Rattle.command_words.specs.declared.commands.Command.{Command}
+use Rattle.command_words.specs.declared.commands.Command.TheVariants.{Serial, Threads, Table, Check, Migrate, Json, Forecast, Recur}
+use Rattle.journal_commands.specs.Recurring.{HasOccurrences}
 
--- a command is one word
-abbrev pub word_of : Command → List ℕ
-word_of Serial = codes "serial"
-word_of Threads = codes "threads"
-word_of Table = codes "table"
-word_of Check = codes "check"
-word_of Migrate = codes "migrate"
+-- there is something to run: of `recur`, occurrences
+abbrev pub CanRun : Command → Type 0
+CanRun Serial = Unit {0}
+CanRun Threads = Unit {0}
+CanRun Table = Unit {0}
+CanRun Check = Unit {0}
+CanRun Migrate = Unit {0}
+CanRun Json = Unit {0}
+CanRun Forecast = Unit {0}
+CanRun (Recur words) = HasOccurrences words
 
-abbrev pub words_of : Command → List (List ℕ)
-words_of command = word_of command ∷ []
+-- the words ask for this command
+pub record Asks (words : List (List ℕ)) (command : Command) : Type 0 where
+  pub words_are : AsksFor words command
+  pub can : CanRun command
 
 -- the words are those of no command
 abbrev pub NamesNone : List (List ℕ) → Type 0
-NamesNone words = (command : Command) → words ≢ words_of command
+NamesNone words = (command : Command) → Asks words command → ⊥

@@ -4,4 +4,3 @@ pub mod Outcomes
 pub mod Registers
 pub mod Running
 pub mod Runs
-pub mod Statuses

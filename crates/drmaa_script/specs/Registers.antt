@@ -6,11 +6,11 @@ use Rattle.script_asks.specs.Plays.{serial_play}
 use Rattle.script_lines.specs.declared.lines.Line.{Line}
 use Rattle.script_text.specs.Follows.{lines_of, is_register}
 use Rattle.script_text.specs.declared.scripts.Script.{Script}
-use Rattle.drmaa_script.specs.declared.commands.Command.{Command}
-use Rattle.drmaa_script.specs.declared.commands.Command.TheVariants.{Serial, Threads, Table, Check, Migrate}
-use Rattle.drmaa_script.specs.declared.status.Status.{Status}
-use Rattle.drmaa_script.specs.declared.status.Status.TheVariants.{Done, Text, Words, ReadFault, WriteFault, Memory, JournalFull, NotLegal}
-use Rattle.drmaa_script.specs.Statuses.{ended_as}
+use Rattle.command_words.specs.declared.commands.Command.{Command}
+use Rattle.command_words.specs.declared.commands.Command.TheVariants.{Serial, Threads, Table, Check, Migrate, Json, Forecast, Recur}
+use Rattle.journal_commands.specs.declared.status.Status.{Status}
+use Rattle.journal_commands.specs.declared.status.Status.TheVariants.{Done, Text, Words, ReadFault, WriteFault, Memory, JournalFull, NotLegal}
+use Rattle.journal_commands.specs.Statuses.{ended_as}
 
 -- How many of these lines are `register` lines. Of those that a play serves, the first 64 alone give a number.
 abbrev pub registers_in : List Line → ℕ
@@ -32,6 +32,9 @@ PlaysAlone Threads = ⊥
 PlaysAlone Table = Unit {0}
 PlaysAlone Check = ⊥
 PlaysAlone Migrate = ⊥
+PlaysAlone Json = ⊥
+PlaysAlone Forecast = ⊥
+PlaysAlone (Recur words) = ⊥
 
 -- the command reads a journal, and so plays nothing that callbacks could hear
 abbrev pub ReadsJournal : Command → Type 0
@@ -40,6 +43,9 @@ ReadsJournal Threads = ⊥
 ReadsJournal Table = ⊥
 ReadsJournal Check = Unit {0}
 ReadsJournal Migrate = Unit {0}
+ReadsJournal Json = Unit {0}
+ReadsJournal Forecast = Unit {0}
+ReadsJournal (Recur words) = Unit {0}
 
 -- a script was played to its end, or to where its journal's size stopped it
 abbrev pub HasPlayed : Status → Type 0

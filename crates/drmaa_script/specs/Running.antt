@@ -7,8 +7,8 @@ use Rattle.child_spawner.specs.declared.fates.Fate.{Fate}
 use Rattle.drmaa_model.specs.declared.entries.Entry.{Entry}
 use Rattle.script_text.specs.declared.scripts.Script.{Script}
 use Rattle.journal_text.specs.Journals.{journal_text}
-use Rattle.drmaa_script.specs.declared.status.Status.{Status}
-use Rattle.drmaa_script.specs.declared.status.Status.TheVariants.{Done, Text, Words, ReadFault, WriteFault, Memory, JournalFull, NotLegal}
+use Rattle.journal_commands.specs.declared.status.Status.{Status}
+use Rattle.journal_commands.specs.declared.status.Status.TheVariants.{Done, Text, Words, ReadFault, WriteFault, Memory, JournalFull, NotLegal}
 use Rattle.drmaa_script.specs.Registers.{registers_of}
 use Rattle.drmaa_script.specs.Runs.{IsRunOf}
 

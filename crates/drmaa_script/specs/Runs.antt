@@ -28,11 +28,11 @@ use Rattle.journal_text.specs.Journals.{journal_text}
 use Rattle.script_play.specs.Callbacks.{HearHistory}
 use Rattle.text_lines.specs.Lines.{IsFirstBad}
 use Rattle.thread_play.specs.Runs.{launcher_of, reaper_of, hub_of, names_given, IsSettledAt, HasRun}
-use Rattle.drmaa_script.specs.declared.status.Status.{Status}
-use Rattle.drmaa_script.specs.declared.status.Status.TheVariants.{Done, Text, Words, ReadFault, WriteFault, Memory, JournalFull, NotLegal}
+use Rattle.journal_commands.specs.declared.status.Status.{Status}
+use Rattle.journal_commands.specs.declared.status.Status.TheVariants.{Done, Text, Words, ReadFault, WriteFault, Memory, JournalFull, NotLegal}
 use Rattle.drmaa_script.specs.Outcomes.{SpellsScript, IsScriptText}
 use Rattle.drmaa_script.specs.Registers.{registers_of}
-use Rattle.drmaa_script.specs.Statuses.{IsRefused}
+use Rattle.journal_commands.specs.Statuses.{IsRefused}
 
 -- Whatever script is read and however its clients, launcher and reaper interleave, the program writes one journal: each client's calls
 -- stand in it once each, in that client's order and after everything that client had seen; replayed on the sequential machine it gives

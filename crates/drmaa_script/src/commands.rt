@@ -1,70 +1,89 @@
 //! The commands of the program.
-ghost use Rattle.std.specs.Prelude.{◌≡◌, ◌≢◌, ◌⊎◌, ℕ, [], length, IfSome, IsTrue, MatchOption, codes};
+ghost use Rattle.std.specs.Prelude.{◌≡◌, ◌≢◌, ◌⊎◌, ℕ, [], true, length, IfOk, IfSome, MatchBool, MatchOption, Ok, None};
+ghost use Rattle.std.specs.List.{list_any};
 ghost use Rattle.std.specs.Io.KnownBytes.{IsAtEnd};
 ghost use Rattle.drmaa_types.specs.Counts.{Rose};
+ghost use Rattle.journal_commands.specs.Texts.{IsReadOut};
 ghost use Rattle.script_asks.specs.Plays.{serial_play};
 ghost use Rattle.script_play.specs.Callbacks.{HearHistory, HearFront};
 ghost use Rattle.script_text.specs.declared.scripts.Mode.TheVariants as mode;
 ghost use Rattle.script_text.specs.declared.scripts.Script.{Script};
-ghost use Rattle.drmaa_script.specs.Commands.{words_of, word_of, NamesNone};
+ghost use Rattle.command_words.specs.Commands.{begins_dash};
+ghost use Rattle.journal_commands.specs.Outcomes.{JournalEnds, JournalIsWhole};
+ghost use Rattle.drmaa_script.specs.Commands.{Asks, CanRun, NamesNone};
 ghost use Rattle.drmaa_script.specs.Endings.{Ends, IsWhole, limit_of, WritesJournal, HandsClocks, Starts};
-ghost use Rattle.drmaa_script.specs.Outcomes.{IsReadOut, IsScriptText, IsWritten};
+ghost use Rattle.drmaa_script.specs.Outcomes.{IsScriptText, IsWritten};
 ghost use Rattle.drmaa_script.specs.Registers.{PlaysAlone, ReadsJournal, HasPlayed, AreKept};
-ghost use Rattle.drmaa_script.specs.Statuses.{IsQuiet, HasRead, HasWritten, IsUnstarted};
+ghost use Rattle.journal_commands.specs.Statuses.{IsQuiet, HasRead, HasWritten, IsUnstarted};
 
-use crate::checks::run_check;
-use crate::migrates::run_migrate;
 use crate::outcomes::{Ended, Outcome, without_clocks};
 use crate::plays::{Output, run_play};
-use crate::status::Status;
 use crate::threads::run_threads;
 use byte_streams::{Sink, Source};
 use call_history::Bell;
 use child_spawner::Spawner;
-use drmaa_types::{Clocks, Text, TextList};
+use command_words::{Command, command_of};
+use drmaa_types::{Clocks, TextList};
+use journal_commands::{
+    Check, Forecast, JournalCommand, Json, Migrate, OfLegal, Recur, Status, has_occurrences,
+    run_journal,
+};
 use notify_hub::{Callback, Callbacks};
-use std::alloc::Global;
+use std::alloc::{AllocError, Global};
 use std::sync::Wait;
 use std::thread::Threads;
 use std::time::Clock as Pause;
 
-/// What the program can be asked to do.
-#[derive(Clone, Copy, Debug, PartialEq, Eq)]
-pub enum Command {
-    /// Plays a script on one thread, and writes the journal.
-    Serial,
-    /// Plays a script in threads, and writes the journal.
-    Threads,
-    /// Plays a script on one thread, and lists all jobs as they are then.
-    Table,
-    /// Reads a journal, and says whether it is legal.
-    Check,
-    /// Reads a journal, and writes it as version 2.
-    Migrate,
-}
-
-/// The command that one word names.
-fn named(word: &Text) -> Option<Command>
-    ensures { MatchOption result ((command : Command) → word.now ≢ word_of command) (λ command. word.now ≡ word_of command) }
+/// The command that the words ask for, if any. Where they ask for reservations that recur, there have to be some.
+fn command_in(alloc: Global, words: &TextList) -> Result<Option<Command>, AllocError>
+    ensures named { IfOk result (λ o. MatchOption o (NamesNone words.now) (Asks words.now)) }
+    ensures dashed { list_any begins_dash words.now ≡ true → result ≡ Ok None }
+    ensures wordless { words.now ≡ [] → result ≡ Ok None }
 {
-    match word.as_str() {
-        "serial" => Some(Command::Serial),
-        "threads" => Some(Command::Threads),
-        "table" => Some(Command::Table),
-        "check" => Some(Command::Check),
-        "migrate" => Some(Command::Migrate),
-        _ => None,
+    let Some(command) = command_of(alloc, words)? else {
+        return Ok(None);
+    };
+    if can_run(alloc, &command)? {
+        Ok(Some(command))
+    } else {
+        Ok(None)
     }
 }
 
-/// The command that the words name.
-fn command_of(words: &TextList) -> Option<Command>
-    ensures { MatchOption result (NamesNone words.now) (λ command. words.now ≡ words_of command) }
+/// Whether a command can be run: one that requests reservations, where there are some to request.
+fn can_run(alloc: Global, command: &Command) -> Result<bool, AllocError>
+    ensures { IfOk result (λ can. MatchBool can (CanRun command.now) (CanRun command.now → ⊥)) }
 {
-    match words.as_slice() {
-        [word] => named(word),
-        _ => None,
+    match command {
+        Command::Recur(words) => has_occurrences(alloc, words),
+        _ => Ok(true),
     }
+}
+
+/// Runs a command on a journal. It has no callers, and callbacks hear nothing of it.
+fn run_deaf<J: JournalCommand, R: Source, W: Sink, C, B: Callback>(
+    alloc: Global,
+    command: J,
+    source: &mut R,
+    sink: &mut W,
+    callbacks: Callbacks<B>,
+) -> Outcome<C, B>
+    ensures ends { IfSome (R.left source.old) (λ bytes. JournalEnds (J.Writes command) (J.Refuses command) bytes result.status (W.written sink.old) (W.written sink.new)) }
+    ensures words { result.status ≢ Status.Words }
+    ensures read_whole { HasRead result.status → IsAtEnd (R.left source.new) }
+    ensures read_out { (line : ℕ) → result.status ≡ Status.Text line → IsReadOut 268_435_456 (R.left source.old) (R.left source.new) }
+    ensures finished { HasWritten result.status → W.finished sink.new }
+    ensures read_fault { result.status ≡ Status.ReadFault → Rose (R.faults source.old) (R.faults source.new) }
+    ensures write_fault { result.status ≡ Status.WriteFault → Rose (W.faults sink.old) (W.faults sink.new) }
+    ensures untouched { IsQuiet result.status → sink.new ≡ sink.old }
+    ensures whole { (Rose (R.faults source.old) (R.faults source.new) → ⊥) → (Rose (W.faults sink.old) (W.faults sink.new) → ⊥)
+        → IfSome (R.left source.old) (λ bytes. JournalIsWhole (J.Decides command) bytes result.status) }
+    ensures clocks { result.clocks ≡ [] }
+    ensures kept { AreKept B.counted B.told callbacks result.callbacks }
+    ensures deaf { result.callbacks ≡ callbacks }
+{
+    let status = run_journal(alloc, command, source, sink);
+    without_clocks(alloc, Ended { status, callbacks })
 }
 
 /// Runs a command on a source and a sink.
@@ -120,29 +139,45 @@ fn run_command<
             alloc,
             run_play(alloc, Output::Listing, source, sink, callbacks),
         ),
-        Command::Check => without_clocks(
+        Command::Check => run_deaf(alloc, OfLegal { command: Check }, source, sink, callbacks),
+        Command::Migrate => run_deaf(alloc, Migrate, source, sink, callbacks),
+        Command::Json => run_deaf(alloc, Json, source, sink, callbacks),
+        Command::Forecast => run_deaf(
             alloc,
-            Ended {
-                status: run_check(alloc, source, sink),
-                callbacks,
-            },
+            OfLegal { command: Forecast },
+            source,
+            sink,
+            callbacks,
         ),
-        Command::Migrate => without_clocks(
+        Command::Recur(words) => run_deaf(
             alloc,
-            Ended {
-                status: run_migrate(alloc, source, sink),
-                callbacks,
+            OfLegal {
+                command: Recur { words },
             },
+            source,
+            sink,
+            callbacks,
         ),
     }
 }
 
-/// Runs the command that the words name. `serial`, `threads` and `table` read a script from the source. `serial` and `table` play it
-/// on one thread: `serial` writes the journal to the sink, `table` the listing of all jobs. `threads` plays it by a thread for each
+/// Nothing was begun, for want of a command or of memory.
+fn unbegun<C, B: Callback>(alloc: Global, status: Status, callbacks: Callbacks<B>) -> Outcome<C, B>
+    ensures status { result.status ≡ status }
+    ensures clocks { result.clocks ≡ [] }
+    ensures kept { AreKept B.counted B.told callbacks result.callbacks }
+    ensures deaf { result.callbacks ≡ callbacks }
+{
+    without_clocks(alloc, Ended { status, callbacks })
+}
+
+/// Runs the command that the words ask for. `serial`, `threads` and `table` read a script from the source. `serial` and `table` play
+/// it on one thread: `serial` writes the journal to the sink, `table` the listing of all jobs. `threads` plays it by a thread for each
 /// client, beside launcher and reaper, who start its jobs by the spawner, at the moments of the callers' clocks, and writes the
-/// journal. Where the play stops for the journal's size, all three write the journal of the entries made. `check` and `migrate` read a
-/// journal of either version: `check` writes how many entries it has, where it is legal, and `migrate` writes it as version 2, legal or
-/// not. With `threads` it may wait for good.
+/// journal. Where the play stops for the journal's size, all three write the journal of the entries made. `check`, `migrate`, `json`,
+/// `forecast` and `recur` read a journal of either version: `check` writes how many entries it has, where it is legal; `migrate`
+/// writes it as version 2 and `json` its JSON form, legal or not; `forecast` writes when the jobs that wait would start, and `recur`
+/// the journal with requests of reservations that recur, where it is legal. With `threads` it may wait for good.
 ///
 /// A callback hears each change of a job's state behind the `register` line that is answered its number: the nth callback behind the
 /// nth such line, for the first 64. A script with more such lines than there are callbacks is not played: the status is Words.
@@ -168,17 +203,20 @@ pub fn run<
     callbacks: Callbacks<B>,
 ) -> Outcome<K::One, B>
     // What each status says of the bytes that were read, and what was written then.
-    ensures ends { (command : Command) → words.now ≡ words_of command
+    ensures ends { (command : Command) → Asks words.now command
         → IfSome (R.left source.old) (λ bytes. Ends B.counted B.told K.One.given command bytes (W.written sink.old) (W.written sink.new)
         (S.asked spawner.old) (S.asked spawner.new) (S.fate spawner.new) result.clocks callbacks result.callbacks result.status) }
     ensures read_whole { HasRead result.status → IsAtEnd (R.left source.new) }
-    ensures read_out { (command : Command) (line : ℕ) → words.now ≡ words_of command → result.status ≡ Status.Text line
+    ensures read_out { (command : Command) (line : ℕ) → Asks words.now command → result.status ≡ Status.Text line
         → IsReadOut (limit_of command) (R.left source.old) (R.left source.new) }
     ensures finished { HasWritten result.status → W.finished sink.new }
     ensures untouched { IsQuiet result.status → sink.new ≡ sink.old }
 
-    // Words that are no command, and then nothing is read; or a script that was read whole.
-    ensures words { NamesNone words.now → result.status ≡ Status.Words }
+    // Words that are no command, and then nothing is read; or a script that was read whole. Whether words are a command may want
+    // memory, but not where one begins with `-`, or where there are none.
+    ensures words { NamesNone words.now → (result.status ≡ Status.Words) ⊎ (result.status ≡ Status.Memory) }
+    ensures dashed { list_any begins_dash words.now ≡ true → result.status ≡ Status.Words }
+    ensures wordless { words.now ≡ [] → result.status ≡ Status.Words }
     ensures unread { NamesNone words.now → source.new ≡ source.old }
     ensures words_read { result.status ≡ Status.Words → NamesNone words.now ⊎ IsAtEnd (R.left source.new) }
 
@@ -187,44 +225,40 @@ pub fn run<
     ensures write_fault { result.status ≡ Status.WriteFault → Rose (W.faults sink.old) (W.faults sink.new) }
 
     // Without a fault the bytes decide, unless memory runs out.
-    ensures whole { (command : Command) → words.now ≡ words_of command
+    ensures whole { (command : Command) → Asks words.now command
         → (Rose (R.faults source.old) (R.faults source.new) → ⊥) → (Rose (W.faults sink.old) (W.faults sink.new) → ⊥)
         → IfSome (R.left source.old) (λ bytes. IsWhole command (length callbacks) bytes result.status) }
 
     // A journal of a play on one thread that is written is legal, and can be read again, as no other.
-    ensures writable { (command : Command) → words.now ≡ words_of command → WritesJournal command result.status
+    ensures writable { (command : Command) → Asks words.now command → WritesJournal command result.status
         → IfSome (R.left source.old) (λ bytes. (script : Script) → IsScriptText mode.Serial bytes script → IsWritten script) }
 
     // Clocks come back from a run of threads that was played, and only such a run asks the spawner: not one whose words, reading or
     // text stopped it. Its fates stay.
-    ensures clocks { ((command : Command) → words.now ≡ words_of command → HandsClocks command result.status → ⊥) → result.clocks ≡ [] }
-    ensures unasked { ((command : Command) → words.now ≡ words_of command → Starts command → ⊥) → spawner.new ≡ spawner.old }
+    ensures clocks { ((command : Command) → Asks words.now command → HandsClocks command result.status → ⊥) → result.clocks ≡ [] }
+    ensures unasked { ((command : Command) → Asks words.now command → Starts command → ⊥) → spawner.new ≡ spawner.old }
     ensures unstarted { IsUnstarted result.status → spawner.new ≡ spawner.old }
     ensures fates { S.fate spawner.new ≡ S.fate spawner.old }
 
     // Each callback heard, of a play on one thread, what its history has for its number, and nothing else; where memory ran out, what a
     // beginning of that history has, the same one for all. Of a run in threads `ends` says what was heard. At each status as
     // many come back, each with more heard or not, and as they were where words, reading or text stopped it.
-    ensures heard { (command : Command) → words.now ≡ words_of command → PlaysAlone command → HasPlayed result.status
+    ensures heard { (command : Command) → Asks words.now command → PlaysAlone command → HasPlayed result.status
         → IfSome (R.left source.old) (λ bytes. (script : Script) → IsScriptText mode.Serial bytes script
         → HearHistory B.counted B.told script.config (serial_play script).entries callbacks result.callbacks) }
-    ensures heard_front { (command : Command) → words.now ≡ words_of command → PlaysAlone command → result.status ≡ Status.Memory
+    ensures heard_front { (command : Command) → Asks words.now command → PlaysAlone command → result.status ≡ Status.Memory
         → IfSome (R.left source.old) (λ bytes. (script : Script) → IsScriptText mode.Serial bytes script
         → HearFront B.counted B.told script.config (serial_play script).entries callbacks result.callbacks) }
     ensures kept { AreKept B.counted B.told callbacks result.callbacks }
     ensures unheard { IsUnstarted result.status → result.callbacks ≡ callbacks }
-    ensures deaf { (command : Command) → words.now ≡ words_of command → ReadsJournal command → result.callbacks ≡ callbacks }
+    ensures unnamed { NamesNone words.now → result.callbacks ≡ callbacks }
+    ensures deaf { (command : Command) → Asks words.now command → ReadsJournal command → result.callbacks ≡ callbacks }
 {
-    match command_of(words) {
-        Some(command) => run_command(
+    match command_in(alloc, words) {
+        Ok(Some(command)) => run_command(
             rt, alloc, command, source, sink, clocks, spawner, bell, callbacks,
         ),
-        None => without_clocks(
-            alloc,
-            Ended {
-                status: Status::Words,
-                callbacks,
-            },
-        ),
+        Ok(None) => unbegun(alloc, Status::Words, callbacks),
+        Err(_) => unbegun(alloc, Status::Memory, callbacks),
     }
 }

@@ -1,7 +1,7 @@
 //! What a run of a command leaves.
 ghost use Rattle.std.specs.Prelude.{◌≡◌, []};
 
-use crate::status::Status;
+use journal_commands::Status;
 use notify_hub::Callbacks;
 use std::alloc::Global;
 use thread_play::ClockList;

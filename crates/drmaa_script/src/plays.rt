@@ -10,17 +10,18 @@ ghost use Rattle.script_asks.specs.Plays.{serial_play};
 ghost use Rattle.script_play.specs.Callbacks.{AreCurrent, HearHistory, HaveFront, HearFront};
 ghost use Rattle.script_text.specs.declared.scripts.Mode.TheVariants as mode;
 ghost use Rattle.script_text.specs.declared.scripts.Script.{Script};
-ghost use Rattle.drmaa_script.specs.Outcomes.{IsSpelled, IsScriptText, IsReadOut, IsWritten, HasJournal, WritesPlay, PlayEnds, PlayIsWhole, PlayedEnds, own_of, journal_of, play_text};
+ghost use Rattle.journal_commands.specs.Texts.{IsReadOut};
+ghost use Rattle.drmaa_script.specs.Outcomes.{IsSpelled, IsScriptText, IsWritten, HasJournal, WritesPlay, PlayEnds, PlayIsWhole, PlayedEnds, own_of, journal_of, play_text};
 ghost use Rattle.drmaa_script.specs.Registers.{registers_of, end_of, HasPlayed, AreKept};
-ghost use Rattle.drmaa_script.specs.Statuses.{IsQuiet, IsUnstarted, HasRead, HasWritten, ended_as};
+ghost use Rattle.journal_commands.specs.Statuses.{IsQuiet, IsUnstarted, HasRead, HasWritten, ended_as};
 
 use crate::inputs::read_script;
 use crate::outcomes::Ended;
 use crate::registers::are_enough;
-use crate::status::Status;
 use byte_streams::{Sink, Source, write_all};
 use drmaa_machine::Machine;
 use drmaa_types::Bytes;
+use journal_commands::{Status, ended_as};
 use journal_text::journal_bytes;
 use monitor_session::listing;
 use notify_hub::{Callback, Callbacks, Ears};
@@ -149,16 +150,6 @@ fn played_text<B: Callback>(
     each_script_can_be_played();
     let played = play(alloc, script, ears)?;
     text_of(alloc, output, script, &played)
-}
-
-/// How a play ends whose text was written.
-pub(crate) fn ended_as(full: Option<u64>) -> Status
-    ensures { result ≡ ended_as full }
-{
-    match full {
-        None => Status::Done,
-        Some(size) => Status::JournalFull { size },
-    }
 }
 
 /// Plays a script, which callbacks hear, and writes what is written of it.

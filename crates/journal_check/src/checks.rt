@@ -7,7 +7,7 @@ ghost use Rattle.drmaa_model.specs.History.{IsLegal};
 ghost use Rattle.drmaa_model.specs.declared.entries.Entry.{Entry};
 ghost use Rattle.drmaa_model.specs.declared.replies.Reply.{Reply};
 ghost use Rattle.journal_check.specs.Faults.{FirstFault};
-ghost use Rattle.journal_check.specs.Verdicts.{Judges};
+ghost use Rattle.journal_check.specs.Verdicts.{Judges, Replays, IsMachine};
 
 use crate::steps::{Finding, replay};
 use drmaa_machine::Machine;
@@ -30,15 +30,31 @@ pub enum Verdict {
     OutOfMemory,
 }
 
+/// What becomes of a replay.
+#[derive(Drop)]
+pub enum Replayed {
+    /// Each entry is a step, which this machine has made.
+    Legal(Machine),
+    /// The first entry that is none, as `Verdict` has it.
+    NotLegal {
+        entry: u64,
+        given: Reply,
+        machine: Option<Reply>,
+    },
+    /// Memory ran out.
+    OutOfMemory,
+}
+
 /// Replays entries one after another by a machine that has served nothing.
-fn replayed(mut machine: Machine, entries: Vec<Entry>) -> Verdict
-    requires fresh { machine.ledger.history ≡ [] }
+fn replay_all(machine: &mut Machine, entries: Vec<Entry>) -> Verdict
+    requires fresh { machine.old.ledger.history ≡ [] }
     requires kept { AllByRecursion (λ (e : Entry). kept e.call ≡ e.call) entries.items }
-    ensures { Judges machine.ledger.config entries.items result }
+    ensures judges { Judges machine.old.ledger.config entries.items result }
+    ensures served { result ≡ Verdict.Legal → machine.new.ledger ≡ record { config = machine.old.ledger.config; history = entries.items } }
 {
     for entry in entries {
         let number = machine.entries().len() as u64 + 1;
-        match replay(&mut machine, entry) {
+        match replay(machine, entry) {
             Finding::Step => {}
             Finding::Fault { given, machine } => {
                 return Verdict::NotLegal {
@@ -53,8 +69,42 @@ fn replayed(mut machine: Machine, entries: Vec<Entry>) -> Verdict
     Verdict::Legal
 }
 
-/// Whether these entries are the history of a machine of this configuration: each the step that its machine makes, with the
-/// machine's reply. Each call is its own kept call, as it is in every journal that was read.
+/// The machine of this configuration whose history these entries are: each the step that it makes, with its reply. Each call is its
+/// own kept call, as it is in every journal that was read.
+///
+/// Want of memory says nothing of the entries.
+pub fn replay_history(alloc: Global, config: Config, entries: EntryList) -> Replayed
+    requires least_slots { 1 ≤ config.slots }
+    requires most_slots { config.slots ≤ 65_535 }
+    requires least_journal { 1 ≤ config.journal }
+    requires most_journal { config.journal ≤ 4_000_000 }
+    requires queues { are_queues config.slots config.queues ≡ true }
+    requires kept { AllByRecursion (λ (e : Entry). kept e.call ≡ e.call) entries }
+    ensures replays { Replays config entries result }
+    // exactly where
+    ensures only_legal { IsLegal config entries → IsMachine result ⊎ (result ≡ Replayed.OutOfMemory) }
+    ensures only_fault { (number : ℕ) (given : Reply) (machine : Option Reply)
+        → FirstFault config entries number given machine → (result ≡ Replayed.NotLegal number given machine) ⊎ (result ≡ Replayed.OutOfMemory) }
+{
+    let Ok(mut machine) = Machine::new(alloc, config) else {
+        return Replayed::OutOfMemory;
+    };
+    match replay_all(&mut machine, entries.into_vec()) {
+        Verdict::Legal => Replayed::Legal(machine),
+        Verdict::NotLegal {
+            entry,
+            given,
+            machine,
+        } => Replayed::NotLegal {
+            entry,
+            given,
+            machine,
+        },
+        Verdict::OutOfMemory => Replayed::OutOfMemory,
+    }
+}
+
+/// Whether these entries are the history of a machine of this configuration: the verdict that a replay of them comes to.
 ///
 /// Want of memory is a verdict of its own, and says nothing of the entries.
 pub fn check(alloc: Global, config: Config, entries: EntryList) -> Verdict
@@ -72,8 +122,17 @@ pub fn check(alloc: Global, config: Config, entries: EntryList) -> Verdict
     ensures only_fault { (number : ℕ) (given : Reply) (machine : Option Reply)
         → FirstFault config entries number given machine → (result ≡ Verdict.NotLegal number given machine) ⊎ (result ≡ Verdict.OutOfMemory) }
 {
-    match Machine::new(alloc, config) {
-        Ok(machine) => replayed(machine, entries.into_vec()),
-        Err(_) => Verdict::OutOfMemory,
+    match replay_history(alloc, config, entries) {
+        Replayed::Legal(_) => Verdict::Legal,
+        Replayed::NotLegal {
+            entry,
+            given,
+            machine,
+        } => Verdict::NotLegal {
+            entry,
+            given,
+            machine,
+        },
+        Replayed::OutOfMemory => Verdict::OutOfMemory,
     }
 }

@@ -10,5 +10,5 @@ mod same;
 mod steps;
 mod values;
 
-pub use checks::{Verdict, check};
+pub use checks::{Replayed, Verdict, check, replay_history};
 pub use laws::{a_fault_is_not_legal, one_first_fault};

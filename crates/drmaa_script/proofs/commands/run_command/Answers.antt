@@ -1,15 +1,14 @@
 use Rattle.std.proofs.Common.{List, length, sym, subst, ◌∙◌}
 use Rattle.std.specs.Prelude.{IfSome}
-use Rattle.drmaa_script.specs.declared.commands.Command.{Command}
-use Rattle.drmaa_script.specs.declared.status.Status.{Status}
+use Rattle.command_words.specs.declared.commands.Command.{Command}
+use Rattle.journal_commands.specs.declared.status.Status.{Status}
 use Rattle.script_asks.specs.Plays.{serial_play}
 use Rattle.script_play.specs.Callbacks.{HearHistory, HearFront}
 use Rattle.script_text.specs.declared.scripts.Mode.TheVariants as mode
 use Rattle.script_text.specs.declared.scripts.Script.{Script}
-use Rattle.drmaa_script.specs.Outcomes.{PlayIsWhole, CheckIsWhole, MigrateIsWhole, IsScriptText}
-use Rattle.drmaa_script.specs.Registers.{HasPlayed, AreKept}
+use Rattle.drmaa_script.specs.Outcomes.{PlayIsWhole, IsScriptText}
+use Rattle.drmaa_script.specs.Registers.{HasPlayed}
 use Rattle.drmaa_script.specs.Endings.{IsWhole}
-use Rattle.drmaa_script.proofs.Kept.{kept_same}
 use Rattle.drmaa_script.proofs.commands.run_command.Goals as goal
 
 pub returns-in-Serial-clause-whole : goal.returns-in-Serial-clause-whole
@@ -28,13 +27,23 @@ returns-in-Table-clause-whole g c = λ calm quiet.
 
 pub returns-in-Check-clause-whole : goal.returns-in-Check-clause-whole
 returns-in-Check-clause-whole g c = λ calm quiet.
-    subst (λ (k : Command). IfSome (g.R.Source.left c.args.source.now) (λ bytes. IsWhole k (length c.args.callbacks) bytes c.without_clocks-in-Check.result.status)) (sym c.in-Check.is)
-    (subst (λ (s : Status). IfSome (g.R.Source.left c.args.source.now) (λ bytes. CheckIsWhole bytes s)) (sym c.without_clocks-in-Check.ensures.status) (c.run_check.ensures.whole calm quiet))
+    subst (λ (k : Command). IfSome (g.R.Source.left c.args.source.now) (λ bytes. IsWhole k (length c.args.callbacks) bytes c.run_deaf.result.status)) (sym c.in-Check.is) (c.run_deaf.ensures.whole calm quiet)
 
 pub returns-in-Migrate-clause-whole : goal.returns-in-Migrate-clause-whole
 returns-in-Migrate-clause-whole g c = λ calm quiet.
-    subst (λ (k : Command). IfSome (g.R.Source.left c.args.source.now) (λ bytes. IsWhole k (length c.args.callbacks) bytes c.without_clocks-in-Migrate.result.status)) (sym c.in-Migrate.is)
-    (subst (λ (s : Status). IfSome (g.R.Source.left c.args.source.now) (λ bytes. MigrateIsWhole bytes s)) (sym c.without_clocks-in-Migrate.ensures.status) (c.run_migrate.ensures.whole calm quiet))
+    subst (λ (k : Command). IfSome (g.R.Source.left c.args.source.now) (λ bytes. IsWhole k (length c.args.callbacks) bytes c.run_deaf-in-Migrate.result.status)) (sym c.in-Migrate.is) (c.run_deaf-in-Migrate.ensures.whole calm quiet)
+
+pub returns-in-Json-clause-whole : goal.returns-in-Json-clause-whole
+returns-in-Json-clause-whole g c = λ calm quiet.
+    subst (λ (k : Command). IfSome (g.R.Source.left c.args.source.now) (λ bytes. IsWhole k (length c.args.callbacks) bytes c.run_deaf-in-Json.result.status)) (sym c.in-Json.is) (c.run_deaf-in-Json.ensures.whole calm quiet)
+
+pub returns-in-Forecast-clause-whole : goal.returns-in-Forecast-clause-whole
+returns-in-Forecast-clause-whole g c = λ calm quiet.
+    subst (λ (k : Command). IfSome (g.R.Source.left c.args.source.now) (λ bytes. IsWhole k (length c.args.callbacks) bytes c.run_deaf-in-Forecast.result.status)) (sym c.in-Forecast.is) (c.run_deaf-in-Forecast.ensures.whole calm quiet)
+
+pub returns-in-Recur-clause-whole : goal.returns-in-Recur-clause-whole
+returns-in-Recur-clause-whole g c = λ calm quiet.
+    subst (λ (k : Command). IfSome (g.R.Source.left c.args.source.now) (λ bytes. IsWhole k (length c.args.callbacks) bytes c.run_deaf-in-Recur.result.status)) (sym c.in-Recur.is) (c.run_deaf-in-Recur.ensures.whole calm quiet)
 
 pub returns-in-Table-clause-heard : goal.returns-in-Table-clause-heard
 returns-in-Table-clause-heard g c = λ alone played.
@@ -47,11 +56,3 @@ returns-in-Table-clause-heard_front g c = λ alone want.
     subst (λ (bs : List g.row.B.Denot). IfSome (g.R.Source.left c.args.source.now) (λ bytes. (script : Script) → IsScriptText mode.Serial bytes script
     → HearFront g.B.Callback.counted g.B.Callback.told script.config (serial_play script).entries c.args.callbacks bs)) (sym c.without_clocks-in-Table.ensures.callbacks)
     (c.run_play-in-Table.ensures.heard_front (sym c.without_clocks-in-Table.ensures.status ∙ want))
-
-pub returns-in-Check-clause-kept : goal.returns-in-Check-clause-kept
-returns-in-Check-clause-kept g c =
-    subst (λ (bs : List g.row.B.Denot). AreKept g.B.Callback.counted g.B.Callback.told c.args.callbacks bs) (sym c.without_clocks-in-Check.ensures.callbacks) (kept_same g.B.Callback.counted g.B.Callback.told c.args.callbacks)
-
-pub returns-in-Migrate-clause-kept : goal.returns-in-Migrate-clause-kept
-returns-in-Migrate-clause-kept g c =
-    subst (λ (bs : List g.row.B.Denot). AreKept g.B.Callback.counted g.B.Callback.told c.args.callbacks bs) (sym c.without_clocks-in-Migrate.ensures.callbacks) (kept_same g.B.Callback.counted g.B.Callback.told c.args.callbacks)

@@ -2,7 +2,7 @@ use Rattle.std.proofs.Common.{◌≡◌, List, ℕ, Bool, ◌≤◌, length, sym
 use Rattle.std.proofs.lemmas.Option.{IfSome_then}
 use Rattle.byte_streams.specs.Streams.{ReadsUpTo}
 use Rattle.text_lines.specs.Lines.{IsFront, whole_lines, kept}
-use Rattle.drmaa_script.proofs.Fronts.{front_of, own_front, read_as, short_as, refused_at, read_out}
+use Rattle.journal_commands.specs.FrontLaws.{front_of, own_front, read_as, short_as, refused_at, read_out}
 use Rattle.drmaa_script.proofs.inputs.read_script.Goals as goal
 
 front : (bytes read all : List ℕ) (whole : Bool) → read ≡ bytes → ReadsUpTo 16_777_216 all bytes whole → IsFront 16_777_216 all read whole

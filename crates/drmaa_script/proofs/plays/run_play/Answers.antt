@@ -5,12 +5,13 @@ use Rattle.script_play.specs.Callbacks.{HearHistory, HearFront}
 use Rattle.script_text.specs.declared.scripts.Mode.TheVariants as mode
 use Rattle.script_text.specs.declared.scripts.Script.{Script}
 use Rattle.text_lines.specs.Lines.{IsFirstBad}
-use Rattle.drmaa_script.specs.declared.status.Status.{Status}
-use Rattle.drmaa_script.specs.declared.status.Status.TheVariants.{Text, ReadFault, Memory}
+use Rattle.journal_commands.specs.declared.status.Status.{Status}
+use Rattle.journal_commands.specs.declared.status.Status.TheVariants.{Text, ReadFault, Memory}
 use Rattle.drmaa_script.specs.Outcomes.{SpellsScript, IsScriptText, IsWritten, PlayIsWhole, own_of}
 use Rattle.drmaa_script.specs.Registers.{end_of}
 use Rattle.drmaa_script.proofs.Kept.{kept_same, same_front}
-use Rattle.drmaa_script.proofs.Played.{played_ends, read_no_fault, unread_ends, unread_words, unread_reads, unread_written, unread_writes, unread_play, unread_refused, unread_played}
+use Rattle.journal_commands.specs.StatusLaws.{unread_words, unread_reads, unread_written, unread_writes, unread_refused}
+use Rattle.drmaa_script.proofs.Played.{played_ends, read_no_fault, unread_ends, unread_play, unread_played}
 use Rattle.drmaa_script.proofs.Somes.{some_both, some_all}
 use Rattle.drmaa_script.proofs.plays.run_play.Goals as goal
 

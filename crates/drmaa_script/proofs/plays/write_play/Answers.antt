@@ -3,9 +3,10 @@ use Rattle.std.specs.Io.KnownBytes.{Appends}
 use Rattle.byte_streams.specs.Streams.{AppendsFront}
 use Rattle.script_asks.specs.Plays.{serial_play}
 use Rattle.drmaa_script.specs.Outcomes.{PlayedEnds, WritesPlay, own_of}
-use Rattle.drmaa_script.specs.Statuses.{IsQuiet, IsUnstarted}
-use Rattle.drmaa_script.specs.declared.status.Status.{Status}
-use Rattle.drmaa_script.proofs.Played.{writes_has, ended_loud, ended_begun, ended_no_fault, wrote_play, full_is, ended_remembers}
+use Rattle.journal_commands.specs.Statuses.{IsQuiet, IsUnstarted}
+use Rattle.journal_commands.specs.declared.status.Status.{Status}
+use Rattle.journal_commands.specs.StatusLaws.{ended_loud, ended_begun, ended_no_fault, ended_remembers}
+use Rattle.drmaa_script.proofs.Played.{writes_has, wrote_play, full_is}
 use Rattle.drmaa_script.proofs.plays.write_play.Goals as goal
 
 -- the text was written

@@ -1,4 +1,4 @@
-use Rattle.std.proofs.Common.{◌≡◌, sym, ap, ◌∙◌}
+use Rattle.std.proofs.Common.{◌∙◌}
 use Rattle.thread_play.specs.Hubs.{HearRun}
 use Rattle.drmaa_script.proofs.Texts.{printed_run}
 use Rattle.drmaa_script.proofs.Somes.{ok_of}

@@ -3,13 +3,13 @@ use Rattle.std.proofs.lemmas.Option.{IfSome_then}
 use Rattle.script_text.specs.declared.scripts.Mode.TheVariants as mode
 use Rattle.script_text.specs.declared.scripts.Script.{Script}
 use Rattle.text_lines.specs.Lines.{IsFirstBad}
-use Rattle.drmaa_script.specs.declared.status.Status.{Status}
-use Rattle.drmaa_script.specs.declared.status.Status.TheVariants.{Text, Words, ReadFault, Memory}
+use Rattle.journal_commands.specs.declared.status.Status.{Status}
+use Rattle.journal_commands.specs.declared.status.Status.TheVariants.{Text, Words, ReadFault, Memory}
 use Rattle.drmaa_script.specs.Outcomes.{SpellsScript, IsScriptText}
-use Rattle.drmaa_script.specs.Runs.{RunEnds, RunIsWhole, IsRunEnd}
+use Rattle.drmaa_script.specs.Runs.{RunIsWhole, IsRunEnd}
 use Rattle.drmaa_script.specs.Registers.{registers_of}
 use Rattle.drmaa_script.proofs.Kept.{kept_same}
-use Rattle.drmaa_script.proofs.Played.{unread_words, unread_reads, unread_written, unread_writes, unread_refused}
+use Rattle.journal_commands.specs.StatusLaws.{unread_words, unread_reads, unread_written, unread_writes, unread_refused}
 use Rattle.drmaa_script.proofs.Ran.{unread_run, ran_ends, ran_no_fault}
 use Rattle.drmaa_script.proofs.Somes.{some_both, some_all}
 use Rattle.drmaa_script.proofs.threads.run_threads.Goals as goal

@@ -1,10 +1,10 @@
-use Rattle.std.proofs.Common.{length, refl, sym, subst, ◌∙◌}
-use Rattle.drmaa_script.specs.declared.status.Status.{Status}
+use Rattle.std.proofs.Common.{length, sym, subst, ◌∙◌}
+use Rattle.journal_commands.specs.declared.status.Status.{Status}
 use Rattle.thread_play.specs.Hubs.{HearRun}
 use Rattle.drmaa_script.specs.Running.{IsTextOfRun, RanEnds}
 use Rattle.drmaa_script.specs.Runs.{IsRunEnd, LeavesClocks}
-use Rattle.drmaa_script.specs.Statuses.{IsQuiet, IsUnstarted, HasWritten}
-use Rattle.drmaa_script.proofs.Played.{ended_loud, ended_begun, ended_no_fault}
+use Rattle.journal_commands.specs.Statuses.{IsQuiet, IsUnstarted}
+use Rattle.journal_commands.specs.StatusLaws.{ended_loud, ended_begun, ended_no_fault}
 use Rattle.drmaa_script.proofs.Ran.{ran_written, ran_front, ended_run, ended_clocks}
 use Rattle.drmaa_script.proofs.threads.write_run.Goals as goal
 

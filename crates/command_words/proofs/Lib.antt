@@ -1,0 +1,5 @@
+mod Entering
+mod Subcommands
+mod Walks
+mod Dashes
+mod Readings

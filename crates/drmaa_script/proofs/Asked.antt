@@ -1,0 +1,53 @@
+-- Words ask for one command; and how a command ends for which memory ran out before anything was read.
+use Rattle.std.proofs.Common.{◌≡◌, ℕ, Bool, false, List, Option, Some, None, inl, inr, refl, sym, subst}
+use Rattle.std.specs.Prelude.{IfSome, MatchBool, MatchOption}
+use Rattle.command_words.specs.Commands.{AsksFor}
+use Rattle.command_words.specs.CommandLaws.{one_command}
+use Rattle.command_words.specs.declared.commands.Command.{Command}
+use Rattle.command_words.specs.declared.commands.Command.TheVariants.{Serial, Threads, Table, Check, Migrate, Json, Forecast, Recur}
+use Rattle.drmaa_types.specs.declared.changes.Notification.{Notification}
+use Rattle.journal_commands.specs.declared.status.Status.{Status}
+use Rattle.journal_commands.specs.declared.status.Status.TheVariants.{Memory}
+use Rattle.script_asks.specs.Plays.{serial_play}
+use Rattle.script_play.specs.Callbacks.{HearFront}
+use Rattle.script_text.specs.declared.scripts.Mode.TheVariants as mode
+use Rattle.script_text.specs.declared.scripts.Script.{Script}
+use Rattle.drmaa_script.specs.Commands.{Asks, CanRun, NamesNone}
+use Rattle.drmaa_script.specs.Endings.{IsWhole}
+use Rattle.drmaa_script.specs.Outcomes.{IsScriptText}
+use Rattle.drmaa_script.proofs.Kept.{same_front}
+
+-- the command that was found is any that the words ask for
+pub the_command : (words : List (List ℕ)) (found command : Command) → Asks words found → Asks words command → found ≡ command
+the_command words found command a b = one_command words found command a.words_are b.words_are
+
+-- the command that was found
+pub found_is : (o : Option Command) (command : Command) (None_is : Type 0) (P : Command → Type 0) → o ≡ Some command → MatchOption o None_is P → P command
+found_is o command None_is P is m = subst (λ (p : Option Command). MatchOption p None_is P) is m
+
+-- what a false answer says
+pub cannot_be : (b : Bool) (P : Type 0) → b ≡ false → MatchBool b P (P → ⊥) → P → ⊥
+cannot_be b P is m = subst (λ (c : Bool). MatchBool c P (P → ⊥)) is m
+
+-- where the one that they spell can't be run they ask for none
+pub none_asked : (words : List (List ℕ)) (found : Command) → AsksFor words found → (CanRun found → ⊥) → NamesNone words
+none_asked words found spelled cannot = λ command asks. cannot (subst CanRun (one_command words command found asks.words_are spelled) asks.can)
+
+memory_whole : (command : Command) (callbacks : ℕ) (bytes : List ℕ) → IsWhole command callbacks bytes Memory
+memory_whole Serial callbacks bytes = record { script = λ s t. inr refl; other = λ none. tt }
+memory_whole Threads callbacks bytes = record { script = λ s t enough. tt; few = λ s t few. inr refl; other = λ none. tt }
+memory_whole Table callbacks bytes = record { script = λ s t. inr refl; other = λ none. tt }
+memory_whole Check callbacks bytes = record { journal = λ j t. inl refl; other = λ none. tt }
+memory_whole Migrate callbacks bytes = record { journal = λ j t. inl refl; other = λ none. tt }
+memory_whole Json callbacks bytes = record { journal = λ j t. inl refl; other = λ none. tt }
+memory_whole Forecast callbacks bytes = record { journal = λ j t. inl refl; other = λ none. tt }
+memory_whole (Recur words) callbacks bytes = record { journal = λ j t. inl refl; other = λ none. tt }
+
+pub short_whole : (left : Option (List ℕ)) (command : Command) (callbacks : ℕ) (status : Status) → status ≡ Memory → IfSome left (λ (bytes : List ℕ). IsWhole command callbacks bytes status)
+short_whole None command callbacks status is = tt
+short_whole (Some bytes) command callbacks status is = subst (λ (s : Status). IsWhole command callbacks bytes s) (sym is) (memory_whole command callbacks bytes)
+
+pub short_front : {B : Type 0} (counted : B → ℕ) (told : B → Option (List Notification)) (left : Option (List ℕ)) (callbacks after : List B) → after ≡ callbacks
+    → IfSome left (λ (bytes : List ℕ). (script : Script) → IsScriptText mode.Serial bytes script → HearFront counted told script.config (serial_play script).entries callbacks after)
+short_front counted told None callbacks after same = tt
+short_front counted told (Some bytes) callbacks after same = λ script t. same_front counted told script.config (serial_play script).entries callbacks after same

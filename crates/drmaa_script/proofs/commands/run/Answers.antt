@@ -1,0 +1,27 @@
+use Rattle.std.proofs.Common.{length, subst}
+use Rattle.std.specs.Prelude.{IfSome}
+use Rattle.command_words.specs.declared.commands.Command.{Command}
+use Rattle.drmaa_script.specs.Commands.{Asks, NamesNone}
+use Rattle.drmaa_script.specs.Endings.{Ends, IsWhole}
+use Rattle.drmaa_script.proofs.Asked.{the_command, found_is, short_whole, short_front}
+use Rattle.drmaa_script.proofs.commands.run.Goals as goal
+
+pub returns-in-Ok-Some-clause-ends : goal.returns-in-Ok-Some-clause-ends
+returns-in-Ok-Some-clause-ends g c = λ command asks.
+    let found : Asks c.args.words.now c.in-Ok-Some.command = found_is c.in-Ok-Some.field-0 c.in-Ok-Some.command (NamesNone c.args.words.now) (Asks c.args.words.now) c.in-Ok-Some.field-0-is c.in-Ok-Some.ensures.named in
+    subst (λ (k : Command). IfSome (g.R.Source.left c.args.source.now) (λ bytes. Ends g.B.Callback.counted g.B.Callback.told g.K.One.Clock.given k bytes
+    (g.W.Sink.written c.args.sink.now) (g.W.Sink.written c.run_command.new.sink) (g.S.Spawner.asked c.args.spawner.now) (g.S.Spawner.asked c.run_command.new.spawner) (g.S.Spawner.fate c.run_command.new.spawner)
+    c.run_command.result.clocks c.args.callbacks c.run_command.result.callbacks c.run_command.result.status)) (the_command c.args.words.now c.in-Ok-Some.command command found asks) c.run_command.ensures.ends
+
+pub returns-in-Ok-Some-clause-whole : goal.returns-in-Ok-Some-clause-whole
+returns-in-Ok-Some-clause-whole g c = λ command asks calm quiet.
+    let found : Asks c.args.words.now c.in-Ok-Some.command = found_is c.in-Ok-Some.field-0 c.in-Ok-Some.command (NamesNone c.args.words.now) (Asks c.args.words.now) c.in-Ok-Some.field-0-is c.in-Ok-Some.ensures.named in
+    subst (λ (k : Command). IfSome (g.R.Source.left c.args.source.now) (λ bytes. IsWhole k (length c.args.callbacks) bytes c.run_command.result.status))
+    (the_command c.args.words.now c.in-Ok-Some.command command found asks) (c.run_command.ensures.whole calm quiet)
+
+pub returns-in-Err-clause-whole : goal.returns-in-Err-clause-whole
+returns-in-Err-clause-whole g c = λ command asks calm quiet. short_whole (g.R.Source.left c.args.source.now) command _ c.unbegun-in-Err.result.status c.unbegun-in-Err.ensures.status
+
+pub returns-in-Err-clause-heard_front : goal.returns-in-Err-clause-heard_front
+returns-in-Err-clause-heard_front g c = λ command asks alone short.
+    short_front g.B.Callback.counted g.B.Callback.told (g.R.Source.left c.args.source.now) c.args.callbacks c.unbegun-in-Err.result.callbacks c.unbegun-in-Err.ensures.deaf

@@ -1,0 +1,28 @@
+use Rattle.std.proofs.Common.{arith, sym, ◌∙◌}
+use Rattle.forecast.specs.RunLaws.{begin, ends-over, number-low, number-small}
+use Rattle.forecast.proofs.ends.end_asked.Goals as goal
+
+pub jobs-init : goal.jobs-init
+jobs-init c = record { ends = λ first told fresh. begin c.args.at first c.args.machine.now.ledger told fresh }
+
+pub jobs-preserved : goal.jobs-preserved
+jobs-preserved c = record { ends = λ first told fresh. c.end_one.ensures.ends first told (c.jobs.invariant.ends first told fresh) }
+
+pub jobs-smaller : goal.jobs-smaller
+jobs-smaller c =
+    let e = c.entries-entries.ensures in
+    let low = number-low c.args.at c.jobs.from.0 c.jobs.machine.ledger c.in-Some.found e.legal (sym c.in-Some.is ∙ c.started.ensures) in
+    let small = number-small c.args.at c.jobs.from.0 c.jobs.machine.ledger c.in-Some.found e.legal e.few (sym c.in-Some.is ∙ c.started.ensures) in
+    omega (arith, low, small)
+
+pub overflow_add-next : goal.overflow_add-next
+overflow_add-next c =
+    let e = c.entries-entries.ensures in
+    let small = number-small c.args.at c.jobs.from.0 c.jobs.machine.ledger c.in-Some.found e.legal e.few (sym c.in-Some.is ∙ c.started.ensures) in
+    omega (arith, small)
+
+pub returns : goal.returns
+returns c = record {
+  ends = λ first told fresh.
+      ends-over c.args.at c.jobs.from.0 first c.jobs.machine.ledger told (c.jobs.invariant.ends first told fresh) (sym c.in_default.is ∙ c.started.ensures);
+}

@@ -1,0 +1,2 @@
+mod Foretelling
+mod Worlds

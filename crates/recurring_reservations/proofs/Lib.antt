@@ -1,0 +1,7 @@
+mod Beyond
+mod DenialLaws
+mod Found
+mod HoldLaws
+mod RequestLaws
+mod Spans
+mod Told
