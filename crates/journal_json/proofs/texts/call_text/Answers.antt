@@ -10,7 +10,7 @@ use Rattle.journal_json.proofs.texts.call_text.Goals as goal
 pub unreachable-requires : goal.unreachable-requires
 unreachable-requires c =
     let form = call_form any_template any_frame (kept c.args.call.now) in
-    let printed : c.push_call.new.out.items ≡ form.text = c.in_ok-push_call.ensures.text ∙ ap (λ t. t ++ form.text) c.new-out.ensures.items in
+    let printed : c.push_call.new.out.items ≡ form.text = c.in_ok-push_call.ensures.text ∙ ap (λ t. t ++ form.text) c.in_ok-out.ensures.items in
     let utf8 = subst IsUtf8 (sym printed) (call_clean (kept c.args.call.now) c.in_ok-push_call.ensures.valid).utf8 in
     let contradiction = c.in_default.ensures.succeeds utf8 in
     cc
@@ -19,4 +19,4 @@ pub returns : goal.returns
 unfolding calls calls_with sum_of
 returns c =
     let form = call_form any_template any_frame (kept c.args.call.now) in
-    ap (λ v. v.items) c.in-Ok.ensures.ok ∙ (c.in_ok-push_call.ensures.text ∙ ap (λ t. t ++ form.text) c.new-out.ensures.items) ∙ same_text (kept c.args.call.now)
+    ap (λ v. v.items) c.in-Ok.ensures.ok ∙ (c.in_ok-push_call.ensures.text ∙ ap (λ t. t ++ form.text) c.in_ok-out.ensures.items) ∙ same_text (kept c.args.call.now)
