@@ -1,3 +1,4 @@
 pub mod Loops
+pub mod MemberSteps
 pub mod RowSteps
 pub mod Tellings

@@ -63,14 +63,7 @@ impl Store {
         requires { IsKept self.now }
         ensures { result ≡ list_any (is_member array) (filter (λ (row : Row). is_same_home home row.home) (rows_at at self.now.core.plan)) }
     {
-        let mut from = 0;
-        while let Some(facts) = self.next_facts(at, from) {
-            if is_same_home(home, facts.home) && is_member(array, facts.array) {
-                return true;
-            }
-            from = facts.job.0 + 1;
-        }
-        false
+        self.core.has_member(home, array)
     }
 }
 

@@ -1,5 +1,6 @@
 pub mod AfterLaws
 pub mod FactSteps
+pub mod FirstRows
 pub mod LaunchSteps
 pub mod PhaseSteps
 pub mod Priorities

@@ -1,10 +1,13 @@
 -- What is told of a kept job, and which job comes next: our profile.
-use Rattle.std.specs.Prelude.{ℕ, Bool, false, max, nat_le, List, filter, find, sum_by, Option}
+use Rattle.std.specs.Prelude.{ℕ, Bool, false, ◌&&◌, max, nat_le, List, filter, find, sum_by, Option}
 use Rattle.std.specs.Option.{option_map, option_map_or}
+use Rattle.drmaa_types.specs.declared.identifiers.ArrayId.{ArrayId}
 use Rattle.drmaa_types.specs.declared.identifiers.JobId.{JobId}
 use Rattle.drmaa_model.specs.declared.courses.Phase.{Phase}
 use Rattle.drmaa_model.specs.declared.courses.Phase.TheVariants.{Idle, Launching, Alive}
 use Rattle.drmaa_model.specs.declared.rows.Row.{Row}
+use Rattle.drmaa_model.specs.Homes.{is_same_home}
+use Rattle.drmaa_model.specs.Load.{is_member}
 use Rattle.drmaa_model.specs.Plan.{Plan}
 use Rattle.drmaa_model.specs.Rows.{row_of}
 use Rattle.drmaa_model.specs.Time.{lasts, lapses}
@@ -39,6 +42,10 @@ row_facts row = record {
 -- the first kept job whose number is at this one or above it; the jobs stand in order of number
 abbrev pub job_from : ℕ → Plan → Option JobId
 job_from number p = option_map (λ (row : Row). row.job) (find (λ (row : Row). nat_le number row.job.0) p.rows)
+
+-- the job is a member of the array, and belongs to this home
+abbrev pub is_own_member : Option ℕ → ArrayId → Row → Bool
+is_own_member home array row = is_same_home home row.home && is_member array row
 
 -- time would end the job, which waits, when it comes to this moment
 abbrev pub lapses_at : ℕ → JobId → Plan → Bool

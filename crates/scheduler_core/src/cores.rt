@@ -1,5 +1,6 @@
 //! The core of the scheduler, as the machine sees it.
 ghost use Rattle.std.specs.Prelude.{◌≡◌, ◌≢◌, ◌+◌, ◌*◌, ◌≤◌, ◌<◌, IfOk, IfErr, OnOk, OnErr, Ok, Err, IsSome, None, Some, true, false};
+ghost use Rattle.std.specs.List.{list_any};
 ghost use Rattle.std.specs.Option.{option_map, option_and_then, option_copied};
 ghost use Rattle.drmaa_types.specs.Queues.{are_queues};
 ghost use Rattle.drmaa_types.specs.Refusals.{first_refusal};
@@ -23,7 +24,7 @@ ghost use Rattle.plan_book.specs.Sweeps.{acted, growth, is_asking};
 ghost use Rattle.job_control.specs.Targets.{is_one_quiet};
 ghost use Rattle.job_submission.specs.Early.{asked, early_tests};
 ghost use Rattle.reservation_requests.specs.Reservations.{reservation_from};
-ghost use Rattle.scheduler_core.specs.Facts.{row_facts, job_from, lapses_at, reports_to_come};
+ghost use Rattle.scheduler_core.specs.Facts.{row_facts, job_from, is_own_member, lapses_at, reports_to_come};
 
 use crate::facts::{self, RowFacts};
 use crate::ready::is_settled;
@@ -31,7 +32,7 @@ use crate::rows::reports_to_come;
 use crate::{events, launches, reports, running};
 use drmaa_model::{Accepted, Indices, Launch, Report, Signal, Started, Submitted, Target};
 use drmaa_types::{
-    Change, Control, JobId, Moment, QueueList, Refusal, ReservationId, Reserved, Text,
+    ArrayId, Change, Control, JobId, Moment, QueueList, Refusal, ReservationId, Reserved, Text,
 };
 use job_template::{JobTemplate, ReservationTemplate};
 use plan_book::Book;
@@ -409,6 +410,13 @@ impl Core {
         ensures { result ≡ option_map row_facts (row_of job self.now.plan.rows) }
     {
         facts::present_facts(&self.book, job)
+    }
+
+    /// Whether a member of an array is kept that belongs to this home. Time makes no difference to it.
+    pub fn has_member(&self, home: Option<u64>, array: ArrayId) -> bool
+        ensures { result ≡ list_any (is_own_member home array) self.now.plan.rows }
+    {
+        facts::has_member(&self.book, home, array)
     }
 
     /// The number of the first job in the list of kept jobs, which stand in order of number, that is this one or above it.

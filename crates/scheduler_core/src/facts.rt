@@ -1,11 +1,12 @@
 //! What is told of a kept job.
 ghost use Rattle.std.specs.Prelude.{◌≡◌, ◌&&◌};
+ghost use Rattle.std.specs.List.{list_any};
 ghost use Rattle.std.specs.Option.{option_map};
 ghost use Rattle.drmaa_types.specs.States.{is_waiting, is_state};
 ghost use Rattle.drmaa_model.specs.Rows.{row_of};
 ghost use Rattle.drmaa_model.specs.Time.{rows_at};
 ghost use Rattle.plan_book.specs.Book.{plan_of, IsKept};
-ghost use Rattle.scheduler_core.specs.Facts.{row_facts, job_from, lapses_at};
+ghost use Rattle.scheduler_core.specs.Facts.{row_facts, job_from, is_own_member, lapses_at};
 
 use drmaa_model::{Course, Kill, Phase, Row};
 use drmaa_types::{ArrayId, End, Exit, JobId, JobState, Moment, Note, ReservationId};
@@ -105,13 +106,38 @@ pub fn present_facts(book: &Book, job: JobId) -> Option<RowFacts>
     }
 }
 
-/// The first kept job whose number is this one or above it.
+/// The first kept job whose number is this one or above it. It is found by halves.
 pub fn job_from(book: &Book, number: u64) -> Option<JobId>
+    requires kept { IsKept book.now }
     ensures { result ≡ job_from number (plan_of book.now) }
 {
-    match book.rows().iter().find(|row| number <= row.job.0) {
+    let rows = book.rows();
+    let first = rows.partition_point(|row| row.job.0 < number);
+    match rows.get(first) {
         Some(row) => Some(row.job),
         None => None,
+    }
+}
+
+/// Whether a member of an array is kept that belongs to this home. It goes over all jobs once.
+pub fn has_member(book: &Book, home: Option<u64>, array: ArrayId) -> bool
+    ensures { result ≡ list_any (is_own_member home array) (plan_of book.now).rows }
+{
+    book.rows()
+        .iter()
+        .any(|row| is_own_member(row, home, array))
+}
+
+/// Whether a job is a member of an array, and belongs to this home.
+fn is_own_member(row: &Row, home: Option<u64>, array: ArrayId) -> bool
+    ensures { result ≡ is_own_member home array row.now }
+{
+    let (Some(home), Some(own)) = (home, row.home) else {
+        return false;
+    };
+    match row.wants.array {
+        Some(member) => home == own && member.0 == array.0,
+        None => false,
     }
 }
 
