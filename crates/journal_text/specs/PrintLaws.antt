@@ -25,7 +25,7 @@ use Rattle.journal_text.specs.Journals.{suspend_text, header, title, title_of, i
 use Rattle.journal_text.specs.Printing.{any_entry, IsRanged, MayStand, IsPrintable}
 
 -- a call is spelled alike whatever attributes its template has
-same_text : (c : Call) → (call_form any_template any_frame c).text ≡ (call_form template frame c).text
+pub same_text : (c : Call) → (call_form any_template any_frame c).text ≡ (call_form template frame c).text
 unfolding template frame checked running bulk requested pair
 same_text (call.CreateJobSession name) = refl
 same_text (call.CreateReservationSession name) = refl

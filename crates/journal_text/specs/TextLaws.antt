@@ -61,7 +61,7 @@ requested_laws : IsFormat (requested any_frame)
 unfolding requested
 requested_laws = pair_laws session_id any_frame session_id_laws any_frame_laws
 
-call_clean : (c : Call) → (call_form any_template any_frame c).valid → IsClean (call_form any_template any_frame c).text
+pub call_clean : (c : Call) → (call_form any_template any_frame c).valid → IsClean (call_form any_template any_frame c).text
 unfolding calls calls_with sum_of
 call_clean (call.RunJob session t) v = (keyed_stands call_word CALL_WORDS (call_arms any_template any_frame) barred word.Run (running any_template) (λ p. call.RunJob p.0 p.1) running_laws (session, t) refl refl (λ bs. refl)).clean v
 call_clean (call.RunBulk session t listed) v = (keyed_stands call_word CALL_WORDS (call_arms any_template any_frame) barred word.Bulk (bulk any_template) (λ p. call.RunBulk p.0 p.1.0 p.1.1) bulk_laws (session, (t, listed)) refl refl (λ bs. refl)).clean v
@@ -81,7 +81,7 @@ refused_clean (refusal.OutOfResource (limit.Journal size)) v = plain_clean (code
 refused_clean (refusal.OutOfResource full) v = replies_laws.clean (reply.Refused (refusal.OutOfResource full)) (v refl)
 refused_clean why v = replies_laws.clean (reply.Refused why) (v refl)
 
-reply_clean : (r : Reply) → (may_answer r ≡ true → (reply_form r).valid) → IsClean (reply_form r).text
+pub reply_clean : (r : Reply) → (may_answer r ≡ true → (reply_form r).valid) → IsClean (reply_form r).text
 unfolding replies reply_sum sum_of
 reply_clean (reply.Refused why) v = refused_clean why v
 reply_clean r v = replies_laws.clean r (v refl)

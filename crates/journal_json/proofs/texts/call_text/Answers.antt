@@ -3,8 +3,8 @@ use Rattle.drmaa_model.specs.KeptCalls.{kept}
 use Rattle.text_codec.specs.Sums.{sum_of}
 use Rattle.text_forms.specs.Templates.{any_template, any_frame}
 use Rattle.journal_forms.specs.Calls.{call_form, calls, calls_with}
-use Rattle.journal_json.proofs.SpellingLaws.{same_text}
-use Rattle.journal_json.proofs.SpellingLaws.{call_clean}
+use Rattle.journal_text.specs.PrintLaws.{same_text}
+use Rattle.journal_text.specs.TextLaws.{call_clean}
 use Rattle.journal_json.proofs.texts.call_text.Goals as goal
 
 pub unreachable-requires : goal.unreachable-requires

@@ -1,6 +1,6 @@
 use Rattle.std.proofs.Common.{◌≡◌, ◌++◌, ◌∙◌, ap, sym, subst, IsUtf8}
 use Rattle.journal_forms.specs.Replies.{reply_form, reply_sum, replies}
-use Rattle.journal_json.proofs.SpellingLaws.{reply_clean}
+use Rattle.journal_text.specs.TextLaws.{reply_clean}
 use Rattle.text_codec.specs.Sums.{sum_of}
 use Rattle.journal_json.proofs.texts.reply_text.Goals as goal
 
