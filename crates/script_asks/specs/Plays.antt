@@ -205,13 +205,24 @@ abbrev pub play_clients : Script → List (List ℕ × Given) → ℕ → Playin
 play_clients s names number p [] = p
 play_clients s names number p (b ∷ bs) = play_clients s names (number + 1) (play_lines s (crew_of (length s.clients) number) (record p { names = names }) b) bs
 
+-- a play that has not begun, in this world, at its moment
+abbrev pub opening_in : World → Playing
+opening_in w = record { world = w; moment = w.plan.moment; names = []; entries = []; full = None }
+
+-- the setup block's play from a world, by caller 0
+abbrev pub after_setup_from : World → Script → Playing
+after_setup_from w s = play_lines s (crew_of (length s.clients) 0) (opening_in w) (lines_of s.setup)
+
+-- The play of a script from a world: setup block and clients in their order; the entries that it adds, and the size that stopped it.
+abbrev pub serial_play_from : World → Script → Playing
+serial_play_from w s = play_clients s (after_setup_from w s).names 1 (after_setup_from w s) s.clients
+
+-- the same from the opening world of the script's machine
 abbrev pub opening : Script → Playing
-opening s = record { world = opening_world s.config; moment = 0; names = []; entries = []; full = None }
+opening s = opening_in (opening_world s.config)
 
--- the setup block's play, by caller 0
 abbrev pub after_setup : Script → Playing
-after_setup s = play_lines s (crew_of (length s.clients) 0) (opening s) (lines_of s.setup)
+after_setup s = after_setup_from (opening_world s.config) s
 
--- The play of a script: setup block and clients in their order, in one world; its entries, and the size that stopped it.
 abbrev pub serial_play : Script → Playing
-serial_play s = play_clients s (after_setup s).names 1 (after_setup s) s.clients
+serial_play s = serial_play_from (opening_world s.config) s

@@ -13,7 +13,7 @@ use Rattle.drmaa_model.specs.KeptCalls.{kept}
 use Rattle.drmaa_model.specs.RowLaws.{all-push}
 use Rattle.drmaa_model.specs.Size.{size}
 use Rattle.drmaa_model.specs.Steps.{answer}
-use Rattle.drmaa_model.specs.World.{World}
+use Rattle.drmaa_model.specs.World.{World, opening_world}
 use Rattle.text_codec.specs.Formats.{choose, checked}
 use Rattle.journal_forms.specs.Calls.{has_others}
 use Rattle.journal_text.specs.Journals.{is_machine, machine_of}
@@ -26,7 +26,7 @@ use Rattle.script_text.specs.Header.{header, config_of}
 use Rattle.script_text.specs.Scripts.{Part, After, Makes, begun, Spells}
 use Rattle.script_text.specs.Scripts.Part.{Job, Reservation, Lines}
 use Rattle.script_asks.specs.declared.given.Given.{Given}
-use Rattle.script_asks.specs.Plays.{Playing, Crew, Turn, crew_of, turn_of, entered, after_answer, after_look, come_later, second_look, asks_now, play_turn, play_line, play_lines, play_clients, opening, after_setup, serial_play}
+use Rattle.script_asks.specs.Plays.{Playing, Crew, Turn, crew_of, turn_of, entered, after_answer, after_look, come_later, second_look, asks_now, play_turn, play_line, play_lines, play_clients, opening_in, after_setup_from, serial_play_from, serial_play}
 use Rattle.script_asks.specs.Plays.Turn.{sets, waits, a_client, the_launcher, the_reaper}
 use Rattle.script_asks.specs.Replies.{names_after, last_attempt}
 use Rattle.script_journals.specs.AnsweredLaws.{answer-stands}
@@ -105,11 +105,12 @@ clients-stand s names number p (b ∷ bs) has all =
     clients-stand s names (number + 1) (play_lines s (crew_of (length s.clients) number) (record p { names = names }) b) bs has
     (lines-stand s (crew_of (length s.clients) number) (record p { names = names }) b has all)
 
-play-stands : (s : Script) → HasOthers s → AllByRecursion MayStand (serial_play s).entries
+-- The entries of a play, from whatever world, may stand in a journal.
+pub play_from-stands : (w : World) (s : Script) → HasOthers s → AllByRecursion MayStand (serial_play_from w s).entries
 unfolding AllStand
-play-stands s has =
-    clients-stand s (after_setup s).names 1 (after_setup s) s.clients has
-    (lines-stand s (crew_of (length s.clients) 0) (opening s) (lines_of s.setup) has tt)
+play_from-stands w s has =
+    clients-stand s (after_setup_from w s).names 1 (after_setup_from w s) s.clients has
+    (lines-stand s (crew_of (length s.clients) 0) (opening_in w) (lines_of s.setup) has tt)
 
 -- ---- the machine of a script
 
@@ -147,4 +148,4 @@ spelled-others mode lines s is = makes-others mode (begun is.machine is.queues) 
 
 -- The journal of the play of a script that lines spell may be printed, and read again.
 pub play-printable : (mode : Mode) (lines : List (List ℕ)) (s : Script) → Spells mode lines s → IsPrintable s.config (serial_play s).entries
-play-printable mode lines s is = spelled-printable mode lines s (serial_play s).entries is (play-stands s (spelled-others mode lines s is))
+play-printable mode lines s is = spelled-printable mode lines s (serial_play s).entries is (play_from-stands (opening_world s.config) s (spelled-others mode lines s is))

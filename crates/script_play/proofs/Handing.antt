@@ -1,5 +1,5 @@
 -- What a line leaves for the callbacks: at most one entry more, and the changes behind those that were handed over.
-use Rattle.std.proofs.Common.{◌≡◌, ℕ, ◌+◌, ◌-◌, ◌<◌, ◌≤◌, zero, suc, nat_le, true, false, ◌⊎◌, inl, inr, List, [], ◌∷◌, ◌++◌, take, drop, length, slice_get, slice_set, Option, Some, None, refl, sym, ap, ◌∙◌, subst, arith}
+use Rattle.std.proofs.Common.{◌≡◌, ℕ, ◌+◌, ◌-◌, ◌<◌, ◌≤◌, zero, suc, nat_le, true, false, ◌⊎◌, inl, inr, List, [], ◌∷◌, ◌++◌, take, drop, length, slice_get, slice_set, Option, Some, None, refl, sym, ap, ◌∙◌, subst, append_assoc, arith}
 use Rattle.std.proofs.Common.{get_or}
 use Rattle.std.specs.Prelude.{if◌then◌else◌}
 use Rattle.std.proofs.lemmas.List.{take_all, take-append-le, length-append}
@@ -10,9 +10,7 @@ use Rattle.drmaa_model.specs.declared.calls.Call.{Call}
 use Rattle.drmaa_model.specs.declared.configs.Config.{Config}
 use Rattle.drmaa_model.specs.declared.entries.Entry.{Entry}
 use Rattle.drmaa_model.specs.declared.replies.Reply.{Reply}
-use Rattle.drmaa_model.specs.declared.replies.Reply.TheVariants as reply
 use Rattle.drmaa_model.specs.Effects.{StepAnswer, gives, nothing, not_yet}
-use Rattle.drmaa_model.specs.Heard.{registers}
 use Rattle.drmaa_model.specs.History.{IsLegal, Ledger, now_of, replay}
 use Rattle.drmaa_model.specs.HistoryLaws.{legal-last, legal-prefix}
 use Rattle.drmaa_model.specs.KeptCalls.{kept}
@@ -21,17 +19,19 @@ use Rattle.drmaa_model.specs.StepLaws.{legal-consistent, step-edges}
 use Rattle.drmaa_model.specs.Steps.{answer}
 use Rattle.drmaa_model.specs.World.{World}
 use Rattle.notify_hub.specs.Ears.{Listening, HaveHeard, place_at, silent}
-use Rattle.notify_hub.specs.PlacedLaws.{IsPlacedNow, placed-first, placed-same, placed-new}
-use Rattle.notify_hub.specs.Places.{ArePlaced}
+use Rattle.notify_hub.specs.PlacedLaws as hub_places
+use Rattle.notify_hub.specs.Places.{registrations_of}
 use Rattle.text_codec.specs.Formats.{choose}
 use Rattle.script_lines.specs.declared.lines.Line.{Line}
 use Rattle.script_text.specs.declared.scripts.Script.{Script}
 use Rattle.script_asks.specs.Plays as plays
 use Rattle.script_asks.specs.Replies.{names_after}
 use Rattle.script_asks.specs.Plays.{Playing, Turn, sets, waits, a_client, the_launcher, the_reaper, entered, after_answer, after_look, come_later, second_look, asks_now, play_turn, play_line, turn_of}
-use Rattle.script_play.specs.Callbacks.{number_in, number_of, AreCurrent, GoesOn, AreBehind}
+use Rattle.script_play.specs.Callbacks.{number_in, number_of, AreCurrent, ArePlacedAfter, AreCurrentAfter, GoesOn, AreBehind}
 use Rattle.script_play.specs.Looks.{GoesTo}
-use Rattle.script_play.specs.View.{View, IsNoted, playing}
+use Rattle.script_play.specs.View.{Start, View, AreNotes, IsNoted, added_to, playing, start_of}
+use Rattle.script_play.proofs.Places.{IsPlacedNow, no-fewer, placed-first, placed-new, placed-same}
+use Rattle.script_play.proofs.Registrations.{number-none, number-some}
 
 -- ---- one line makes at most one entry
 
@@ -80,57 +80,27 @@ line-grows s crew p l =
       | Some n ↦ inl refl
     ]
 
--- a line that was played
-pub goes-on : (s : Script) (crew : plays.Crew) (old new : View) (l : Line) → GoesTo old (play_line s crew (playing old) l) new → GoesOn old.ledger new.ledger
+-- with what stands before it, too
+behind-grows : (first before after : List Entry) → Grows before after → Grows (first ++ before) (first ++ after)
 unfolding Grows
-goes-on s crew old new l goes = record {
-  config = goes.config;
-  more = subst (λ (p : Playing). Grows old.ledger.history p.entries) (sym goes.played) (line-grows s crew (playing old) l);
-}
+behind-grows first before after (inl same) = inl (ap (λ (es : List Entry). first ++ es) same)
+behind-grows first before after (inr (e, is)) = inr (e, ap (λ (es : List Entry). first ++ es) is ∙ sym (append_assoc first before (e ∷ [])))
 
--- ---- what a reply registers
+-- a line that was played
+pub goes-on : (s : Script) (crew : plays.Crew) (old new : View) (l : Line) → IsNoted old → GoesTo old (play_line s crew (playing old) l) new → GoesOn old.ledger new.ledger
+unfolding Grows
+goes-on s crew old new l noted goes =
+    let first : List Entry = old.start.entries in
+    let before : List Entry = added_to old.start old.ledger.history in
+    let after : List Entry = added_to new.start new.ledger.history in
+    let now : new.ledger.history ≡ first ++ after = goes.noted.whole ∙ ap (λ (st : Start). st.entries ++ after) goes.start in
+    let grown : Grows before after = subst (λ (p : Playing). Grows before p.entries) (sym goes.played) (line-grows s crew (playing old) l) in
+    record {
+      config = goes.config;
+      more = subst (λ (es : List Entry). Grows es new.ledger.history) (sym noted.whole) (subst (Grows (first ++ before)) (sym now) (behind-grows first before after grown));
+    }
 
-number-none : (r : Reply) → number_in r ≡ None → (n : ℕ) → registers n r ≡ false
-number-none (reply.Callback number) is n = absurd (cc)
-number-none reply.Unit is n = refl
-number-none (reply.Session session) is n = refl
-number-none (reply.Names names) is n = refl
-number-none (reply.Job job) is n = refl
-number-none (reply.Array array first count) is n = refl
-number-none (reply.Jobs jobs) is n = refl
-number-none (reply.State state) is n = refl
-number-none (reply.Info info) is n = refl
-number-none (reply.Reached job) is n = refl
-number-none (reply.Reserved reserved) is n = refl
-number-none (reply.Reservation info) is n = refl
-number-none (reply.Reservations numbers) is n = refl
-number-none (reply.Infos infos) is n = refl
-number-none (reply.ReservationInfos infos) is n = refl
-number-none (reply.Machine info) is n = refl
-number-none (reply.Launch launch) is n = refl
-number-none (reply.Signal signal) is n = refl
-number-none (reply.Refused why) is n = refl
-
-number-some : (r : Reply) (m : ℕ) → number_in r ≡ Some m → r ≡ reply.Callback m
-number-some (reply.Callback number) m is = (let same : number ≡ m = cc in ap reply.Callback same)
-number-some reply.Unit m is = absurd (cc)
-number-some (reply.Session session) m is = absurd (cc)
-number-some (reply.Names names) m is = absurd (cc)
-number-some (reply.Job job) m is = absurd (cc)
-number-some (reply.Array array first count) m is = absurd (cc)
-number-some (reply.Jobs jobs) m is = absurd (cc)
-number-some (reply.State state) m is = absurd (cc)
-number-some (reply.Info info) m is = absurd (cc)
-number-some (reply.Reached job) m is = absurd (cc)
-number-some (reply.Reserved reserved) m is = absurd (cc)
-number-some (reply.Reservation info) m is = absurd (cc)
-number-some (reply.Reservations numbers) m is = absurd (cc)
-number-some (reply.Infos infos) m is = absurd (cc)
-number-some (reply.ReservationInfos infos) m is = absurd (cc)
-number-some (reply.Machine info) m is = absurd (cc)
-number-some (reply.Launch launch) m is = absurd (cc)
-number-some (reply.Signal signal) m is = absurd (cc)
-number-some (reply.Refused why) m is = absurd (cc)
+-- ---- entries
 
 -- the entry behind a list, and none behind its end
 get-last : (xs : List Entry) (e : Entry) → slice_get (xs ++ e ∷ []) (length xs) ≡ Some e
@@ -143,21 +113,23 @@ get-past (x ∷ xs) = get-past xs
 
 -- ---- the places
 
-placed-none : (config : Config) (before after : List Entry) (places : List (Option ℕ)) → Grows before after → number_of (slice_get after (length before)) ≡ None → ArePlaced config before places → ArePlaced config after places
+placed-none : (earlier : ℕ) (config : Config) (before after : List Entry) (places : List (Option ℕ)) → Grows before after → number_of (slice_get after (length before)) ≡ None → ArePlacedAfter earlier config before places
+    → ArePlacedAfter earlier config after places
 unfolding Grows
-placed-none config before after places (inl same) none p = subst (λ (h : List Entry). ArePlaced config h places) (sym same) p
-placed-none config before after places (inr (e, is)) none p =
+placed-none earlier config before after places (inl same) none p = subst (λ (h : List Entry). ArePlacedAfter earlier config h places) (sym same) p
+placed-none earlier config before after places (inr (e, is)) none p =
     let none_in : number_in e.reply ≡ None = sym (ap number_of (ap (λ (h : List Entry). slice_get h (length before)) is ∙ get-last before e)) ∙ none in
-    subst (λ (h : List Entry). ArePlaced config h places) (sym is) (placed-same config before places e (number-none e.reply none_in) p)
+    subst (λ (h : List Entry). ArePlacedAfter earlier config h places) (sym is) (placed-same earlier config before places e (number-none e.reply none_in) p)
 
-placed-some : (config : Config) (before after : List Entry) (places : List (Option ℕ)) (m : ℕ) → IsLegal config after → Grows before after → number_of (slice_get after (length before)) ≡ Some m → ArePlaced config before places
-    → IsPlacedNow config after places m
+placed-some : (earlier : ℕ) (config : Config) (before after : List Entry) (places : List (Option ℕ)) (m : ℕ) → IsLegal config after → Grows before after → number_of (slice_get after (length before)) ≡ Some m
+    → earlier ≤ registrations_of config before → ArePlacedAfter earlier config before places → IsPlacedNow earlier config after places m
 unfolding Grows
-placed-some config before after places m legal (inl same) some p =
+placed-some earlier config before after places m legal (inl same) some registered p =
     absurd (let none : number_of (slice_get after (length before)) ≡ None = ap number_of (ap (λ (h : List Entry). slice_get h (length before)) same ∙ get-past before) in cc)
-placed-some config before after places m legal (inr (e, is)) some p =
+placed-some earlier config before after places m legal (inr (e, is)) some registered p =
     let some_in : number_in e.reply ≡ Some m = sym (ap number_of (ap (λ (h : List Entry). slice_get h (length before)) is ∙ get-last before e)) ∙ some in
-    subst (λ (h : List Entry). IsPlacedNow config h places m) (sym is) (placed-new config before places e m (subst (IsLegal config) is legal) (number-some e.reply m some_in) p)
+    subst (λ (h : List Entry). IsPlacedNow earlier config h places m) (sym is)
+    (placed-new earlier config before places e m (subst (IsLegal config) is legal) (number-some e.reply m some_in) registered p)
 
 -- ---- the changes
 
@@ -184,19 +156,22 @@ are-first config before after legal (inr (e, is)) =
 -- ---- all of a line
 
 -- a number that its last entry registers has the place behind all changes, which are no fewer than those that were handed over
-pub record IsRegistered {B : Type 0} (now : Ledger) (ears : Listening B) (m : ℕ) : Type 0 where
+pub record IsRegistered {B : Type 0} (earlier : ℕ) (now : Ledger) (ears : Listening B) (m : ℕ) : Type 0 where
   pub least : 1 ≤ m
   pub most : m ≤ 64
   pub free : place_at ears.places (m - 1) ≡ None
   pub ahead : length ears.handed ≤ length (now_of now).plan.changes
-  pub places_are : ArePlaced now.config now.history (slice_set ears.places (m - 1) (Some (length (now_of now).plan.changes)))
+  pub places_are : ArePlacedAfter earlier now.config now.history (slice_set ears.places (m - 1) (Some (length (now_of now).plan.changes)))
 
-module _ {B : Type 0} (counted : B → ℕ) (told : B → Option (List Notification)) (entries changes : ℕ) (now : Ledger) (ears : Listening B) (behind : AreBehind counted told entries changes now ears) where
-  current : AreCurrent counted told (record { config = now.config; history = behind.before.history }) ears
-  current = subst (λ (c : Config). AreCurrent counted told (record { config = c; history = behind.before.history }) ears) (sym behind.goes.config) behind.current
+module _ {B : Type 0} (counted : B → ℕ) (told : B → Option (List Notification)) (earlier entries changes : ℕ) (now : Ledger) (ears : Listening B) (behind : AreBehind counted told earlier entries changes now ears) where
+  current : AreCurrentAfter counted told earlier (record { config = now.config; history = behind.before.history }) ears
+  current = subst (λ (c : Config). AreCurrentAfter counted told earlier (record { config = c; history = behind.before.history }) ears) (sym behind.goes.config) behind.current
 
   count : changes ≡ length (replay now.config behind.before.history).plan.changes
   count = behind.changes_are ∙ ap (λ (c : Config). length (replay c behind.before.history).plan.changes) (sym behind.goes.config)
+
+  registered : earlier ≤ registrations_of now.config behind.before.history
+  registered = subst (λ (c : Config). earlier ≤ registrations_of c behind.before.history) (sym behind.goes.config) behind.registered
 
   pub handed-first : IsLegal now.config now.history → ears.handed ≡ take changes (now_of now).plan.changes
   unfolding Grows
@@ -207,15 +182,15 @@ module _ {B : Type 0} (counted : B → ℕ) (told : B → Option (List Notificat
   pub handed-count : length ears.handed ≡ changes
   handed-count = ap length current.handed ∙ sym count
 
-  pub nothing-registered : number_of (slice_get now.history entries) ≡ None → ArePlaced now.config now.history ears.places
+  pub nothing-registered : number_of (slice_get now.history entries) ≡ None → ArePlacedAfter earlier now.config now.history ears.places
   unfolding Grows
   nothing-registered none =
-      placed-none now.config behind.before.history now.history ears.places behind.goes.more (subst (λ (n : ℕ). number_of (slice_get now.history n) ≡ None) behind.entries_are none) current.places
+      placed-none earlier now.config behind.before.history now.history ears.places behind.goes.more (subst (λ (n : ℕ). number_of (slice_get now.history n) ≡ None) behind.entries_are none) current.places
 
-  pub registered-now : (m : ℕ) → IsLegal now.config now.history → number_of (slice_get now.history entries) ≡ Some m → IsRegistered now ears m
+  pub registered-now : (m : ℕ) → IsLegal now.config now.history → number_of (slice_get now.history entries) ≡ Some m → IsRegistered earlier now ears m
   unfolding Grows
   registered-now m legal some =
-      let now_placed = placed-some now.config behind.before.history now.history ears.places m legal behind.goes.more (subst (λ (n : ℕ). number_of (slice_get now.history n) ≡ Some m) behind.entries_are some) current.places in
+      let now_placed = placed-some earlier now.config behind.before.history now.history ears.places m legal behind.goes.more (subst (λ (n : ℕ). number_of (slice_get now.history n) ≡ Some m) behind.entries_are some) registered current.places in
       record {
         least = now_placed.least;
         most = now_placed.most;
@@ -224,9 +199,28 @@ module _ {B : Type 0} (counted : B → ℕ) (told : B → Option (List Notificat
         places_are = now_placed.places_are;
       }
 
--- before the first line
+-- so many callbacks that there were before the play are registered in each world of it
+pub registered-before : (ledger : Ledger) (start : Start) (attempts : List (ℕ × ℕ)) → IsLegal ledger.config ledger.history → AreNotes ledger start attempts → start.callbacks ≤ registrations_of ledger.config ledger.history
+registered-before ledger start attempts legal noted =
+    let added : List Entry = added_to start ledger.history in
+    let fewer = no-fewer ledger.config start.entries added (subst (IsLegal ledger.config) noted.whole legal) in
+    subst (λ (n : ℕ). n ≤ registrations_of ledger.config ledger.history) (sym noted.callbacks)
+    (subst (λ (es : List Entry). registrations_of ledger.config start.entries ≤ registrations_of ledger.config es) (sym noted.whole) fewer)
+
+-- before the first line, where the machine has served nothing
 pub current-first : {B : Type 0} (counted : B → ℕ) (told : B → Option (List Notification)) (config : Config) (callbacks : List B) → HaveHeard counted told (silent callbacks) → AreCurrent counted told (record { config = config; history = [] }) (silent callbacks)
-current-first counted told config callbacks heard = record { places = placed-first config; handed = refl; heard = heard }
+current-first counted told config callbacks heard = record { places = hub_places.placed-first config; handed = refl; heard = heard }
+
+-- and where it has, and its changes were passed over
+pub passed-over : {B : Type 0} (counted : B → ℕ) (told : B → Option (List Notification)) (ledger : Ledger) (start : Start) (old new : Listening B) → IsLegal ledger.config ledger.history → start ≡ start_of ledger → old ≡ silent old.begun
+    → new ≡ record old { callbacks = new.callbacks; handed = (now_of ledger).plan.changes } → HaveHeard counted told new → AreCurrentAfter counted told start.callbacks ledger new
+passed-over {B = B} counted told ledger start old new legal is silently passed heard = record {
+  places = subst (λ (st : Start). ArePlacedAfter st.callbacks ledger.config ledger.history new.places) (sym is)
+      (subst (ArePlacedAfter (registrations_of ledger.config ledger.history) ledger.config ledger.history)
+      (sym (ap (λ (e : Listening B). e.places) passed ∙ ap (λ (e : Listening B). e.places) silently)) (placed-first ledger.config ledger.history legal));
+  handed = ap (λ (e : Listening B). e.handed) passed;
+  heard = heard;
+}
 
 -- ---- batches
 
@@ -256,14 +250,16 @@ drop-line (x ∷ xs) (suc i) d within is =
 pub record LeadsOn (s : Script) (crew : plays.Crew) (first new : View) (ls : List Line) (i : ℕ) : Type 0 where
   pub played : plays.play_lines s crew (playing new) (drop (i + 1) ls) ≡ plays.play_lines s crew (playing first) ls
   pub config : new.ledger.config ≡ first.ledger.config
+  pub start : new.start ≡ first.start
   pub noted : IsNoted new
 
 pub leads-on : (s : Script) (crew : plays.Crew) (first old new : View) (ls : List Line) (i : ℕ) (l : Line) → i < length ls → l ≡ get_or ls i l
-    → plays.play_lines s crew (playing old) (drop i ls) ≡ plays.play_lines s crew (playing first) ls → old.ledger.config ≡ first.ledger.config → GoesTo old (play_line s crew (playing old) l) new
+    → plays.play_lines s crew (playing old) (drop i ls) ≡ plays.play_lines s crew (playing first) ls → old.ledger.config ≡ first.ledger.config → old.start ≡ first.start → GoesTo old (play_line s crew (playing old) l) new
     → LeadsOn s crew first new ls i
-leads-on s crew first old new ls i l within is before config goes = record {
+leads-on s crew first old new ls i l within is before config start goes = record {
   played = ap (λ (p : Playing). plays.play_lines s crew p (drop (i + 1) ls)) goes.played
       ∙ (sym (ap (plays.play_lines s crew (playing old)) (drop-line ls i l within is)) ∙ before);
   config = goes.config ∙ config;
+  start = goes.start ∙ start;
   noted = goes.noted;
 }

@@ -2,6 +2,8 @@ pub mod Copies
 pub mod Fronts
 pub mod Handing
 pub mod Looking
+pub mod Places
+pub mod Registrations
 pub mod Turns
 pub mod Waits
 pub mod Spelled

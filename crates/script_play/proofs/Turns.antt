@@ -23,6 +23,7 @@ pub stopped : (s : Script) (crew : plays.Crew) (v : View) (l : Line) → is_some
 stopped s crew v l h noted = record {
   played = sym (there v.full (playing v) (plays.play_turn s crew (playing v) l (plays.turn_of l)) h);
   config = refl;
+  start = refl;
   noted = noted;
 }
 
@@ -39,5 +40,6 @@ pub set_to : (s : Script) (crew : plays.Crew) (v w : View) (l : Line) (told : Tu
 set_to s crew v w l told moment h meant is same noted = record {
   played = ap (λ (u : View). playing u) same ∙ turned s crew (playing v) l told (turn.Sets moment) h meant is;
   config = ap (λ (u : View). u.ledger.config) same;
+  start = ap (λ (u : View). u.start) same;
   noted = subst (λ (u : View). IsNoted u) (sym same) noted;
 }

@@ -28,13 +28,14 @@ asked_now s v begun l asked b a = ap (λ (m : ℕ). asks_from s v m l) (sym b) �
 
 -- A line that asks a call, and one that asks nothing.
 pub called : (s : Script) (v w : View) (begun : ℕ) (caller : CallerId) (l : Line) (asked : Option Call) (c : Call) (looked : Looked)
-    → begun ≡ v.moment → asked ≡ asks_from s v begun l → asked ≡ Some c → IsLook v caller l c looked w → IsNoted v
+    → begun ≡ v.moment → asked ≡ asks_from s v begun l → asked ≡ Some c → IsLook v caller l c looked w
     → GoesTo v (choose (plays.asks_now s (playing v) l) (λ x. plays.after_look (playing v) caller l x (playing v)) (playing v)) w
-called s v w begun caller l asked c looked b a is look noted = record {
+called s v w begun caller l asked c looked b a is look = record {
   played = once v w caller l c looked look
       ∙ sym (chosen_some (plays.asks_now s (playing v) l) (λ x. plays.after_look (playing v) caller l x (playing v)) (playing v) c (asked_now s v begun l asked b a ∙ is));
   config = look.config;
-  noted = look.noted noted;
+  start = look.start;
+  noted = look.noted;
 }
 
 pub uncalled : (s : Script) (v : View) (begun : ℕ) (l : Line) (asked : Option Call) (f : Call → plays.Playing) → begun ≡ v.moment → asked ≡ asks_from s v begun l → asked ≡ None → IsNoted v
@@ -42,6 +43,7 @@ pub uncalled : (s : Script) (v : View) (begun : ℕ) (l : Line) (asked : Option 
 uncalled s v begun l asked f b a is noted = record {
   played = sym (chosen_none (plays.asks_now s (playing v) l) f (playing v) (asked_now s v begun l asked b a ∙ is));
   config = refl;
+  start = refl;
   noted = noted;
 }
 
@@ -58,13 +60,14 @@ later_asked s v w begun m l asked b is a = ap (λ (k : ℕ). asks_from s v k l) 
 
 -- The second look of a wait that began before the play moved on.
 pub called_later : (s : Script) (v w result : View) (begun m timeout : ℕ) (caller : CallerId) (l : Line) (asked : Option Call) (c : Call) (looked : Looked)
-    → begun ≡ v.moment → m ≡ min (begun + timeout) greatest → w ≡ record v { moment = m } → asked ≡ asks_from s w begun l → asked ≡ Some c → IsLook w caller l c looked result → IsNoted v
+    → begun ≡ v.moment → m ≡ min (begun + timeout) greatest → w ≡ record v { moment = m } → asked ≡ asks_from s w begun l → asked ≡ Some c → IsLook w caller l c looked result
     → GoesTo v (choose (plays.asks_now s (playing v) l) (λ x. plays.second_look (plays.come_later (playing v) timeout) caller l x) (plays.come_later (playing v) timeout)) result
-called_later s v w result begun m timeout caller l asked c looked b e at a is look noted = record {
+called_later s v w result begun m timeout caller l asked c looked b e at a is look = record {
   played = once w result caller l c looked look ∙ ap (λ (q : plays.Playing). plays.second_look q caller l c) (later_is v w begun m timeout b e at)
       ∙ sym (chosen_some (plays.asks_now s (playing v) l) (λ x. plays.second_look (plays.come_later (playing v) timeout) caller l x) (plays.come_later (playing v) timeout) c (later_asked s v w begun m l asked b at a ∙ is));
   config = look.config ∙ ap (λ (u : View). u.ledger.config) at;
-  noted = look.noted (later_noted v w m at noted);
+  start = look.start ∙ ap (λ (u : View). u.start) at;
+  noted = look.noted;
 }
 
 pub uncalled_later : (s : Script) (v w : View) (begun m timeout : ℕ) (l : Line) (asked : Option Call) (f : Call → plays.Playing)
@@ -74,20 +77,22 @@ uncalled_later s v w begun m timeout l asked f b e at a is noted = record {
   played = later_is v w begun m timeout b e at
       ∙ sym (chosen_none (plays.asks_now s (playing v) l) f (plays.come_later (playing v) timeout) (later_asked s v w begun m l asked b at a ∙ is));
   config = ap (λ (u : View). u.ledger.config) at;
+  start = ap (λ (u : View). u.start) at;
   noted = later_noted v w m at noted;
 }
 
 -- A wait that is answered at once, and one that looks again.
 pub answered : (s : Script) (v w : View) (begun timeout : ℕ) (caller : CallerId) (l : Line) (asked : Option Call) (c : Call) (looked : Looked)
-    → begun ≡ v.moment → asked ≡ asks_from s v begun l → asked ≡ Some c → IsLook v caller l c looked w → looked ≡ Done → IsNoted v
+    → begun ≡ v.moment → asked ≡ asks_from s v begun l → asked ≡ Some c → IsLook v caller l c looked w → looked ≡ Done
     → GoesTo v (choose (plays.asks_now s (playing v) l) (λ x. plays.after_look (playing v) caller l x (plays.second_look (plays.come_later (playing v) timeout) caller l x)) (playing v)) w
-answered s v w begun timeout caller l asked c looked b a is look d noted =
+answered s v w begun timeout caller l asked c looked b a is look d =
     let done : IsLook v caller l c Done w = subst (λ (x : Looked). IsLook v caller l c x w) d look in
     record {
       played = sym (done.comes (plays.second_look (plays.come_later (playing v) timeout) caller l c))
           ∙ sym (chosen_some (plays.asks_now s (playing v) l) (λ x. plays.after_look (playing v) caller l x (plays.second_look (plays.come_later (playing v) timeout) caller l x)) (playing v) c (asked_now s v begun l asked b a ∙ is));
       config = look.config;
-      noted = look.noted noted;
+      start = look.start;
+      noted = look.noted;
     }
 
 pub again : (s : Script) (v w result : View) (begun timeout : ℕ) (caller : CallerId) (l : Line) (asked : Option Call) (c : Call) (looked : Looked)
@@ -104,5 +109,6 @@ again s v w result begun timeout caller l asked c looked b a is look d goes =
           ∙ sym (waits.comes.1 (plays.second_look (plays.come_later (playing v) timeout) caller l c))
           ∙ sym (chosen_some (plays.asks_now s (playing v) l) (λ x. plays.after_look (playing v) caller l x (plays.second_look (plays.come_later (playing v) timeout) caller l x)) (playing v) c call);
       config = goes.config ∙ look.config;
+      start = goes.start ∙ look.start;
       noted = goes.noted;
     }

@@ -3,7 +3,7 @@ ghost use Rattle.std.specs.Prelude.{◌≡◌, ◌≤◌, length, IfOk, OnErr};
 ghost use Rattle.notify_hub.specs.Ears.{HaveHeard};
 ghost use Rattle.script_text.specs.Follows.{lines_of};
 ghost use Rattle.script_asks.specs.Plays as plays;
-ghost use Rattle.script_play.specs.Callbacks.{AreCurrent, HaveFront};
+ghost use Rattle.script_play.specs.Callbacks.{AreCurrentAfter, HaveFrontAfter};
 ghost use Rattle.script_play.specs.Crews.{crew_meant};
 ghost use Rattle.script_play.specs.Looks.{GoesTo};
 ghost use Rattle.script_play.specs.View.{IsNoted, playing};
@@ -27,10 +27,10 @@ fn play_lines<B: Callback>(
     ears: &mut Ears<B>,
 ) -> Result<(), AllocError>
     requires noted { IsNoted player.old }
-    requires current { AreCurrent B.counted B.told player.old.ledger ears.old }
+    requires current { AreCurrentAfter B.counted B.told player.old.start.callbacks player.old.ledger ears.old }
     ensures played { IfOk result (λ _. GoesTo player.old (plays.play_lines script.now (crew_meant crew) (playing player.old) lines.now) player.new) }
-    ensures current { IfOk result (λ _. AreCurrent B.counted B.told player.new.ledger ears.new) }
-    ensures front { OnErr result (HaveFront B.counted B.told player.old.ledger.config (plays.play_lines script.now (crew_meant crew) (playing player.old) lines.now).entries ears.new) }
+    ensures current { IfOk result (λ _. AreCurrentAfter B.counted B.told player.new.start.callbacks player.new.ledger ears.new) }
+    ensures front { OnErr result (HaveFrontAfter B.counted B.told player.old.ledger.config player.old.start (plays.play_lines script.now (crew_meant crew) (playing player.old) lines.now).entries ears.new) }
     ensures begun { ears.new.begun ≡ ears.old.begun }
     ensures heard { HaveHeard B.counted B.told ears.new }
 {
@@ -50,11 +50,11 @@ fn play_setup<B: Callback>(
 ) -> Result<(), AllocError>
     requires few { length script.now.clients ≤ 32 }
     requires noted { IsNoted player.old }
-    requires current { AreCurrent B.counted B.told player.old.ledger ears.old }
+    requires current { AreCurrentAfter B.counted B.told player.old.start.callbacks player.old.ledger ears.old }
     ensures played { IfOk result (λ _. GoesTo player.old
         (plays.play_lines script.now (plays.crew_of (length script.now.clients) 0) (playing player.old) (lines_of script.now.setup)) player.new) }
-    ensures current { IfOk result (λ _. AreCurrent B.counted B.told player.new.ledger ears.new) }
-    ensures front { OnErr result (HaveFront B.counted B.told player.old.ledger.config
+    ensures current { IfOk result (λ _. AreCurrentAfter B.counted B.told player.new.start.callbacks player.new.ledger ears.new) }
+    ensures front { OnErr result (HaveFrontAfter B.counted B.told player.old.ledger.config player.old.start
         (plays.play_lines script.now (plays.crew_of (length script.now.clients) 0) (playing player.old) (lines_of script.now.setup)).entries ears.new) }
     ensures begun { ears.new.begun ≡ ears.old.begun }
     ensures heard { HaveHeard B.counted B.told ears.new }
@@ -77,11 +77,11 @@ fn play_client<B: Callback>(
     ears: &mut Ears<B>,
 ) -> Result<(), AllocError>
     requires noted { IsNoted player.old }
-    requires current { AreCurrent B.counted B.told player.old.ledger ears.old }
+    requires current { AreCurrentAfter B.counted B.told player.old.start.callbacks player.old.ledger ears.old }
     ensures played { IfOk result (λ _. GoesTo player.old
         (plays.play_lines script.now (crew_meant crew) (record (playing player.old) { names = names.now }) block.now) player.new) }
-    ensures current { IfOk result (λ _. AreCurrent B.counted B.told player.new.ledger ears.new) }
-    ensures front { OnErr result (HaveFront B.counted B.told player.old.ledger.config
+    ensures current { IfOk result (λ _. AreCurrentAfter B.counted B.told player.new.start.callbacks player.new.ledger ears.new) }
+    ensures front { OnErr result (HaveFrontAfter B.counted B.told player.old.ledger.config player.old.start
         (plays.play_lines script.now (crew_meant crew) (record (playing player.old) { names = names.now }) block.now).entries ears.new) }
     ensures begun { ears.new.begun ≡ ears.old.begun }
     ensures heard { HaveHeard B.counted B.told ears.new }
@@ -100,10 +100,10 @@ fn play_clients<B: Callback>(
 ) -> Result<(), AllocError>
     requires few { length script.now.clients ≤ 32 }
     requires noted { IsNoted player.old }
-    requires current { AreCurrent B.counted B.told player.old.ledger ears.old }
+    requires current { AreCurrentAfter B.counted B.told player.old.start.callbacks player.old.ledger ears.old }
     ensures played { IfOk result (λ _. GoesTo player.old (plays.play_clients script.now names.now 1 (playing player.old) script.now.clients) player.new) }
-    ensures current { IfOk result (λ _. AreCurrent B.counted B.told player.new.ledger ears.new) }
-    ensures front { OnErr result (HaveFront B.counted B.told player.old.ledger.config (plays.play_clients script.now names.now 1 (playing player.old) script.now.clients).entries ears.new) }
+    ensures current { IfOk result (λ _. AreCurrentAfter B.counted B.told player.new.start.callbacks player.new.ledger ears.new) }
+    ensures front { OnErr result (HaveFrontAfter B.counted B.told player.old.ledger.config player.old.start (plays.play_clients script.now names.now 1 (playing player.old) script.now.clients).entries ears.new) }
     ensures begun { ears.new.begun ≡ ears.old.begun }
     ensures heard { HaveHeard B.counted B.told ears.new }
 {
@@ -134,12 +134,12 @@ pub fn play_blocks<B: Callback>(
 ) -> Result<(), AllocError>
     requires few { length script.now.clients ≤ 32 }
     requires noted { IsNoted player.old }
-    requires current { AreCurrent B.counted B.told player.old.ledger ears.old }
+    requires current { AreCurrentAfter B.counted B.told player.old.start.callbacks player.old.ledger ears.old }
     ensures played { IfOk result (λ _. GoesTo player.old
         (let first = plays.play_lines script.now (plays.crew_of (length script.now.clients) 0) (playing player.old) (lines_of script.now.setup) in
         plays.play_clients script.now first.names 1 first script.now.clients) player.new) }
-    ensures current { IfOk result (λ _. AreCurrent B.counted B.told player.new.ledger ears.new) }
-    ensures front { OnErr result (HaveFront B.counted B.told player.old.ledger.config
+    ensures current { IfOk result (λ _. AreCurrentAfter B.counted B.told player.new.start.callbacks player.new.ledger ears.new) }
+    ensures front { OnErr result (HaveFrontAfter B.counted B.told player.old.ledger.config player.old.start
         (let first = plays.play_lines script.now (plays.crew_of (length script.now.clients) 0) (playing player.old) (lines_of script.now.setup) in
         plays.play_clients script.now first.names 1 first script.now.clients).entries ears.new) }
     ensures begun { ears.new.begun ≡ ears.old.begun }

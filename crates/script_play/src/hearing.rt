@@ -1,8 +1,9 @@
 //! Callbacks that hear a play, line by line.
 ghost use Rattle.std.specs.Prelude.{◌≡◌, take, length};
-ghost use Rattle.drmaa_model.specs.History.{now_of};
-ghost use Rattle.notify_hub.specs.Ears.{HaveHeard};
-ghost use Rattle.script_play.specs.Callbacks.{AreCurrent, AreBehind};
+ghost use Rattle.drmaa_model.specs.History.{IsLegal, now_of};
+ghost use Rattle.notify_hub.specs.Ears.{HaveHeard, silent};
+ghost use Rattle.script_play.specs.Callbacks.{AreCurrentAfter, AreBehind};
+ghost use Rattle.script_play.specs.View.{start_of};
 
 use crate::players::{Counts, Player};
 use notify_hub::{Callback, Ears};
@@ -23,11 +24,23 @@ fn hand_over<B: Callback>(player: &Player, from: usize, ears: &mut Ears<B>)
     }
 }
 
+/// Hands over the changes that there were before the play. No callback has a place yet, so none hears them. It takes no memory.
+pub fn pass_over<B: Callback>(player: &Player, ears: &mut Ears<B>)
+    requires unplayed { player.now.start ≡ start_of player.now.ledger }
+    requires legal { IsLegal player.now.ledger.config player.now.ledger.history }
+    requires silent { ears.old ≡ silent ears.old.begun }
+    requires unheard { HaveHeard B.counted B.told ears.old }
+    ensures current { AreCurrentAfter B.counted B.told player.now.start.callbacks player.now.ledger ears.new }
+    ensures begun { ears.new.begun ≡ ears.old.begun }
+{
+    hand_over(player, 0, ears);
+}
+
 /// Gives the callback that the play's last line registered, if it did, its place behind the changes that there are then, and hands
 /// over what has changed since there were so many entries and changes. It takes no memory.
 pub fn hear<B: Callback>(player: &Player, before: Counts, ears: &mut Ears<B>)
-    requires { AreBehind B.counted B.told before.entries before.changes player.now.ledger ears.old }
-    ensures current { AreCurrent B.counted B.told player.now.ledger ears.new }
+    requires { AreBehind B.counted B.told player.now.start.callbacks before.entries before.changes player.now.ledger ears.old }
+    ensures current { AreCurrentAfter B.counted B.told player.now.start.callbacks player.now.ledger ears.new }
     ensures begun { ears.new.begun ≡ ears.old.begun }
 {
     let Counts { entries, changes } = before;

@@ -13,4 +13,4 @@ mod serial;
 pub use laws::each_script_can_be_played;
 pub use names::Names;
 pub use players::beginning;
-pub use serial::{Played, copy_of, play};
+pub use serial::{Played, copy_of, new_machine, play, play_on};

@@ -6,7 +6,7 @@ ghost use Rattle.script_play.specs.Callbacks.{number_in};
 
 use crate::names::Names;
 use drmaa_machine::Machine;
-use drmaa_model::{Answer, Call, Config, NoEntry, Question, Reply};
+use drmaa_model::{Answer, Call, NoEntry, Question, Reply};
 use drmaa_types::{CallerId, ChangeBatch, Moment};
 use script_asks::{Attempts, ask};
 use script_lines::Line;
@@ -14,13 +14,15 @@ use script_text::Script;
 use std::alloc::{AllocError, Global};
 use std::marker::Model;
 use std::mem;
+use std::snapshot::Snapshot;
 
-/// A play that is under way. Contracts see what its machine was made with and has served, the moment that it has come to,
-/// the names of the block that is played, the attempts that reports name, and the size that stopped it.
+/// A play that is under way. Contracts see what its machine was made with and has served, what there was before the play, the
+/// moment that it has come to, the names of the block that is played, the attempts that reports name, and the size that stopped it.
 #[derive(Drop)]
 pub struct Player {
     alloc: Global,
     machine: Machine,
+    before: Snapshot<Machine>,
     moment: Moment,
     names: Names,
     attempts: Attempts,
@@ -28,12 +30,13 @@ pub struct Player {
 }
 
 impl Model for Player {
-    ghost use Rattle.script_play.specs.View.{View};
+    ghost use Rattle.script_play.specs.View.{View, start_of};
 
     ghost Value = { View };
 
     ghost view = { λ p. record {
       ledger = p.machine.ledger;
+      start = start_of p.before.value.ledger;
       moment = p.moment;
       names = p.names;
       attempts = p.attempts;
@@ -98,34 +101,29 @@ fn note(alloc: Global, attempts: &mut Attempts, reply: &Reply) -> Result<(), All
 }
 
 impl Player {
-    ghost use Rattle.std.specs.Prelude.{◌≡◌, ◌≤◌, true, is_some, length, take, drop, slice_get, IfOk};
-    ghost use Rattle.drmaa_types.specs.Queues.{are_queues};
+    ghost use Rattle.std.specs.Prelude.{◌≡◌, is_some, length, take, drop, slice_get, IfOk};
     ghost use Rattle.drmaa_model.specs.History.{IsLegal, now_of};
     ghost use Rattle.script_play.specs.Callbacks.{number_of};
     ghost use Rattle.script_play.specs.Looks.{asks_from, IsLook, Learns};
     ghost use Rattle.script_play.specs.View.{IsNoted, unplayed};
 
-    /// A play that has not begun, with a machine of from 1 to 65,535 slots, a journal size from 1 to 4,000,000, and queues that
-    /// such a machine may have.
-    pub fn new(alloc: Global, config: Config) -> Result<Player, AllocError>
-        requires least_slots { 1 ≤ config.slots }
-        requires most_slots { config.slots ≤ 65_535 }
-        requires least_journal { 1 ≤ config.journal }
-        requires most_journal { config.journal ≤ 4_000_000 }
-        requires queues { are_queues config.slots config.queues ≡ true }
-        ensures { IfOk result (λ player. player ≡ unplayed config) }
+    /// A play that has not begun, on a machine that may have served other calls. It begins at the machine's moment, and takes no
+    /// memory.
+    pub fn new(alloc: Global, machine: Machine) -> Player
+        ensures player { result ≡ unplayed machine.ledger }
+        ensures legal { IsLegal machine.ledger.config machine.ledger.history }
     {
-        let Ok(machine) = Machine::new(alloc, config) else {
-            return Err(AllocError);
-        };
-        Ok(Player {
+        let before = Snapshot::of(&machine);
+        let moment = machine.moment();
+        Player {
             alloc,
             machine,
-            moment: beginning(),
+            before,
+            moment,
             names: Names::new(alloc),
             attempts: Attempts::new(alloc),
             full: None,
-        })
+        }
     }
 
     /// Whether the greatest journal size has stopped the play.
@@ -153,6 +151,7 @@ impl Player {
     pub fn counts(&self) -> Counts
         ensures entries { result.entries ≡ length self.now.ledger.history }
         ensures changes { result.changes ≡ length (now_of self.now.ledger).plan.changes }
+        ensures legal { IsLegal self.now.ledger.config self.now.ledger.history }
     {
         Counts {
             entries: self.machine.entries().len(),
@@ -220,6 +219,7 @@ impl Player {
 
     /// Makes the call of a line. After an `Err` memory ran out, and the play is lost.
     pub fn look(&mut self, caller: CallerId, line: &Line, call: Call) -> Result<Looked, AllocError>
+        requires { IsNoted self.old }
         ensures { IfOk result (λ looked. IsLook self.old caller line.now call looked self.new) }
     {
         match self.machine.apply(caller, self.moment, call) {

@@ -1,14 +1,16 @@
 //! The play of a script on one thread.
-ghost use Rattle.std.specs.Prelude.{◌≡◌, ◌≤◌, length, Ok, Err, IfOk, OnErr, MatchResult};
+ghost use Rattle.std.specs.Prelude.{◌≡◌, ◌≤◌, [], ◌++◌, length, Ok, Err, IfOk, OnErr, MatchResult};
 ghost use Rattle.drmaa_model.specs.History.{now_of};
 ghost use Rattle.notify_hub.specs.Ears.{HaveHeard, silent};
-ghost use Rattle.script_asks.specs.Plays.{serial_play};
-ghost use Rattle.script_play.specs.Callbacks.{AreCurrent, HaveFront};
+ghost use Rattle.notify_hub.specs.Places.{registrations_of};
+ghost use Rattle.script_asks.specs.Plays.{serial_play, serial_play_from};
+ghost use Rattle.script_play.specs.Callbacks.{AreCurrent, HaveFront, AreCurrentAfter, HaveFrontAfter};
 ghost use Rattle.script_play.specs.Playable.{IsPlayable};
 ghost use Rattle.script_play.specs.Served.{IsServed};
-ghost use Rattle.script_play.specs.View.{unplayed};
+ghost use Rattle.script_play.specs.View.{start_of, unplayed};
 
 use crate::blocks::play_blocks;
+use crate::hearing::pass_over;
 use crate::players::Player;
 use drmaa_machine::Machine;
 use drmaa_model::Config;
@@ -47,12 +49,15 @@ pub fn copy_of(config: &Config) -> Result<Config, AllocError>
     })
 }
 
-/// A play of a script that has not begun.
-fn new_player(alloc: Global, script: &Script) -> Result<Player, AllocError>
+/// A machine as the script wants it, which has served nothing.
+pub fn new_machine(alloc: Global, script: &Script) -> Result<Machine, AllocError>
     requires { IsPlayable script.now }
-    ensures { IfOk result (λ player. player ≡ unplayed script.now.config) }
+    ensures { IfOk result (λ machine. machine.ledger ≡ record { config = script.now.config; history = [] }) }
 {
-    Player::new(alloc, copy_of(&script.config)?)
+    match Machine::new(alloc, copy_of(&script.config)?) {
+        Ok(machine) => Ok(machine),
+        Err(_) => Err(AllocError),
+    }
 }
 
 /// What was made, unless what was done to it failed.
@@ -73,11 +78,11 @@ fn play_from<B: Callback>(
     ears: &mut Ears<B>,
 ) -> Result<Player, AllocError>
     requires few { length script.now.clients ≤ 32 }
-    requires new { player ≡ unplayed script.now.config }
-    requires current { AreCurrent B.counted B.told player.ledger ears.old }
-    ensures served { IfOk result (IsServed script.now) }
-    ensures current { IfOk result (λ after. AreCurrent B.counted B.told after.ledger ears.new) }
-    ensures front { OnErr result (HaveFront B.counted B.told script.now.config (serial_play script.now).entries ears.new) }
+    requires new { player ≡ unplayed player.ledger }
+    requires current { AreCurrentAfter B.counted B.told player.start.callbacks player.ledger ears.old }
+    ensures served { IfOk result (IsServed player.ledger script.now) }
+    ensures current { IfOk result (λ after. AreCurrentAfter B.counted B.told player.start.callbacks after.ledger ears.new) }
+    ensures front { OnErr result (HaveFrontAfter B.counted B.told player.ledger.config player.start (serial_play_from (now_of player.ledger) script.now).entries ears.new) }
     ensures begun { ears.new.begun ≡ ears.old.begun }
     ensures heard { HaveHeard B.counted B.told ears.new }
 {
@@ -93,6 +98,37 @@ fn played_by(player: Player) -> Played
 {
     let (machine, full) = player.end();
     Played { machine, full }
+}
+
+/// Plays a script on a machine that may have served other calls: its setup block and then its clients' blocks, line by line, from
+/// the machine's moment on, at the moments that the lines set. The play stops before the first step whose size would be above the
+/// journal's. What the script says of its machine has no part. Reports name attempts of launches of this play alone. A callback that
+/// a line registers hears each change of a job's state behind that line's entry, once and in order: it is the one at the place of the
+/// number that the line is answered, counted from 1. The callbacks of the numbers that the machine had given before hear nothing.
+///
+/// # Errors
+///
+/// Want of memory. What was heard until then stays: each callback heard what a beginning of the play has for it.
+pub fn play_on<B: Callback>(
+    alloc: Global,
+    script: &Script,
+    machine: Machine,
+    ears: &mut Ears<B>,
+) -> Result<Played, AllocError>
+    requires few { length script.now.clients ≤ 32 }
+    requires silent { ears.old ≡ silent ears.old.begun }
+    requires unheard { HaveHeard B.counted B.told ears.old }
+    ensures ledger { IfOk result (λ played. played.machine.ledger ≡ record { config = machine.ledger.config; history = machine.ledger.history ++ (serial_play_from (now_of machine.ledger) script.now).entries }) }
+    ensures world { IfOk result (λ played. now_of played.machine.ledger ≡ (serial_play_from (now_of machine.ledger) script.now).world) }
+    ensures full { IfOk result (λ played. played.full ≡ (serial_play_from (now_of machine.ledger) script.now).full) }
+    ensures current { IfOk result (λ played. AreCurrentAfter B.counted B.told (registrations_of machine.ledger.config machine.ledger.history) played.machine.ledger ears.new) }
+    ensures front { OnErr result (HaveFrontAfter B.counted B.told machine.ledger.config (start_of machine.ledger) (serial_play_from (now_of machine.ledger) script.now).entries ears.new) }
+    ensures begun { ears.new.begun ≡ ears.old.begun }
+    ensures heard { HaveHeard B.counted B.told ears.new }
+{
+    let player = Player::new(alloc, machine);
+    pass_over(&player, ears);
+    Ok(played_by(play_from(alloc, script, player, ears)?))
 }
 
 /// Plays a script: its setup block and then its clients' blocks, line by line, in one machine, at the moments that the lines
@@ -118,6 +154,6 @@ pub fn play<B: Callback>(
     ensures begun { ears.new.begun ≡ ears.old.begun }
     ensures heard { HaveHeard B.counted B.told ears.new }
 {
-    let player = new_player(alloc, script)?;
-    Ok(played_by(play_from(alloc, script, player, ears)?))
+    let machine = new_machine(alloc, script)?;
+    play_on(alloc, script, machine, ears)
 }

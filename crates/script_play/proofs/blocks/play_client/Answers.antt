@@ -9,5 +9,5 @@ pub returns-in_err-copied-clause-front : goal.returns-in_err-copied-clause-front
 returns-in_err-copied-clause-front g c =
     let now = c.args.player.now in
     let first : plays.Playing = record (playing now) { names = c.args.names.now } in
-    on_err c.from_residual.result _ (front-of g.B.Callback.counted g.B.Callback.told now.ledger now.ledger.config (plays.play_lines c.args.script.now (crew_meant c.args.crew) first c.args.block.now).entries c.args.ears.now
-    c.requires.current refl (lines-begin c.args.script.now (crew_meant c.args.crew) first c.args.block.now))
+    on_err c.from_residual.result _ (front-of g.B.Callback.counted g.B.Callback.told now now.ledger.config now.start (plays.play_lines c.args.script.now (crew_meant c.args.crew) first c.args.block.now).entries c.args.ears.now
+    c.requires.noted c.requires.current refl refl (lines-begin c.args.script.now (crew_meant c.args.crew) first c.args.block.now))

@@ -14,4 +14,4 @@ returns-in_err-play_client-clause-front g c =
     drop-cons blocks c.loop-block.block-index c.block-item.result c.loop-block-test.true ∙ ap (λ (x : List Line). x ∷ rest) (sym c.block-item.is) in
     let who : crew_meant c.crew_of.result ≡ plays.crew_of (length c.args.script.now.clients) c.loop-block.number = cc in
     on_err c.from_residual.result _ (client-front g.B.Callback.counted g.B.Callback.told c.args.script.now c.args.names.now c.args.player.now c.loop-block.player c.loop-block.number (crew_meant c.crew_of.result)
-    (drop c.loop-block.block-index blocks) c.block-item.result rest c.play_client.new.ears who left c.loop-block.invariant.played c.loop-block.invariant.config c.in_err-play_client.ensures.front)
+    (drop c.loop-block.block-index blocks) c.block-item.result rest c.play_client.new.ears who left c.loop-block.invariant.played c.loop-block.invariant.config c.loop-block.invariant.start c.in_err-play_client.ensures.front)

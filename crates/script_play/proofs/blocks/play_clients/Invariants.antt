@@ -1,6 +1,6 @@
 use Rattle.std.proofs.Common.{◌≡◌, ◌+◌, drop}
 use Rattle.script_asks.specs.Plays as plays
-use Rattle.script_play.specs.Callbacks.{AreCurrent}
+use Rattle.script_play.specs.Callbacks.{AreCurrentAfter}
 use Rattle.script_play.specs.View.{IsNoted, playing}
 use Rattle.script_play.proofs.blocks.play_clients.Given as goal
 
@@ -10,7 +10,8 @@ invariant-loop-block g l = record {
   played : plays.play_clients l.script l.names l.number (playing l.player) (drop l.block-index l.blocks) ≡ plays.play_clients l.script l.names 1 (playing l.fn.player) l.script.clients;
   number : l.number ≡ l.block-index + 1;
   config : l.player.ledger.config ≡ l.fn.player.ledger.config;
+  start : l.player.start ≡ l.fn.player.start;
   noted : IsNoted l.player;
-  current : AreCurrent g.B.Callback.counted g.B.Callback.told l.player.ledger l.ears;
+  current : AreCurrentAfter g.B.Callback.counted g.B.Callback.told l.player.start.callbacks l.player.ledger l.ears;
   begun : l.ears.begun ≡ l.fn.ears.begun;
 }

@@ -1,6 +1,6 @@
 use Rattle.std.proofs.Common.{◌≡◌, drop}
 use Rattle.script_asks.specs.Plays as plays
-use Rattle.script_play.specs.Callbacks.{AreCurrent}
+use Rattle.script_play.specs.Callbacks.{AreCurrentAfter}
 use Rattle.script_play.specs.Crews.{crew_meant}
 use Rattle.script_play.specs.View.{IsNoted, playing}
 use Rattle.script_play.proofs.blocks.play_lines.Given as goal
@@ -10,7 +10,8 @@ abbrev pub invariant-loop-line : goal.invariant-loop-line
 invariant-loop-line g l = record {
   played : plays.play_lines l.script (crew_meant l.crew) (playing l.player) (drop l.line-index l.lines) ≡ plays.play_lines l.script (crew_meant l.crew) (playing l.fn.player) l.lines;
   config : l.player.ledger.config ≡ l.fn.player.ledger.config;
+  start : l.player.start ≡ l.fn.player.start;
   noted : IsNoted l.player;
-  current : AreCurrent g.B.Callback.counted g.B.Callback.told l.player.ledger l.ears;
+  current : AreCurrentAfter g.B.Callback.counted g.B.Callback.told l.player.start.callbacks l.player.ledger l.ears;
   begun : l.ears.begun ≡ l.fn.ears.begun;
 }

@@ -6,7 +6,7 @@ use Rattle.script_play.proofs.lines.play_wait.Goals as goal
 pub returns-in-Done : goal.returns-in-Done
 returns-in-Done c =
     answered c.args.script.now c.args.player.now c.look.new.self c.moment-begun.result c.args.timeout c.args.caller c.args.line.now c.in_ok-call.field-0 c.in-Some.call c.in_ok-look-in-Some.field-0
-    c.moment-begun.ensures c.in_ok-call.ensures c.in-Some.is c.in_ok-look-in-Some.ensures c.in-Done.is c.requires
+    c.moment-begun.ensures c.in_ok-call.ensures c.in-Some.is c.in_ok-look-in-Some.ensures c.in-Done.is
 
 pub returns-in-NotYet : goal.returns-in-NotYet
 returns-in-NotYet c =

@@ -1,21 +1,24 @@
-use Rattle.script_play.specs.Callbacks.{AreCurrent}
+use Rattle.std.proofs.Common.{subst}
+use Rattle.script_play.specs.Callbacks.{AreCurrentAfter}
 use Rattle.script_play.specs.Served.{IsServed}
-use Rattle.script_play.specs.View.{View}
-use Rattle.script_play.proofs.Whole.{served, noted_first, whole_front, made_ok, made_err, err_so}
+use Rattle.script_play.specs.View.{Start, View}
+use Rattle.script_play.proofs.Whole.{served, noted_first, whole_front, made_ok, made_err, err_so, both_ok}
 use Rattle.script_play.proofs.serial.play_from.Goals as goal
 
 pub play_blocks-done-requires-clause-noted : goal.play_blocks-done-requires-clause-noted
-play_blocks-done-requires-clause-noted g c = noted_first c.args.script.now.config c.args.player c.requires.new
+play_blocks-done-requires-clause-noted g c = noted_first c.args.player c.requires.new
 
 pub returns-clause-served : goal.returns-clause-served
 returns-clause-served g c =
-    made_ok c.play_blocks-done.result c.unless_failed.result c.play_blocks-done.new.player _ (λ (v : View). IsServed c.args.script.now v) c.unless_failed.ensures c.play_blocks-done.ensures.played
+    made_ok c.play_blocks-done.result c.unless_failed.result c.play_blocks-done.new.player _ (λ (v : View). IsServed c.args.player.ledger c.args.script.now v) c.unless_failed.ensures c.play_blocks-done.ensures.played
     (served c.args.script.now c.args.player c.play_blocks-done.new.player c.requires.new)
 
 pub returns-clause-current : goal.returns-clause-current
 returns-clause-current g c =
-    made_ok c.play_blocks-done.result c.unless_failed.result c.play_blocks-done.new.player _ (λ (v : View). AreCurrent g.B.Callback.counted g.B.Callback.told v.ledger c.play_blocks-done.new.ears) c.unless_failed.ensures
-    c.play_blocks-done.ensures.current (λ current. current)
+    let now = c.play_blocks-done.new.player in
+    made_ok c.play_blocks-done.result c.unless_failed.result now _ (λ (v : View). AreCurrentAfter g.B.Callback.counted g.B.Callback.told c.args.player.start.callbacks v.ledger c.play_blocks-done.new.ears) c.unless_failed.ensures
+    (both_ok c.play_blocks-done.result _ _ c.play_blocks-done.ensures.played c.play_blocks-done.ensures.current)
+    (λ both. subst (λ (start : Start). AreCurrentAfter g.B.Callback.counted g.B.Callback.told start.callbacks now.ledger c.play_blocks-done.new.ears) both.0.start both.1)
 
 pub returns-clause-front : goal.returns-clause-front
 returns-clause-front g c =
