@@ -1,5 +1,5 @@
 //! The machine: a history, and the world that it leads to.
-ghost use Rattle.std.specs.Prelude.{◌≡◌, ◌≢◌, ◌+◌, ◌≤◌, ◌↔◌, ◌⊎◌, ℕ, [], IfOk, IfErr, IsOk, OnOk, OnErr, IsTrue, true, None, Some, length};
+ghost use Rattle.std.specs.Prelude.{◌≡◌, ◌≢◌, ◌+◌, ◌≤◌, ◌↔◌, ◌⊎◌, ℕ, [], map, IfOk, IfErr, IsOk, OnOk, OnErr, IsTrue, true, None, Some, length};
 ghost use Rattle.std.specs.Option.{option_map};
 ghost use Rattle.drmaa_types.specs.Queues.{are_queues};
 ghost use Rattle.drmaa_types.specs.declared.refusals.Refusal.{Refusal};
@@ -9,10 +9,11 @@ ghost use Rattle.drmaa_model.specs.Effects.{nothing, not_yet};
 ghost use Rattle.drmaa_model.specs.Events.{next_event, started_from, started_of};
 ghost use Rattle.drmaa_model.specs.History.{IsLegal, now_of};
 ghost use Rattle.drmaa_model.specs.Honoured.{IsOnTime, IsDueInside};
-ghost use Rattle.drmaa_model.specs.Infos.{infos};
+ghost use Rattle.drmaa_model.specs.Infos.{infos, reservation_info};
 ghost use Rattle.drmaa_model.specs.KeptCalls.{kept};
 ghost use Rattle.drmaa_model.specs.Order.{held};
 ghost use Rattle.drmaa_model.specs.Refusals.{refusal};
+ghost use Rattle.drmaa_model.specs.Size.{size};
 ghost use Rattle.drmaa_model.specs.Steps.{answer, IsStep};
 ghost use Rattle.drmaa_model.specs.Time.{advance};
 ghost use Rattle.drmaa_model.specs.WaitLaws.{HandsOut, SendsOut};
@@ -22,10 +23,10 @@ ghost use Rattle.drmaa_machine.specs.Looks.{IsAnswer};
 ghost use Rattle.drmaa_machine.specs.Waits.{call_of};
 
 use crate::applying::serve;
-use crate::looks::{infos_in, look_in, must_wait_in, reserve_in};
+use crate::looks::{infos_in, look_in, must_wait_in, reservations_in, reserve_in, size_in};
 use crate::waits::Awaited;
 use drmaa_model::{Answer, Call, Config, Entry, NoEntry, Question, Reply, Started};
-use drmaa_types::{CallerId, Change, InfoList, JobId, Moment, Refusal};
+use drmaa_types::{CallerId, Change, InfoList, JobId, Moment, Refusal, ReservationList};
 use machine_readings::Store;
 use scheduler_core::Core;
 use session_table::SessionTable;
@@ -193,6 +194,25 @@ impl Machine {
         ensures err { IfErr result (λ why. why ≡ Refusal.OutOfMemory) }
     {
         infos_in(&self.store)
+    }
+
+    /// What is told of each accepted reservation, once time has come to this moment. It makes no entry.
+    ///
+    /// # Errors
+    ///
+    /// Want of memory.
+    pub fn reservations(&self, at: Moment) -> Result<ReservationList, Refusal>
+        ensures ok { IfOk result (λ list. list ≡ map (reservation_info (advance (now_of self.now.ledger) at)) (advance (now_of self.now.ledger) at).plan.reservations) }
+        ensures err { IfErr result (λ why. why ≡ Refusal.OutOfMemory) }
+    {
+        reservations_in(&self.store, at)
+    }
+
+    /// The size of the journal: its entries and changes, and the room that is promised to jobs.
+    pub fn size(&self) -> u64
+        ensures { result ≡ size (now_of self.now.ledger) }
+    {
+        size_in(&self.store)
     }
 
     /// The moment to which time has come. It takes no memory.
