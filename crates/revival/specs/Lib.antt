@@ -1,0 +1,4 @@
+pub mod StopLaws
+pub mod Stopping
+pub mod StoppingLaws
+pub mod Stops
