@@ -3,11 +3,12 @@ use Rattle.std.proofs.Common.{◌≡◌, ℕ, ◌+◌, ◌==◌, ◌<◌, ◌^�
 use Rattle.std.proofs.lemmas.Bool.Decides.{nat_tests}
 use Rattle.std.proofs.lemmas.Fmt.{decimal_by_steps}
 use Rattle.command_words.specs.declared.commands.Command.{Command}
-use Rattle.command_words.specs.declared.commands.Command.TheVariants.{Serial, Threads, Table, Check, Migrate, Json, Forecast, Recur}
+use Rattle.command_words.specs.declared.commands.Command.TheVariants.{Serial, Threads, Table, Check, Migrate, Json, Forecast, Continue, Recur, Soak}
 use Rattle.command_words.specs.declared.commands.Unit.{Unit as StepUnit}
 use Rattle.command_words.specs.declared.commands.Unit.TheVariants.{Days, Weeks, Months}
 use Rattle.command_words.specs.declared.commands.RecurWords.{RecurWords}
-use Rattle.command_words.specs.Commands.{AreRanged, AsksFor, IsPlain, IsRanged, begins_dash, recur_values, unit_word, words_of}
+use Rattle.command_words.specs.declared.commands.SoakWords.{SoakWords}
+use Rattle.command_words.specs.Commands.{AreRanged, AreSoakWords, AsksFor, IsPlain, IsRanged, begins_dash, recur_values, soak_values, unit_word, words_of}
 
 -- there is a first byte, and it is not `-`
 abbrev Undashed : List ℕ → Type 0
@@ -46,6 +47,9 @@ recur_plain r a =
       number_undashed r.slots (omega (arith, a.slots.1)),
     ) refl
 
+soak_plain : (s : SoakWords) → AreSoakWords s → IsPlain (soak_values s)
+soak_plain s a = rw (number_undashed s.steps (omega (arith, a.0)), number_undashed s.seed (omega (arith, a.1))) refl
+
 words_plain : (command : Command) → IsRanged command → IsPlain (words_of command)
 words_plain Serial a = refl
 words_plain Threads a = refl
@@ -54,7 +58,9 @@ words_plain Check a = refl
 words_plain Migrate a = refl
 words_plain Json a = refl
 words_plain Forecast a = refl
+words_plain Continue a = refl
 words_plain (Recur r) a = recur_plain r a
+words_plain (Soak s) a = soak_plain s a
 
 pub asked_plain : (ws : List (List ℕ)) (command : Command) → AsksFor ws command → IsPlain ws
 asked_plain ws command h = subst IsPlain (sym h.1) (words_plain command h.0)

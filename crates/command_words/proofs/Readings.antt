@@ -25,6 +25,13 @@ number_outside w m most a is small outside n h =
     let same : n ≡ m = decimal_same n m fits a (sym h.2 ∙ is) in
     outside (subst (λ (k : ℕ). 1 ≤ k) same h.0) (subst (λ (k : ℕ). k ≤ most) same h.1)
 
+pub number_above : (w : List ℕ) (m most : ℕ) → m < 2 ^ 64 → w ≡ decimal m → most < 2 ^ 32 → ((m ≤ most) → ⊥)
+    → (n : ℕ) → (n ≤ most) × (w ≡ decimal n) → ⊥
+number_above w m most a is small outside n h =
+    let fits : n < 2 ^ 64 = omega (arith, h.0, small) in
+    let same : n ≡ m = decimal_same n m fits a (sym h.1 ∙ is) in
+    outside (subst (λ (k : ℕ). k ≤ most) same h.0)
+
 -- ---- moments
 
 -- a moment that the word spells

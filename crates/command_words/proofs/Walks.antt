@@ -10,8 +10,8 @@ use Rattle.clap.specs.Faults.{turn_fault, walk_fault}
 use Rattle.clap.specs.Simple.{entered, rows_at}
 use Rattle.clap.proofs.OnLiterals.{clap_on_literals}
 use Rattle.command_words.specs.declared.commands.Command.{Command}
-use Rattle.command_words.specs.declared.commands.Command.TheVariants.{Serial, Threads, Table, Check, Migrate, Json, Forecast, Recur}
-use Rattle.command_words.specs.Commands.{IsPlain, recur_values, words_of}
+use Rattle.command_words.specs.declared.commands.Command.TheVariants.{Serial, Threads, Table, Check, Migrate, Json, Forecast, Continue, Recur, Soak}
+use Rattle.command_words.specs.Commands.{IsPlain, recur_values, soak_values, words_of}
 use Rattle.command_words.specs.Grammar.{program, words_in}
 use Rattle.command_words.proofs.Entering.{app, names, Enters, IsPlainWord, StopsAt, below_none, by_test, first_plain, level, not_nil, or_else_none, others_plain, standing, stops, takes}
 use Rattle.command_words.proofs.Subcommands.{held_at, no_place, taking, values_hold, values_taken, word, word_holds}
@@ -34,7 +34,8 @@ word_by name first found = holds_by name (word name) first found (word_holds nam
 -- the names of all commands
 abbrev command_names : List Text
 command_names =
-    codes "serial" ∷ codes "threads" ∷ codes "table" ∷ codes "check" ∷ codes "migrate" ∷ codes "json" ∷ codes "forecast" ∷ codes "recur" ∷ []
+    codes "serial" ∷ codes "threads" ∷ codes "table" ∷ codes "check" ∷ codes "migrate" ∷ codes "json" ∷ codes "forecast" ∷ codes "continue" ∷ codes "recur"
+    ∷ codes "soak" ∷ []
 
 each_holds : AllByRecursion Holds command_names
 unfolding clap_on_literals
@@ -52,7 +53,13 @@ each_holds = (
             word_by (codes "json") refl refl,
             (
               word_by (codes "forecast") refl refl,
-              (holds_by (codes "recur") (taking (codes "recur") 7) refl refl (values_hold 7 refl refl (codes "recur")), tt),
+              (
+                word_by (codes "continue") refl refl,
+                (
+                  holds_by (codes "recur") (taking (codes "recur") 7) refl refl (values_hold 7 refl refl (codes "recur")),
+                  (holds_by (codes "soak") (taking (codes "soak") 2) refl refl (values_hold 2 refl refl (codes "soak")), tt),
+                ),
+              ),
             ),
           ),
         ),
@@ -97,6 +104,10 @@ passes Check p = refl
 passes Migrate p = refl
 passes Json p = refl
 passes Forecast p = refl
+passes Continue p = refl
 passes (Recur r) p =
     takes (codes "recur") (taking (codes "recur") 7) (recur_values r) refl refl refl
     (values_taken 7 refl refl (codes "recur") (recur_values r) (others_plain (codes "recur") (recur_values r) p) refl)
+passes (Soak s) p =
+    takes (codes "soak") (taking (codes "soak") 2) (soak_values s) refl refl refl
+    (values_taken 2 refl refl (codes "soak") (soak_values s) (others_plain (codes "soak") (soak_values s) p) refl)

@@ -1,5 +1,5 @@
 -- The laws of commands: words are those of one at most.
-use Rattle.std.proofs.Common.{◌≡◌, ℕ, ◌<◌, ◌≤◌, ◌^◌, ◌⊎◌, List, [], ◌∷◌, Option, Some, None, decimal, lit≤, refl, sym, ap, ◌∙◌, inl, inr, arith}
+use Rattle.std.proofs.Common.{◌≡◌, ℕ, ◌<◌, ◌≤◌, ◌^◌, ◌⊎◌, List, [], ◌∷◌, length, Option, Some, None, decimal, lit≤, refl, sym, ap, ◌∙◌, inl, inr, arith}
 use Rattle.std.specs.Prelude.{find}
 use Rattle.std.specs.Str.{bytes_eq}
 use Rattle.std.proofs.lemmas.Option.{none-some, same_Some}
@@ -7,11 +7,12 @@ use Rattle.text_codec.specs.Formats.{number_of}
 use Rattle.text_codec.specs.BaseLaws.{number_again, greatest_small}
 use Rattle.drmaa_types.specs.Moments.{greatest}
 use Rattle.command_words.specs.declared.commands.Command.{Command}
-use Rattle.command_words.specs.declared.commands.Command.TheVariants.{Serial, Threads, Table, Check, Migrate, Json, Forecast, Recur}
+use Rattle.command_words.specs.declared.commands.Command.TheVariants.{Serial, Threads, Table, Check, Migrate, Json, Forecast, Continue, Recur, Soak}
 use Rattle.command_words.specs.declared.commands.Unit.{Unit as StepUnit}
 use Rattle.command_words.specs.declared.commands.Unit.TheVariants.{Days, Weeks, Months}
 use Rattle.command_words.specs.declared.commands.RecurWords.{RecurWords}
-use Rattle.command_words.specs.Commands.{AreRanged, AsksFor, recur_values, unit_word, words_of}
+use Rattle.command_words.specs.declared.commands.SoakWords.{SoakWords}
+use Rattle.command_words.specs.Commands.{AreRanged, AreSoakWords, AsksFor, recur_values, soak_values, unit_word, words_of}
 
 -- numbers that are written alike
 pub decimal_same : (m n : ℕ) → m < 2 ^ 64 → n < 2 ^ 64 → decimal m ≡ decimal n → m ≡ n
@@ -78,11 +79,22 @@ abbrev rest_of : List (List ℕ) → List (List ℕ)
 rest_of [] = []
 rest_of (w ∷ ws) = ws
 
+-- the words behind `soak`
+abbrev second_of : List (List ℕ) → List ℕ
+second_of [] = []
+second_of (w ∷ ws) = first_of ws
+
+soak_same : (s t : SoakWords) → AreSoakWords s → AreSoakWords t → soak_values s ≡ soak_values t → s ≡ t
+soak_same s t a b e =
+    let steps = decimal_same s.steps t.steps (below_bound _ 100_000 a.0 (lit≤ tt)) (below_bound _ 100_000 b.0 (lit≤ tt)) (ap first_of e) in
+    let seed = decimal_same s.seed t.seed (below_bound _ 2_147_483_647 a.1 (lit≤ tt)) (below_bound _ 2_147_483_647 b.1 (lit≤ tt)) (ap second_of e) in
+    λ i. record { steps = steps i; seed = seed i }
+
 -- the command of one word
 abbrev named_by : List (List ℕ) → Option Command
 named_by [] = None
 named_by (w ∷ []) =
-    find (λ command. bytes_eq (first_of (words_of command)) w) (Serial ∷ Threads ∷ Table ∷ Check ∷ Migrate ∷ Json ∷ Forecast ∷ [])
+    find (λ command. bytes_eq (first_of (words_of command)) w) (Serial ∷ Threads ∷ Table ∷ Check ∷ Migrate ∷ Json ∷ Forecast ∷ Continue ∷ [])
 named_by (w ∷ v ∷ ws) = None
 
 by_word : (command : Command) → (named_by (words_of command) ≡ Some command) ⊎ (named_by (words_of command) ≡ None)
@@ -93,7 +105,9 @@ by_word Check = inl refl
 by_word Migrate = inl refl
 by_word Json = inl refl
 by_word Forecast = inl refl
+by_word Continue = inl refl
 by_word (Recur r) = inr refl
+by_word (Soak s) = inr refl
 
 word_same : (a b : Command) → named_by (words_of a) ≡ Some a → words_of a ≡ words_of b → a ≡ b
 word_same a b is e = elim (by_word b) [
@@ -101,7 +115,15 @@ word_same a b is e = elim (by_word b) [
   | inr other ↦ absurd (none-some a (sym other ∙ sym (ap named_by e) ∙ is))
 ]
 
+-- which of the two it is, the first word says
+recur_or_soak : (r : RecurWords) (s : SoakWords) → words_of (Recur r) ≡ words_of (Soak s) → ⊥
+recur_or_soak r s e = let bad : 5 ≡ 4 = ap (λ ws. length (first_of ws)) e in omega (arith, bad)
+
 pub one_command : (ws : List (List ℕ)) (a b : Command) → AsksFor ws a → AsksFor ws b → a ≡ b
 one_command ws (Recur r) (Recur s) h g = ap Recur (recur_same r s h.0 g.0 (ap rest_of (sym h.1 ∙ g.1)))
+one_command ws (Soak s) (Soak t) h g = ap Soak (soak_same s t h.0 g.0 (ap rest_of (sym h.1 ∙ g.1)))
+one_command ws (Recur r) (Soak s) h g = absurd (recur_or_soak r s (sym h.1 ∙ g.1))
+one_command ws (Soak s) (Recur r) h g = absurd (recur_or_soak r s (sym g.1 ∙ h.1))
 one_command ws (Recur r) b h g = sym (word_same b (Recur r) refl (sym g.1 ∙ h.1))
+one_command ws (Soak s) b h g = sym (word_same b (Soak s) refl (sym g.1 ∙ h.1))
 one_command ws a b h g = word_same a b refl (sym h.1 ∙ g.1)

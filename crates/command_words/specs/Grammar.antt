@@ -15,16 +15,17 @@ with_values name n = (with_rule (new_app name) (values n)).top
 abbrev pub settings : App → App
 settings = on_top (λ s. record s { no_binary_name = true; disable_help_flag = true; disable_help_subcommand = true; subcommand_required = true })
 
--- with the commands of one word
+-- with the commands that play a script, and with those of one word that read a journal
+abbrev pub plays : App
+plays = with_subcommand (with_subcommand (with_subcommand (settings (new_app (codes "drmaa"))) (new_shape (codes "serial"))) (new_shape (codes "threads"))) (new_shape (codes "table"))
+
 abbrev pub words : App
 words =
-    with_subcommand (with_subcommand (with_subcommand (with_subcommand (with_subcommand (with_subcommand (with_subcommand
-    (settings (new_app (codes "drmaa")))
-    (new_shape (codes "serial"))) (new_shape (codes "threads"))) (new_shape (codes "table"))) (new_shape (codes "check")))
-    (new_shape (codes "migrate"))) (new_shape (codes "json"))) (new_shape (codes "forecast"))
+    with_subcommand (with_subcommand (with_subcommand (with_subcommand (with_subcommand plays
+    (new_shape (codes "check"))) (new_shape (codes "migrate"))) (new_shape (codes "json"))) (new_shape (codes "forecast"))) (new_shape (codes "continue"))
 
 abbrev pub program : App
-program = with_subcommand words (with_values (codes "recur") 7)
+program = with_subcommand (with_subcommand words (with_values (codes "recur") 7)) (with_values (codes "soak") 2)
 
 -- the values that the matches of a command hold
 abbrev pub values_in : List Row → List Text

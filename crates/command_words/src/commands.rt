@@ -19,8 +19,12 @@ pub enum Command {
     Json,
     /// Reads a journal, and lists when its waiting jobs would start.
     Forecast,
+    /// Reads a journal and a script behind it, plays the script on the machine that goes on from the journal, and writes the journal.
+    Continue,
     /// Reads a journal, and goes on with it by requests of reservations at equal steps.
     Recur(RecurWords),
+    /// Plays a script of so many steps, made of drawn numbers, and counts what came of it.
+    Soak(SoakWords),
 }
 
 /// What the steps from one reservation to the next are counted in.
@@ -47,4 +51,13 @@ pub struct RecurWords {
     pub duration: u64,
     /// How many slots each has, from 1 to 65,535.
     pub slots: u32,
+}
+
+/// What the words behind `soak` say.
+#[derive(Debug, Drop)]
+pub struct SoakWords {
+    /// How many steps the script has, up to 100,000.
+    pub steps: u32,
+    /// Which number the draws begin from, up to 2,147,483,647.
+    pub seed: u32,
 }

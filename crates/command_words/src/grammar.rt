@@ -13,6 +13,9 @@ pub(crate) const VALUES: &str = "values";
 /// The values behind `recur`.
 static RECUR: [&str; 7] = ["NAME", "UNIT", "N", "COUNT", "MOMENT", "DURATION", "SLOTS"];
 
+/// The values behind `soak`.
+static SOAK: [&str; 2] = ["N", "SEED"];
+
 /// The program, with no command yet.
 fn start<'a>(alloc: Global) -> Command<'a>
     ensures { app_of result ≡ grammar.settings (new_app (codes "drmaa")) }
@@ -49,22 +52,30 @@ fn with_values<'a>(
     program.subcommand(Command::new(alloc, name).arg(values)?)
 }
 
+/// The program with the commands that play a script.
+fn plays<'a>(alloc: Global) -> Result<Command<'a>, AllocError>
+    ensures { IfOk result (λ p. app_of p ≡ grammar.plays) }
+{
+    let serial = with_word(alloc, start(alloc), "serial")?;
+    let threads = with_word(alloc, serial, "threads")?;
+    with_word(alloc, threads, "table")
+}
+
 /// The program with the commands of one word.
 fn words<'a>(alloc: Global) -> Result<Command<'a>, AllocError>
     ensures { IfOk result (λ p. app_of p ≡ grammar.words) }
 {
-    let serial = with_word(alloc, start(alloc), "serial")?;
-    let threads = with_word(alloc, serial, "threads")?;
-    let table = with_word(alloc, threads, "table")?;
-    let check = with_word(alloc, table, "check")?;
+    let check = with_word(alloc, plays(alloc)?, "check")?;
     let migrate = with_word(alloc, check, "migrate")?;
     let json = with_word(alloc, migrate, "json")?;
-    with_word(alloc, json, "forecast")
+    let forecast = with_word(alloc, json, "forecast")?;
+    with_word(alloc, forecast, "continue")
 }
 
 /// The program with all of its commands.
 pub(crate) fn program<'a>(alloc: Global) -> Result<Command<'a>, AllocError>
     ensures { IfOk result (λ p. app_of p ≡ grammar.program) }
 {
-    with_values(alloc, words(alloc)?, "recur", &RECUR)
+    let recur = with_values(alloc, words(alloc)?, "recur", &RECUR)?;
+    with_values(alloc, recur, "soak", &SOAK)
 }

@@ -9,5 +9,5 @@ mod laws;
 mod reading;
 
 pub use asking::command_of;
-pub use commands::{Command, RecurWords, Unit};
+pub use commands::{Command, RecurWords, SoakWords, Unit};
 pub use laws::words_name_one_command;

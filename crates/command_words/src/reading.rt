@@ -3,7 +3,7 @@ ghost use Rattle.std.specs.Prelude.{◌≡◌, ◌<◌, ◌≤◌, ◌^◌, ◌�
 ghost use Rattle.drmaa_types.specs.Moments as moments;
 ghost use Rattle.command_words.specs.Commands.{AsksFor, Finds, IsPlain, unit_word};
 
-use crate::commands::{Command, RecurWords, Unit};
+use crate::commands::{Command, RecurWords, SoakWords, Unit};
 use drmaa_types::{Moment, Text};
 use std::alloc::{AllocError, Global};
 use text_codec::{behind_key, number_of};
@@ -13,6 +13,16 @@ fn number_in(word: &[u8]) -> Option<u64>
     ensures { Finds (λ n. (n < 2 ^ 64) × (word.now ≡ decimal n)) result }
 {
     number_of(word)
+}
+
+/// The number that a word spells, up to the greatest.
+fn number_up_to(word: &str, greatest: u32) -> Option<u32>
+    ensures { Finds (λ n. (n ≤ greatest) × (word.now ≡ decimal n)) result }
+{
+    match number_in(word.as_bytes()) {
+        Some(number) if number <= u64::from(greatest) => Some(number as u32),
+        _ => None,
+    }
 }
 
 /// The number that a word spells, from 1 to the greatest.
@@ -95,6 +105,19 @@ fn recur_command(alloc: Global, values: &[&str]) -> Result<Option<Command>, Allo
     })))
 }
 
+/// The command `soak` with these values.
+fn soak_command(values: &[&str]) -> Option<Command>
+    ensures { Finds (AsksFor (codes "soak" ∷ map (λ v. v.now) values.now)) result }
+{
+    let [steps, seed] = values else {
+        return None;
+    };
+    Some(Command::Soak(SoakWords {
+        steps: number_up_to(steps, 100_000)?,
+        seed: number_up_to(seed, 2_147_483_647)?,
+    }))
+}
+
 /// The command that is this one word.
 fn word_command(word: &str) -> Option<Command>
     ensures { Finds (AsksFor (word.now ∷ [])) result }
@@ -107,6 +130,7 @@ fn word_command(word: &str) -> Option<Command>
         "migrate" => Some(Command::Migrate),
         "json" => Some(Command::Json),
         "forecast" => Some(Command::Forecast),
+        "continue" => Some(Command::Continue),
         _ => None,
     }
 }
@@ -122,6 +146,7 @@ pub(crate) fn read_command(
 {
     match name {
         "recur" => recur_command(alloc, values),
+        "soak" => Ok(soak_command(values)),
         _ if values.is_empty() => Ok(word_command(name)),
         _ => Ok(None),
     }
