@@ -4,7 +4,7 @@ use Rattle.std.specs.Prelude.{IfSome, MatchBool, MatchOption}
 use Rattle.command_words.specs.Commands.{AsksFor}
 use Rattle.command_words.specs.CommandLaws.{one_command}
 use Rattle.command_words.specs.declared.commands.Command.{Command}
-use Rattle.command_words.specs.declared.commands.Command.TheVariants.{Serial, Threads, Table, Check, Migrate, Json, Forecast, Recur}
+use Rattle.command_words.specs.declared.commands.Command.TheVariants.{Serial, Threads, Table, Check, Migrate, Json, Forecast, Continue, Recur, Soak}
 use Rattle.drmaa_types.specs.declared.changes.Notification.{Notification}
 use Rattle.journal_commands.specs.declared.status.Status.{Status}
 use Rattle.journal_commands.specs.declared.status.Status.TheVariants.{Memory}
@@ -13,9 +13,9 @@ use Rattle.script_play.specs.Callbacks.{HearFront}
 use Rattle.script_text.specs.declared.scripts.Mode.TheVariants as mode
 use Rattle.script_text.specs.declared.scripts.Script.{Script}
 use Rattle.drmaa_script.specs.Commands.{Asks, CanRun, NamesNone}
-use Rattle.drmaa_script.specs.Endings.{IsWhole}
-use Rattle.drmaa_script.specs.Outcomes.{IsScriptText}
-use Rattle.drmaa_script.proofs.Kept.{same_front}
+use Rattle.drmaa_script.specs.Endings.{IsWhole, MayEnd}
+use Rattle.script_commands.specs.Outcomes.{IsScriptText}
+use Rattle.script_commands.proofs.Kept.{same_front}
 
 -- the command that was found is any that the words ask for
 pub the_command : (words : List (List ℕ)) (found command : Command) → Asks words found → Asks words command → found ≡ command
@@ -41,11 +41,29 @@ memory_whole Check callbacks bytes = record { journal = λ j t. inl refl; other 
 memory_whole Migrate callbacks bytes = record { journal = λ j t. inl refl; other = λ none. tt }
 memory_whole Json callbacks bytes = record { journal = λ j t. inl refl; other = λ none. tt }
 memory_whole Forecast callbacks bytes = record { journal = λ j t. inl refl; other = λ none. tt }
+memory_whole Continue callbacks bytes = record { text = λ c t. inl refl; other = λ none. tt }
 memory_whole (Recur words) callbacks bytes = record { journal = λ j t. inl refl; other = λ none. tt }
+memory_whole (Soak words) callbacks bytes = tt
 
 pub short_whole : (left : Option (List ℕ)) (command : Command) (callbacks : ℕ) (status : Status) → status ≡ Memory → IfSome left (λ (bytes : List ℕ). IsWhole command callbacks bytes status)
 short_whole None command callbacks status is = tt
 short_whole (Some bytes) command callbacks status is = subst (λ (s : Status). IsWhole command callbacks bytes s) (sym is) (memory_whole command callbacks bytes)
+
+-- any command may lack memory
+memory_possible : (command : Command) → MayEnd command Memory
+memory_possible Serial = tt
+memory_possible Threads = tt
+memory_possible Table = tt
+memory_possible Check = λ e. cc
+memory_possible Migrate = λ e. cc
+memory_possible Json = λ e. cc
+memory_possible Forecast = λ e. cc
+memory_possible Continue = tt
+memory_possible (Recur words) = λ e. cc
+memory_possible (Soak words) = tt
+
+pub short_possible : (command : Command) (status : Status) → status ≡ Memory → MayEnd command status
+short_possible command status is = subst (MayEnd command) (sym is) (memory_possible command)
 
 pub short_front : {B : Type 0} (counted : B → ℕ) (told : B → Option (List Notification)) (left : Option (List ℕ)) (callbacks after : List B) → after ≡ callbacks
     → IfSome left (λ (bytes : List ℕ). (script : Script) → IsScriptText mode.Serial bytes script → HearFront counted told script.config (serial_play script).entries callbacks after)

@@ -1,6 +1,4 @@
 pub mod Asked
-pub mod Kept
-pub mod Played
 pub mod Ran
-pub mod Somes
+pub mod Soaked
 pub mod Texts

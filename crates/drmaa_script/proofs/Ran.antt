@@ -17,8 +17,8 @@ use Rattle.thread_play.specs.Hubs.{HearRun}
 use Rattle.thread_play.specs.Runs.{IsWhole}
 use Rattle.journal_commands.specs.declared.status.Status.{Status}
 use Rattle.journal_commands.specs.declared.status.Status.TheVariants.{Done, Text, Words, ReadFault, WriteFault, Memory, JournalFull, NotLegal}
-use Rattle.drmaa_script.specs.Outcomes.{IsScriptText}
-use Rattle.drmaa_script.specs.Registers.{registers_of}
+use Rattle.script_commands.specs.Outcomes.{IsScriptText, IsOfScript}
+use Rattle.script_commands.specs.Registers.{registers_of}
 use Rattle.drmaa_script.specs.Running.{IsTextOfRun, RanEnds}
 use Rattle.drmaa_script.specs.Runs.{RunEnds, IsRunEnd, LeavesClocks}
 use Rattle.journal_commands.specs.Statuses.{IsUnread, ended_as}
@@ -121,3 +121,14 @@ ended_clocks (Some size) = tt
 pub ran_no_fault : {C : Type 0} (given : C → Option (List ℕ)) (s : Script) (old new : Option (List ℕ)) (asked asked_after : Option (List Asked)) (fate : ℕ → Fate) (clocks : List C) (callbacks : ℕ) (hears : List Entry → Type 0) (status : Status)
     → RanEnds given s callbacks hears old new asked asked_after fate clocks status → status ≡ ReadFault → ⊥
 ran_no_fault given s old new asked asked_after fate clocks callbacks hears status ends is = subst (λ (x : Status). RanEnds given s callbacks hears old new asked asked_after fate clocks x) is ends
+
+pub ran_possible : {C : Type 0} (given : C → Option (List ℕ)) (s : Script) (old new : Option (List ℕ)) (asked asked_after : Option (List Asked)) (fate : ℕ → Fate) (clocks : List C) (callbacks : ℕ) (hears : List Entry → Type 0) (status : Status)
+    → RanEnds given s callbacks hears old new asked asked_after fate clocks status → IsOfScript status
+ran_possible given s old new asked asked_after fate clocks callbacks hears Done ends = tt
+ran_possible given s old new asked asked_after fate clocks callbacks hears (Text line) ends = tt
+ran_possible given s old new asked asked_after fate clocks callbacks hears Words ends = tt
+ran_possible given s old new asked asked_after fate clocks callbacks hears ReadFault ends = tt
+ran_possible given s old new asked asked_after fate clocks callbacks hears WriteFault ends = tt
+ran_possible given s old new asked asked_after fate clocks callbacks hears Memory ends = tt
+ran_possible given s old new asked asked_after fate clocks callbacks hears (JournalFull size) ends = tt
+ran_possible given s old new asked asked_after fate clocks callbacks hears (NotLegal entry was machine) ends = ends

@@ -9,7 +9,7 @@ use Rattle.script_text.specs.declared.scripts.Script.{Script}
 use Rattle.journal_text.specs.Journals.{journal_text}
 use Rattle.journal_commands.specs.declared.status.Status.{Status}
 use Rattle.journal_commands.specs.declared.status.Status.TheVariants.{Done, Text, Words, ReadFault, WriteFault, Memory, JournalFull, NotLegal}
-use Rattle.drmaa_script.specs.Registers.{registers_of}
+use Rattle.script_commands.specs.Registers.{registers_of}
 use Rattle.drmaa_script.specs.Runs.{IsRunOf}
 
 -- The bytes are the journal of a run.

@@ -30,8 +30,8 @@ use Rattle.text_lines.specs.Lines.{IsFirstBad}
 use Rattle.thread_play.specs.Runs.{launcher_of, reaper_of, hub_of, names_given, IsSettledAt, HasRun}
 use Rattle.journal_commands.specs.declared.status.Status.{Status}
 use Rattle.journal_commands.specs.declared.status.Status.TheVariants.{Done, Text, Words, ReadFault, WriteFault, Memory, JournalFull, NotLegal}
-use Rattle.drmaa_script.specs.Outcomes.{SpellsScript, IsScriptText}
-use Rattle.drmaa_script.specs.Registers.{registers_of}
+use Rattle.script_commands.specs.Outcomes.{SpellsScript, IsScriptText}
+use Rattle.script_commands.specs.Registers.{registers_of}
 use Rattle.journal_commands.specs.Statuses.{IsRefused}
 
 -- Whatever script is read and however its clients, launcher and reaper interleave, the program writes one journal: each client's calls

@@ -8,16 +8,18 @@ ghost use Rattle.script_asks.specs.Plays.{serial_play};
 ghost use Rattle.script_play.specs.Callbacks.{HearHistory, HearFront};
 ghost use Rattle.script_text.specs.declared.scripts.Mode.TheVariants as mode;
 ghost use Rattle.script_text.specs.declared.scripts.Script.{Script};
-ghost use Rattle.command_words.specs.Commands.{begins_dash};
+ghost use Rattle.command_words.specs.Commands.{IsRanged, begins_dash};
+ghost use Rattle.command_words.specs.declared.commands.SoakWords.{SoakWords};
 ghost use Rattle.journal_commands.specs.Outcomes.{JournalEnds, JournalIsWhole};
 ghost use Rattle.drmaa_script.specs.Commands.{Asks, CanRun, NamesNone};
-ghost use Rattle.drmaa_script.specs.Endings.{Ends, IsWhole, limit_of, WritesJournal, HandsClocks, Starts};
-ghost use Rattle.drmaa_script.specs.Outcomes.{IsScriptText, IsWritten};
-ghost use Rattle.drmaa_script.specs.Registers.{PlaysAlone, ReadsJournal, HasPlayed, AreKept};
+ghost use Rattle.drmaa_script.specs.Soaking.{SoakEnds};
+ghost use Rattle.drmaa_script.specs.Endings.{Ends, IsWhole, MayEnd, PlaysAlone, IsDeaf, Reads, limit_of, WritesJournal, HandsClocks, Starts};
+ghost use Rattle.script_commands.specs.Outcomes.{IsScriptText, IsWritten};
+ghost use Rattle.script_commands.specs.Registers.{HasPlayed, AreKept};
 ghost use Rattle.journal_commands.specs.Statuses.{IsQuiet, HasRead, HasWritten, IsUnstarted};
 
-use crate::outcomes::{Ended, Outcome, without_clocks};
-use crate::plays::{Output, run_play};
+use crate::outcomes::{Outcome, without_clocks};
+use crate::soaks::run_soak;
 use crate::threads::run_threads;
 use byte_streams::{Sink, Source};
 use call_history::Bell;
@@ -29,6 +31,7 @@ use journal_commands::{
     run_journal,
 };
 use notify_hub::{Callback, Callbacks};
+use script_commands::{Ended, Output, run_continue, run_play};
 use std::alloc::{AllocError, Global};
 use std::sync::Wait;
 use std::thread::Threads;
@@ -105,11 +108,15 @@ fn run_command<
     bell: &Bell,
     callbacks: Callbacks<B>,
 ) -> Outcome<K::One, B>
+    requires ranged { IsRanged command }
     ensures ends { IfSome (R.left source.old) (λ bytes. Ends B.counted B.told K.One.given command bytes (W.written sink.old) (W.written sink.new)
         (S.asked spawner.old) (S.asked spawner.new) (S.fate spawner.new) result.clocks callbacks result.callbacks result.status) }
+    ensures possible { MayEnd command result.status }
+    ensures soaks { (soak : SoakWords) → command ≡ Command.Soak soak → SoakEnds soak (W.written sink.old) (W.written sink.new) result.status }
+    ensures unread { (soak : SoakWords) → command ≡ Command.Soak soak → source.new ≡ source.old }
     ensures words { result.status ≡ Status.Words → IsAtEnd (R.left source.new) }
-    ensures read_whole { HasRead result.status → IsAtEnd (R.left source.new) }
-    ensures read_out { (line : ℕ) → result.status ≡ Status.Text line → IsReadOut (limit_of command) (R.left source.old) (R.left source.new) }
+    ensures read_whole { Reads command → HasRead result.status → IsAtEnd (R.left source.new) }
+    ensures read_out { (line : ℕ) → Reads command → result.status ≡ Status.Text line → IsReadOut (limit_of command) (R.left source.old) (R.left source.new) }
     ensures finished { HasWritten result.status → W.finished sink.new }
     ensures read_fault { result.status ≡ Status.ReadFault → Rose (R.faults source.old) (R.faults source.new) }
     ensures write_fault { result.status ≡ Status.WriteFault → Rose (W.faults sink.old) (W.faults sink.new) }
@@ -127,7 +134,7 @@ fn run_command<
         → HearFront B.counted B.told script.config (serial_play script).entries callbacks result.callbacks) }
     ensures kept { AreKept B.counted B.told callbacks result.callbacks }
     ensures unheard { IsUnstarted result.status → result.callbacks ≡ callbacks }
-    ensures deaf { ReadsJournal command → result.callbacks ≡ callbacks }
+    ensures deaf { IsDeaf command → result.callbacks ≡ callbacks }
 {
     match command {
         Command::Serial => without_clocks(
@@ -139,6 +146,7 @@ fn run_command<
             alloc,
             run_play(alloc, Output::Listing, source, sink, callbacks),
         ),
+        Command::Continue => { without_clocks(alloc, run_continue(alloc, source, sink, callbacks)) }
         Command::Check => run_deaf(alloc, OfLegal { command: Check }, source, sink, callbacks),
         Command::Migrate => run_deaf(alloc, Migrate, source, sink, callbacks),
         Command::Json => run_deaf(alloc, Json, source, sink, callbacks),
@@ -158,6 +166,10 @@ fn run_command<
             sink,
             callbacks,
         ),
+        Command::Soak(words) => {
+            let status = run_soak(alloc, &words, sink);
+            without_clocks(alloc, Ended { status, callbacks })
+        }
     }
 }
 
@@ -177,7 +189,10 @@ fn unbegun<C, B: Callback>(alloc: Global, status: Status, callbacks: Callbacks<B
 /// journal. Where the play stops for the journal's size, all three write the journal of the entries made. `check`, `migrate`, `json`,
 /// `forecast` and `recur` read a journal of either version: `check` writes how many entries it has, where it is legal; `migrate`
 /// writes it as version 2 and `json` its JSON form, legal or not; `forecast` writes when the jobs that wait would start, and `recur`
-/// the journal with requests of reservations that recur, where it is legal. With `threads` it may wait for good.
+/// the journal with requests of reservations that recur, where it is legal. `continue` reads a journal and behind it a script of the
+/// same machine and queues, plays the script on the machine that goes on from the journal, and writes the journal of all that this
+/// machine has served then. `soak` reads nothing: it makes a script of so many steps, by numbers drawn from a seed, plays it on one
+/// thread, and writes what came of it in numbers. With `threads` it may wait for good.
 ///
 /// A callback hears each change of a job's state behind the `register` line that is answered its number: the nth callback behind the
 /// nth such line, for the first 64. A script with more such lines than there are callbacks is not played: the status is Words.
@@ -206,8 +221,8 @@ pub fn run<
     ensures ends { (command : Command) → Asks words.now command
         → IfSome (R.left source.old) (λ bytes. Ends B.counted B.told K.One.given command bytes (W.written sink.old) (W.written sink.new)
         (S.asked spawner.old) (S.asked spawner.new) (S.fate spawner.new) result.clocks callbacks result.callbacks result.status) }
-    ensures read_whole { HasRead result.status → IsAtEnd (R.left source.new) }
-    ensures read_out { (command : Command) (line : ℕ) → Asks words.now command → result.status ≡ Status.Text line
+    ensures read_whole { (command : Command) → Asks words.now command → Reads command → HasRead result.status → IsAtEnd (R.left source.new) }
+    ensures read_out { (command : Command) (line : ℕ) → Asks words.now command → Reads command → result.status ≡ Status.Text line
         → IsReadOut (limit_of command) (R.left source.old) (R.left source.new) }
     ensures finished { HasWritten result.status → W.finished sink.new }
     ensures untouched { IsQuiet result.status → sink.new ≡ sink.old }
@@ -219,6 +234,11 @@ pub fn run<
     ensures wordless { words.now ≡ [] → result.status ≡ Status.Words }
     ensures unread { NamesNone words.now → source.new ≡ source.old }
     ensures words_read { result.status ≡ Status.Words → NamesNone words.now ⊎ IsAtEnd (R.left source.new) }
+
+    // What `soak` comes to, which reads nothing; and what each command can come to at all, whatever the source tells.
+    ensures soaks { (soak : SoakWords) → Asks words.now (Command.Soak soak) → SoakEnds soak (W.written sink.old) (W.written sink.new) result.status }
+    ensures unread_soak { (soak : SoakWords) → Asks words.now (Command.Soak soak) → source.new ≡ source.old }
+    ensures possible { (command : Command) → Asks words.now command → MayEnd command result.status }
 
     // The causes of faults.
     ensures read_fault { result.status ≡ Status.ReadFault → Rose (R.faults source.old) (R.faults source.new) }
@@ -252,7 +272,7 @@ pub fn run<
     ensures kept { AreKept B.counted B.told callbacks result.callbacks }
     ensures unheard { IsUnstarted result.status → result.callbacks ≡ callbacks }
     ensures unnamed { NamesNone words.now → result.callbacks ≡ callbacks }
-    ensures deaf { (command : Command) → Asks words.now command → ReadsJournal command → result.callbacks ≡ callbacks }
+    ensures deaf { (command : Command) → Asks words.now command → IsDeaf command → result.callbacks ≡ callbacks }
 {
     match command_in(alloc, words) {
         Ok(Some(command)) => run_command(

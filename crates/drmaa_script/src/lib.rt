@@ -4,15 +4,13 @@
 
 mod clocks;
 mod commands;
-mod inputs;
 mod outcomes;
-mod plays;
 mod printed;
-mod registers;
+mod soaks;
 mod threads;
 
 pub use clocks::{SystemClock, SystemClocks};
-pub use command_words::{Command, RecurWords, Unit};
+pub use command_words::{Command, RecurWords, SoakWords, Unit};
 pub use commands::run;
 pub use journal_commands::{Status, migrating_keeps_the_journal};
 pub use outcomes::Outcome;

@@ -3,6 +3,7 @@ ghost use Rattle.std.specs.Prelude.{◌≡◌, []};
 
 use journal_commands::Status;
 use notify_hub::Callbacks;
+use script_commands::Ended;
 use std::alloc::Global;
 use thread_play::ClockList;
 
@@ -14,13 +15,6 @@ pub struct Outcome<C, B> {
     pub status: Status,
     pub callbacks: Callbacks<B>,
     pub clocks: ClockList<C>,
-}
-
-/// How a command ended that has no clocks, and the callbacks.
-#[derive(Drop)]
-pub(crate) struct Ended<B> {
-    pub status: Status,
-    pub callbacks: Callbacks<B>,
 }
 
 /// A run without callers of its own.

@@ -7,15 +7,13 @@ ghost use Rattle.script_play.specs.Callbacks.{HearHistory};
 ghost use Rattle.script_text.specs.declared.scripts.Mode.TheVariants as mode;
 ghost use Rattle.thread_play.specs.Hubs.{HearRun};
 ghost use Rattle.journal_commands.specs.Texts.{IsReadOut};
-ghost use Rattle.drmaa_script.specs.Outcomes.{IsSpelled};
-ghost use Rattle.drmaa_script.specs.Registers.{registers_of, AreKept};
+ghost use Rattle.script_commands.specs.Outcomes.{IsSpelled, IsOfScript};
+ghost use Rattle.script_commands.specs.Registers.{registers_of, AreKept};
 ghost use Rattle.drmaa_script.specs.Runs.{RunEnds, RunIsWhole, LeavesClocks, IsRunEnd};
 ghost use Rattle.drmaa_script.specs.Running.{IsTextOfRun, RanEnds};
 ghost use Rattle.journal_commands.specs.Statuses.{IsQuiet, HasRead, HasWritten, IsUnstarted};
 
-use crate::inputs::read_script;
 use crate::outcomes::Outcome;
-use crate::registers::are_enough;
 use byte_streams::{Sink, Source, write_all};
 use call_history::Bell;
 use child_spawner::Spawner;
@@ -23,6 +21,7 @@ use drmaa_types::{Bytes, Clocks};
 use journal_commands::{Status, ended_as};
 use journal_text::journal_bytes;
 use notify_hub::{Callback, Callbacks, Hub};
+use script_commands::{are_enough, read_script};
 use script_text::{Mode, Script};
 use std::alloc::{AllocError, Global};
 use std::sync::Wait;
@@ -158,6 +157,7 @@ fn run_to<
     callbacks: Callbacks<B>,
 ) -> Outcome<K::One, B>
     requires { IsSpelled mode.Threads script.now }
+    ensures possible { IsOfScript result.status }
     ensures ends { RanEnds K.One.given script.now (length callbacks) (λ history. HearHistory B.counted B.told script.now.config history callbacks result.callbacks)
         (W.written sink.old) (W.written sink.new) (S.asked spawner.old) (S.asked spawner.new) (S.fate spawner.new) result.clocks result.status }
     ensures finished { HasWritten result.status → W.finished sink.new }
@@ -218,6 +218,7 @@ pub fn run_threads<
 ) -> Outcome<K::One, B>
     ensures ends { IfSome (R.left source.old) (λ bytes. RunEnds B.counted B.told K.One.given bytes (W.written sink.old) (W.written sink.new)
         (S.asked spawner.old) (S.asked spawner.new) (S.fate spawner.new) result.clocks callbacks result.callbacks result.status) }
+    ensures possible { IsOfScript result.status }
     ensures words { result.status ≡ Status.Words → IsAtEnd (R.left source.new) }
     ensures read_whole { HasRead result.status → IsAtEnd (R.left source.new) }
     ensures read_out { (line : ℕ) → result.status ≡ Status.Text line → IsReadOut 16_777_216 (R.left source.old) (R.left source.new) }

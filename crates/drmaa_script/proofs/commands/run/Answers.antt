@@ -1,9 +1,10 @@
-use Rattle.std.proofs.Common.{length, subst}
-use Rattle.std.specs.Prelude.{IfSome}
+use Rattle.std.proofs.Common.{length, Option, subst}
+use Rattle.std.specs.Prelude.{IfSome, MatchOption}
 use Rattle.command_words.specs.declared.commands.Command.{Command}
+use Rattle.command_words.specs.declared.commands.Command.TheVariants.{Soak}
 use Rattle.drmaa_script.specs.Commands.{Asks, NamesNone}
-use Rattle.drmaa_script.specs.Endings.{Ends, IsWhole}
-use Rattle.drmaa_script.proofs.Asked.{the_command, found_is, short_whole, short_front}
+use Rattle.drmaa_script.specs.Endings.{Ends, IsWhole, MayEnd}
+use Rattle.drmaa_script.proofs.Asked.{the_command, found_is, short_whole, short_possible, short_front}
 use Rattle.drmaa_script.proofs.commands.run.Goals as goal
 
 pub returns-in-Ok-Some-clause-ends : goal.returns-in-Ok-Some-clause-ends
@@ -25,3 +26,21 @@ returns-in-Err-clause-whole g c = λ command asks calm quiet. short_whole (g.R.S
 pub returns-in-Err-clause-heard_front : goal.returns-in-Err-clause-heard_front
 returns-in-Err-clause-heard_front g c = λ command asks alone short.
     short_front g.B.Callback.counted g.B.Callback.told (g.R.Source.left c.args.source.now) c.args.callbacks c.unbegun-in-Err.result.callbacks c.unbegun-in-Err.ensures.deaf
+
+pub returns-in-Ok-Some-clause-possible : goal.returns-in-Ok-Some-clause-possible
+returns-in-Ok-Some-clause-possible g c = λ command asks.
+    let found : Asks c.args.words.now c.in-Ok-Some.command = found_is c.in-Ok-Some.field-0 c.in-Ok-Some.command (NamesNone c.args.words.now) (Asks c.args.words.now) c.in-Ok-Some.field-0-is c.in-Ok-Some.ensures.named in
+    subst (λ (k : Command). MayEnd k c.run_command.result.status) (the_command c.args.words.now c.in-Ok-Some.command command found asks) c.run_command.ensures.possible
+
+pub returns-in-Err-clause-possible : goal.returns-in-Err-clause-possible
+returns-in-Err-clause-possible g c = λ command asks. short_possible command c.unbegun-in-Err.result.status c.unbegun-in-Err.ensures.status
+
+pub returns-in-Ok-Some-clause-soaks : goal.returns-in-Ok-Some-clause-soaks
+returns-in-Ok-Some-clause-soaks g c = λ soak asks.
+    let found : Asks c.args.words.now c.in-Ok-Some.command = found_is c.in-Ok-Some.field-0 c.in-Ok-Some.command (NamesNone c.args.words.now) (Asks c.args.words.now) c.in-Ok-Some.field-0-is c.in-Ok-Some.ensures.named in
+    c.run_command.ensures.soaks soak (the_command c.args.words.now c.in-Ok-Some.command (Soak soak) found asks)
+
+pub returns-in-Ok-None-clause-soaks : goal.returns-in-Ok-None-clause-soaks
+returns-in-Ok-None-clause-soaks g c = λ soak asks.
+    let none : NamesNone c.args.words.now = subst (λ (o : Option Command). MatchOption o (NamesNone c.args.words.now) (Asks c.args.words.now)) c.in-Ok-None.field-0-is c.in-Ok-None.ensures.named in
+    absurd (none (Soak soak) asks)

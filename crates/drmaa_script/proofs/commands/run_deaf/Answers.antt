@@ -1,6 +1,6 @@
 use Rattle.std.proofs.Common.{List, sym, subst}
-use Rattle.drmaa_script.specs.Registers.{AreKept}
-use Rattle.drmaa_script.proofs.Kept.{kept_same}
+use Rattle.script_commands.specs.Registers.{AreKept}
+use Rattle.script_commands.proofs.Kept.{kept_same}
 use Rattle.drmaa_script.proofs.commands.run_deaf.Goals as goal
 
 pub returns-clause-kept : goal.returns-clause-kept

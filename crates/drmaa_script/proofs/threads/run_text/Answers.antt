@@ -1,7 +1,7 @@
 use Rattle.std.proofs.Common.{◌∙◌}
 use Rattle.thread_play.specs.Hubs.{HearRun}
 use Rattle.drmaa_script.proofs.Texts.{printed_run}
-use Rattle.drmaa_script.proofs.Somes.{ok_of}
+use Rattle.script_commands.proofs.Somes.{ok_of}
 use Rattle.drmaa_script.proofs.threads.run_text.Goals as goal
 
 pub returns-clause-text : goal.returns-clause-text

@@ -5,13 +5,14 @@ use Rattle.script_text.specs.declared.scripts.Script.{Script}
 use Rattle.text_lines.specs.Lines.{IsFirstBad}
 use Rattle.journal_commands.specs.declared.status.Status.{Status}
 use Rattle.journal_commands.specs.declared.status.Status.TheVariants.{Text, Words, ReadFault, Memory}
-use Rattle.drmaa_script.specs.Outcomes.{SpellsScript, IsScriptText}
+use Rattle.script_commands.specs.Outcomes.{SpellsScript, IsScriptText}
 use Rattle.drmaa_script.specs.Runs.{RunIsWhole, IsRunEnd}
-use Rattle.drmaa_script.specs.Registers.{registers_of}
-use Rattle.drmaa_script.proofs.Kept.{kept_same}
+use Rattle.script_commands.specs.Registers.{registers_of}
+use Rattle.script_commands.proofs.Kept.{kept_same}
 use Rattle.journal_commands.specs.StatusLaws.{unread_words, unread_reads, unread_written, unread_writes, unread_refused}
+use Rattle.script_commands.proofs.Played.{unread_possible}
 use Rattle.drmaa_script.proofs.Ran.{unread_run, ran_ends, ran_no_fault}
-use Rattle.drmaa_script.proofs.Somes.{some_both, some_all}
+use Rattle.script_commands.proofs.Somes.{some_both, some_all}
 use Rattle.drmaa_script.proofs.threads.run_threads.Goals as goal
 
 err_is : (a b : Status) → a ≡ b → ◌≡◌ {A = Result Script Status} (Err a) (Err b)
@@ -86,3 +87,6 @@ returns-in-Err-clause-whole g c = λ calm quiet.
 
 pub returns-in-Err-clause-kept : goal.returns-in-Err-clause-kept
 returns-in-Err-clause-kept g c = kept_same g.B.Callback.counted g.B.Callback.told c.args.callbacks
+
+pub returns-in-Err-clause-possible : goal.returns-in-Err-clause-possible
+returns-in-Err-clause-possible g c = unread_possible c.in-Err.status c.in-Err.ensures.causes

@@ -4,8 +4,8 @@ use Rattle.notify_hub.specs.Hubs.{Following}
 use Rattle.script_play.specs.Callbacks.{HearHistory}
 use Rattle.thread_play.specs.Hubs.{HearRun}
 use Rattle.drmaa_script.specs.Running.{RanEnds}
-use Rattle.drmaa_script.proofs.Kept.{kept_heard}
-use Rattle.drmaa_script.proofs.Ran.{ran_heard, hub_hears}
+use Rattle.script_commands.proofs.Kept.{kept_heard}
+use Rattle.drmaa_script.proofs.Ran.{ran_heard, ran_possible, hub_hears}
 use Rattle.drmaa_script.proofs.threads.run_to.Goals as goal
 
 pub returns-clause-ends : goal.returns-clause-ends
@@ -29,3 +29,8 @@ pub returns-clause-kept : goal.returns-clause-kept
 returns-clause-kept g c =
     let begun = c.write_run-status.ensures.begun ∙ ap (λ (h : Following g.row.B.Denot). h.ears.begun) c.in-Ok.ensures.ok in
     kept_heard g.B.Callback.counted g.B.Callback.told c.write_run-status.new.hub.ears c.args.callbacks c.take_back.result (c.write_run-status.ensures.heard c.in-Ok.ensures.heard) begun c.take_back.ensures.callbacks
+
+pub returns-clause-possible : goal.returns-clause-possible
+returns-clause-possible g c =
+    ran_possible g.K.One.Clock.given c.args.script.now (g.W.Sink.written c.args.sink.now) (g.W.Sink.written c.write_run-status.new.sink) (g.S.Spawner.asked c.args.spawner.now) (g.S.Spawner.asked c.write_run-status.new.spawner)
+    (g.S.Spawner.fate c.write_run-status.new.spawner) c.write_run-status.result.clocks _ _ c.write_run-status.result.status c.write_run-status.ensures.ends

@@ -1,7 +1,0 @@
-use Rattle.std.proofs.Common.{◌≡◌, ◌+◌, drop}
-use Rattle.drmaa_script.specs.Registers.{registers_in}
-use Rattle.drmaa_script.proofs.registers.left_behind.Given as goal
-
--- those of the lines that are left are not yet taken
-abbrev pub invariant-loop-line : goal.invariant-loop-line
-invariant-loop-line l = l.callbacks + registers_in (drop l.line-index l.lines) ≡ l.left + registers_in l.lines

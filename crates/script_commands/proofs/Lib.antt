@@ -1,0 +1,5 @@
+pub mod Continuing
+pub mod Kept
+pub mod Played
+pub mod Somes
+pub mod Went

@@ -1,0 +1,4 @@
+pub mod Continuing
+pub mod Outcomes
+pub mod Plays
+pub mod Registers
