@@ -2,7 +2,8 @@
 use call_history::{Call, Reply};
 use drmaa_model::Target;
 use drmaa_types::{
-    AttributeList, Boxed, Control, Exit, JobId, JobState, ListOf, SessionId, Text, TextList,
+    AttributeList, Boxed, Control, Exit, JobId, JobState, ListOf, Refusal, SessionId, SignalKind,
+    Text, TextList,
 };
 use job_template::JobTemplate;
 use std::alloc::Global;
@@ -19,6 +20,8 @@ pub enum Ask {
     TakeLaunch,
     Started(u64),
     Exited(u64, Exit),
+    TakeSignal,
+    KillDone(u64),
 }
 
 /// What a reply says.
@@ -29,6 +32,9 @@ pub enum Said {
     Job(u64),
     State(JobState),
     Launch(u64, u32),
+    Kill(u64),
+    /// The job's state does not permit it.
+    InState(JobState),
 }
 
 /// A text. Where memory is wanting it is empty, and then no test passes.
@@ -88,6 +94,12 @@ pub fn plain_call(ask: Ask) -> Call {
             attempt: 1,
             exit,
         },
+        Ask::TakeSignal => Call::TakeSignal,
+        Ask::KillDone(job) => Call::SignalDone {
+            job: JobId(job),
+            attempt: 1,
+            kind: SignalKind::Kill,
+        },
         _ => Call::TakeLaunch,
     }
 }
@@ -129,6 +141,8 @@ fn says(reply: &Reply, said: Said) -> bool {
         Said::Job(number) => matches!(reply, Reply::Job(job) if job.0 == number),
         Said::State(state) => matches!(reply, Reply::State(told) if *told == state),
         Said::Launch(job, attempt) => is_launch(reply, job, attempt),
+        Said::Kill(job) => is_kill(reply, job),
+        Said::InState(state) => is_in_state(reply, state),
     }
 }
 
@@ -137,4 +151,15 @@ fn is_launch(reply: &Reply, job: u64, attempt: u32) -> bool {
         Reply::Launch(launch) => launch.job.0 == job && launch.attempt == attempt,
         _ => false,
     }
+}
+
+fn is_kill(reply: &Reply, job: u64) -> bool {
+    match reply {
+        Reply::Signal(signal) => signal.job.0 == job && signal.kind == SignalKind::Kill,
+        _ => false,
+    }
+}
+
+fn is_in_state(reply: &Reply, state: JobState) -> bool {
+    matches!(reply, Reply::Refused(Refusal::InvalidState(told)) if *told == state)
 }

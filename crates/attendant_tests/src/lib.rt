@@ -14,6 +14,8 @@ mod orders;
 #[cfg(test)]
 mod playing;
 #[cfg(test)]
+mod rooms;
+#[cfg(test)]
 mod stages;
 #[cfg(test)]
 mod starts;

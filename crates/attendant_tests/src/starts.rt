@@ -78,7 +78,8 @@ const A_RERUNNABLE_START_IS_TRIED_THREE_TIMES: Play = Play {
     asked: &[(1, 1, false), (1, 2, false), (1, 3, false)],
 };
 
-/// A rerunnable job that ends with the code 99 is launched again, and each end is reported of its own attempt.
+/// A rerunnable job that ends with the code 99 is launched again, and each end is reported of its own attempt. A report of the first
+/// attempt that comes late is refused.
 const A_SECOND_ATTEMPT_HAS_ITS_OWN_END: Play = Play {
     about: "a second attempt has its own end",
     journal: 4_000_000,
@@ -94,6 +95,11 @@ const A_SECOND_ATTEMPT_HAS_ITS_OWN_END: Play = Play {
         Step::Reaps(1),
         Step::Client(Ask::State(1), Said::State(JobState::Requeued)),
         Step::Launches(1),
+        Step::Client(
+            Ask::Exited(1, Exit::Code(0)),
+            Said::InState(JobState::Running),
+        ),
+        Step::Client(Ask::State(1), Said::State(JobState::Running)),
         Step::Reaps(1),
         Step::Client(Ask::State(1), Said::State(JobState::Done)),
     ],

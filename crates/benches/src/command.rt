@@ -25,6 +25,7 @@ pub fn only_number(words: &[String]) -> Option<usize> {
 /// What is measured.
 #[derive(Clone, Copy)]
 pub enum Subject {
+    Memory,
     Parts,
     Threads,
 }
@@ -33,6 +34,7 @@ impl Subject {
     /// The one that the program's first word names.
     pub fn of_word(word: &String) -> Option<Subject> {
         match word.as_str() {
+            "memory" => Some(Subject::Memory),
             "parts" => Some(Subject::Parts),
             "threads" => Some(Subject::Threads),
             _ => None,
@@ -63,7 +65,9 @@ impl Ending {
             Ending::Done => Ok(ExitCode::SUCCESS),
             Ending::Undone => Ok(ExitCode::FAILURE),
             Ending::UnknownWords => {
-                eprintln!(rt; "usage: benches parts COUNT, or threads COUNT")?;
+                eprintln!(rt;
+                    "usage: benches parts COUNT, threads COUNT, or memory journal or hub"
+                )?;
                 Ok(ExitCode::from(UNKNOWN_WORDS))
             }
         }

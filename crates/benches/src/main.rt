@@ -1,8 +1,9 @@
-//! Measures what its first word names, and prints figures: `benches parts COUNT` or `benches threads COUNT`. Without words it does
-//! nothing.
+//! Measures what its first word names, and prints figures: `benches parts COUNT` or `benches threads COUNT`; or makes calls for a run in
+//! which an allocation is refused: `benches memory journal` or `benches memory hub`. Without words it does nothing.
 #![tactic(auto)]
 
 mod command;
+mod memory;
 mod parts;
 mod threads;
 mod watch;
@@ -17,6 +18,7 @@ fn main(rt: HostRuntime) -> io::Result<ExitCode> {
         return Ok(ExitCode::SUCCESS);
     };
     let ending = match Subject::of_word(first) {
+        Some(Subject::Memory) => memory::measure(rt, words),
         Some(Subject::Parts) => parts::measure(rt, words),
         Some(Subject::Threads) => threads::measure(&rt, rt, words),
         None => Ok(Ending::UnknownWords),

@@ -2,6 +2,8 @@
 #![tactic(auto)]
 
 #[cfg(test)]
+mod fates;
+#[cfg(test)]
 mod flags;
 #[cfg(test)]
 mod heard;

@@ -1,5 +1,5 @@
 //! Scripts for threads, with a spawner that starts nothing.
-use crate::settings::{is_legal, numbers, sink, source, spawner, times};
+use crate::settings::{has_begun, is_legal, numbers, sink, source, spawner, times};
 use byte_streams::MemorySink;
 use child_spawner::MemorySpawner;
 use std::alloc::Global;
@@ -9,7 +9,7 @@ use std::thread::Threads;
 use std::time::Clock as Pause;
 
 /// Two clients of a session that setup has made: each runs a job, waits for its end, asks for its information and reaps it.
-const NIGHTLY: &str =
+pub const NIGHTLY: &str =
     "machine 4 \"node1\" suspend\ntemplate t\ncommand \"sh\"\narg \"-c\"\narg \"exit 0\"\ndirectory \"/tmp\"\noutput \"out.txt\"\nenv \"A\" \"b\"\nminslots 1\nlimit WALLCLOCK_TIME 3600\nend\nsetup\ncreate-jobs z \"nightly\"\nend\nclient\nopen-jobs s \"nightly\"\nrun j s t\nwait-terminated s infinite j\ninfo s j\nreap s j\nend\nclient\nopen-jobs s \"nightly\"\nrun j s t\nwait-terminated s infinite j\ninfo s j\nreap s j\nend\n";
 
 /// A machine, and nobody who calls it.
@@ -25,20 +25,6 @@ fn ran<E: Threads + Wait + Pause + Sync>(
 ) -> (u8, usize) {
     let mut source = source(alloc, text.as_bytes(), &[]);
     numbers(rt, alloc, "threads", &mut source, sink, spawner)
-}
-
-/// Whether these starts were asked for, by whether they began.
-fn has_begun(spawner: &MemorySpawner, begun: &[bool]) -> bool {
-    let asked = spawner.asked();
-    if !spawner.told() || asked.len() != begun.len() {
-        return false;
-    }
-    for (one, began) in asked.iter().zip(begun.iter()) {
-        if one.began != *began {
-            return false;
-        }
-    }
-    true
 }
 
 /// How many infos the journal has, how many of them are of a job that is done, how many notes, and how many of these are that a

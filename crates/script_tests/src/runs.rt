@@ -18,6 +18,35 @@ const OLD_JOURNAL: &str =
 
 const TABLE: &str = "       job state         slots name\n         1 DONE              1 -\n";
 
+/// The JSON form of the journal.
+const FORM: &str =
+    "{\"entries\":[{\"at\":0,\"call\":\"create-jobs \\\"s\\\"\",\"caller\":1,\"n\":1,\"reply\":\"session 1\"},{\"at\":0,\"call\":\"run 1 {command \\\"true\\\"}\",\"caller\":1,\"n\":2,\"reply\":\"job 1\"},{\"at\":0,\"call\":\"launch\",\"caller\":2,\"n\":3,\"reply\":\"launch 1 1 1 [\\\"\\\" \\\"\\\" \\\"\\\" \\\"\\\" \\\"apart\\\" \\\"0\\\" \\\"true\\\"]\"},{\"at\":0,\"call\":\"exit 1 1 code 0\",\"caller\":3,\"n\":4,\"reply\":\"ok\"},{\"at\":0,\"call\":\"state 1 1\",\"caller\":1,\"n\":5,\"reply\":\"state DONE\"}],\"machine\":{\"name\":\"node1\",\"queues\":[],\"slots\":4,\"suspend\":true}}\n";
+
+/// Ten jobs wait, each for one of four slots and for ten seconds.
+const WAITING: &str =
+    "drmaa-journal 2 4 \"node1\" suspend []\n1 1 @0 create-jobs \"s\" = session 1\n2 1 @0 bulk 1 {command \"true\" limit WALLCLOCK_TIME 10} 1 10 1 - = array 1 1 10\nend 2\n";
+
+/// When they start.
+const STARTS: &str =
+    "1 @0 1\n2 @0 1\n3 @0 1\n4 @0 1\n5 @10 1\n6 @10 1\n7 @10 1\n8 @10 1\n9 @20 1\n10 @20 1\nstarts 10\n";
+
+/// Three reservations, a month apart from 31 January 2025 on, on a machine with a session for them.
+const MONTHLY: &str = "recur q months 1 3 @1738281600 3600 2";
+
+const SESSION: &str =
+    "drmaa-journal 2 4 \"node1\" suspend []\n1 1 @0 create-reservations \"q\" = session 1\nend 1\n";
+
+const RESERVED: &str =
+    "drmaa-journal 2 4 \"node1\" suspend []\n1 1 @0 create-reservations \"q\" = session 1\n2 0 @0 open-reservations \"q\" = session 2\n3 0 @0 reserve 2 {start @1738281600 duration 3600 minslots 2} = reserved 1 2 @1738281600 @1738285200\n4 0 @0 reserve 2 {start @1740700800 duration 3600 minslots 2} = reserved 2 2 @1740700800 @1740704400\n5 0 @0 reserve 2 {start @1743379200 duration 3600 minslots 2} = reserved 3 2 @1743379200 @1743382800\nend 5\n";
+
+/// A journal with a job that is started, and a script that asks for its state.
+const OLD_AND_NEW: &str =
+    "drmaa-journal 2 4 \"node1\" suspend []\n1 1 @0 create-jobs \"s\" = session 1\n2 1 @0 run 1 {command \"true\"} = job 1\n3 2 @0 launch = launch 1 1 1 [\"\" \"\" \"\" \"\" \"apart\" \"0\" \"true\"]\nend 3\nmachine 4 \"node1\" suspend\nclient\nstate #1 #1\nend\n";
+
+/// Its process is gone, and nobody can learn how it ended.
+const CONTINUED: &str =
+    "drmaa-journal 2 4 \"node1\" suspend []\n1 1 @0 create-jobs \"s\" = session 1\n2 1 @0 run 1 {command \"true\"} = job 1\n3 2 @0 launch = launch 1 1 1 [\"\" \"\" \"\" \"\" \"apart\" \"0\" \"true\"]\n4 0 @0 exit-unknown 1 1 = ok\n5 1 @0 state 1 1 = state FAILED\nend 5\n";
+
 /// A client plays its block with the names of setup. Its job is held, and so nobody else has an entry.
 const THREADS_SCRIPT: &str =
     "machine 4 \"node1\" suspend\ntemplate t\ncommand \"true\"\nhold\nend\nsetup\ncreate-jobs z \"nightly\"\nend\nclient\nopen-jobs s \"nightly\"\nrun j s t\nwait-started s 1 j\nterminate s j\nwait-terminated s infinite j\nstate s j\nend\n";
@@ -33,6 +62,10 @@ const COMMANDS: &[(&str, &str, &str)] = &[
     ("table", SCRIPT, TABLE),
     ("check", JOURNAL, "legal 5\n"),
     ("migrate", OLD_JOURNAL, JOURNAL),
+    ("json", JOURNAL, FORM),
+    ("forecast", WAITING, STARTS),
+    (MONTHLY, SESSION, RESERVED),
+    ("continue", OLD_AND_NEW, CONTINUED),
 ];
 
 /// A run: its words, its text and the reads that fail, how many bytes can be written, the writes that fail, and whether finishing
@@ -162,6 +195,14 @@ fn the_last_bytes_may_find_no_room_and_finishing_may_fail(rt: HostRuntime) {
     }
 }
 
+/// A journal whose fourth entry is not legal, since the job was not launched.
+const ILLEGAL: &str =
+    "drmaa-journal 2 4 \"node1\" suspend []\n1 1 @0 create-jobs \"s\" = session 1\n2 1 @0 run 1 {command \"true\"} = job 1\n3 3 @0 exit 1 0 code 0 = refused 6 QUEUED\n4 3 @0 exit 1 0 code 0 = ok\nend 4\n";
+
+/// A journal whose last entry is not legal, since the job was launched, and a script behind it.
+const FORGED: &str =
+    "drmaa-journal 2 4 \"node1\" suspend []\n1 1 @0 create-jobs \"s\" = session 1\n2 1 @0 run 1 {command \"true\"} = job 1\n3 2 @0 launch = launch 1 1 1 [\"\" \"\" \"\" \"\" \"apart\" \"0\" \"true\"]\n4 1 @0 state 1 1 = state QUEUED\nend 4\nmachine 4 \"node1\" suspend\nclient\nstate #1 #1\nend\n";
+
 /// Words, a text, the reads that fail, and the number of the status; each write would fail. A cause that comes first hides
 /// those behind it: the words, reading, the text, what is wrong with the journal, writing.
 const ORDER: &[(&str, &str, &[u64], u8)] = &[
@@ -171,19 +212,41 @@ const ORDER: &[(&str, &str, &[u64], u8)] = &[
     ("threads x", SCRIPT, &[1], 2),
     ("-serial", SCRIPT, &[1], 2),
     ("--help", SCRIPT, &[1], 2),
+    ("forecast x", SCRIPT, &[1], 2),
+    ("recur q days 0 1 @0 1 1", SCRIPT, &[1], 2),
+    ("continue x", SCRIPT, &[1], 2),
+    ("soak 1 x", SCRIPT, &[1], 2),
     ("serial", JOURNAL, &[5], 3),
     ("table", JOURNAL, &[5], 3),
     ("threads", JOURNAL, &[5], 3),
     ("check", SCRIPT, &[3], 3),
     ("migrate", SCRIPT, &[3], 3),
+    ("json", SCRIPT, &[3], 3),
+    ("forecast", ILLEGAL, &[3], 3),
+    (MONTHLY, ILLEGAL, &[3], 3),
+    ("continue", FORGED, &[3], 3),
     ("serial", JOURNAL, &[], 1),
     ("table", JOURNAL, &[], 1),
     ("threads", SCRIPT, &[], 1),
     ("check", SCRIPT, &[], 1),
     ("migrate", SCRIPT, &[], 1),
+    ("json", SCRIPT, &[], 1),
+    ("forecast", SCRIPT, &[], 1),
+    (MONTHLY, SCRIPT, &[], 1),
+    ("continue", SCRIPT, &[], 1),
+    ("check", ILLEGAL, &[], 7),
+    ("forecast", ILLEGAL, &[], 7),
+    (MONTHLY, ILLEGAL, &[], 7),
+    ("continue", FORGED, &[], 7),
     ("serial", SCRIPT, &[], 4),
     ("threads", THREADS_SCRIPT, &[], 4),
     ("migrate", OLD_JOURNAL, &[], 4),
+    ("json", ILLEGAL, &[], 4),
+    ("forecast", WAITING, &[], 4),
+    (MONTHLY, SESSION, &[], 4),
+    ("continue", OLD_AND_NEW, &[], 4),
+    // It reads nothing.
+    ("soak 4 1", SCRIPT, &[1], 4),
 ];
 
 #[test]

@@ -1,7 +1,7 @@
 //! What runs are made on, and what is asked of what a run leaves.
 use byte_streams::{MemorySink, MemorySource};
 use call_history::Bell;
-use child_spawner::{FateList, MemorySpawner};
+use child_spawner::{Fate, FateList, MemorySpawner};
 use drmaa_script::{Outcome, run};
 use drmaa_types::{Bytes, CallerId, Clocks, Moment, PlaceList, StepClock, Text, TextList};
 use notify_hub::{Callbacks, MemoryCallback};
@@ -57,7 +57,31 @@ pub fn sink(rt: &impl Abort, alloc: Global, room: usize, failing: &[u64]) -> Mem
 
 /// A spawner that fails at these starts, and whose other children end at once with code 0.
 pub fn spawner(alloc: Global, failing: &[u64]) -> MemorySpawner {
-    MemorySpawner::new(alloc, FateList::new(alloc), places(alloc, failing))
+    fated_spawner(alloc, &[], failing)
+}
+
+/// A spawner that fails at these starts. Its children have these fates, in order; one without a fate ends at once with code 0. Where
+/// memory is wanting there are no fates, and then no test passes.
+pub fn fated_spawner(alloc: Global, fates: &[Fate], failing: &[u64]) -> MemorySpawner {
+    let fates = match Vec::from_slice(alloc, fates) {
+        Ok(fates) => FateList::from_vec(fates),
+        Err(_) => FateList::new(alloc),
+    };
+    MemorySpawner::new(alloc, fates, places(alloc, failing))
+}
+
+/// Whether these starts were asked for, by whether they began.
+pub fn has_begun(spawner: &MemorySpawner, begun: &[bool]) -> bool {
+    let asked = spawner.asked();
+    if !spawner.told() || asked.len() != begun.len() {
+        return false;
+    }
+    for (one, began) in asked.iter().zip(begun.iter()) {
+        if one.began != *began {
+            return false;
+        }
+    }
+    true
 }
 
 /// Clocks that stand at 0, but that of caller 1, which is a client's: it gives 10, 11 and so on.
