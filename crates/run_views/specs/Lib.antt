@@ -1,0 +1,5 @@
+pub mod Runs
+pub mod Ends
+pub mod Texts
+pub mod Jobs
+pub mod JobTexts

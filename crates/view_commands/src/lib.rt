@@ -1,0 +1,14 @@
+//! The commands of the program that shows what a journal tells: a journal of either version is read from a source, and what is told
+//! of its jobs or of their runs is written to a sink.
+#![tactic(auto)]
+
+mod judging;
+mod outcomes;
+mod running;
+mod views;
+
+pub use journal_commands::Status;
+pub use outcomes::Outcome;
+pub use run_views::Verdict;
+pub use running::run;
+pub use views::{VIEWS, View, spell_view, view_of};
