@@ -1,0 +1,17 @@
+pub mod Texts
+pub mod Templates
+pub mod Batches
+pub mod Asks
+pub mod Reading
+pub mod SizeLaws
+pub mod BatchLaws
+pub mod PrintLaws
+pub mod Scripts
+pub mod NameLaws
+pub mod LineTexts
+pub mod ClientLaws
+pub mod ScriptLaws
+pub mod TextLaws
+pub mod Written
+pub mod TakenLaws
+pub mod WrittenLaws
