@@ -1,6 +1,8 @@
-//! The program `drmaa_view`: reads a journal of `drmaa`, and shows its jobs or their runs.
+//! The program `drmaa_view`: reads a journal of `drmaa`, and shows its jobs or their runs; or commands for a shell, one a line, and
+//! writes the script for `drmaa threads` that runs them.
 #![tactic(auto)]
 
+use batch_command::{machine_of, run_batch};
 use byte_streams::{StdSink, StdSource};
 use drmaa_types::{Text, TextList};
 use std::process::ExitCode;
@@ -25,18 +27,29 @@ fn word_status(error: &io::Error) -> Status {
     }
 }
 
+/// The end with this status, which says nothing of jobs.
+fn plain(status: Status) -> Outcome {
+    Outcome {
+        status,
+        verdict: Verdict::AllEnded,
+    }
+}
+
+/// Does what the words ask for: a script of commands, or else a view of a journal.
+fn run_words(rt: &HostRuntime, words: &TextList) -> Outcome {
+    let mut source = StdSource::new(rt.stdin());
+    let mut sink = StdSink::new(rt.stdout());
+    match machine_of(rt.alloc(), words) {
+        Ok(Some(machine)) => plain(run_batch(rt.alloc(), machine, &mut source, &mut sink)),
+        Ok(None) => run(rt.alloc(), words, &mut source, &mut sink),
+        Err(_) => plain(Status::Memory),
+    }
+}
+
 fn main(rt: HostRuntime) -> ExitCode {
     let outcome = match words(&rt) {
-        Ok(words) => run(
-            rt.alloc(),
-            &words,
-            &mut StdSource::new(rt.stdin()),
-            &mut StdSink::new(rt.stdout()),
-        ),
-        Err(error) => Outcome {
-            status: word_status(&error),
-            verdict: Verdict::AllEnded,
-        },
+        Ok(words) => run_words(&rt, &words),
+        Err(error) => plain(word_status(&error)),
     };
     if outcome.number() != 0 {
         // Where standard error takes nothing, the number alone has to tell.
