@@ -11,6 +11,7 @@ ghost use Rattle.drmaa_model.specs.History.{IsLegal, now_of};
 ghost use Rattle.drmaa_model.specs.Honoured.{IsOnTime, IsDueInside};
 ghost use Rattle.drmaa_model.specs.Infos.{infos, reservation_info};
 ghost use Rattle.drmaa_model.specs.KeptCalls.{kept};
+ghost use Rattle.drmaa_model.specs.Load.{first_overfull};
 ghost use Rattle.drmaa_model.specs.Order.{held};
 ghost use Rattle.drmaa_model.specs.Refusals.{refusal};
 ghost use Rattle.drmaa_model.specs.Size.{size};
@@ -25,8 +26,8 @@ ghost use Rattle.drmaa_machine.specs.Waits.{call_of};
 use crate::applying::serve;
 use crate::looks::{infos_in, look_in, must_wait_in, reservations_in, reserve_in, size_in};
 use crate::waits::Awaited;
-use drmaa_model::{Answer, Call, Config, Entry, NoEntry, Question, Reply, Started};
-use drmaa_types::{CallerId, Change, InfoList, JobId, Moment, Refusal, ReservationList};
+use drmaa_model::{Accepted, Answer, Call, Config, Entry, NoEntry, Question, Reply, Row, Started};
+use drmaa_types::{CallerId, Change, End, InfoList, JobId, Moment, Refusal, ReservationList};
 use machine_readings::Store;
 use scheduler_core::Core;
 use session_table::SessionTable;
@@ -220,6 +221,35 @@ impl Machine {
         ensures { result ≡ (now_of self.now.ledger).plan.moment }
     {
         self.store.core.moment()
+    }
+
+    /// The kept jobs as they are now, in order of number. It takes no memory and makes no entry.
+    pub fn rows(&self) -> &[Row]
+        ensures { result.now ≡ (now_of self.now.ledger).plan.rows }
+    {
+        self.store.core.rows()
+    }
+
+    /// The accepted reservations as they are now, in order of number. It takes no memory and makes no entry.
+    pub fn accepted(&self) -> &[Accepted]
+        ensures { result.now ≡ (now_of self.now.ledger).plan.reservations }
+    {
+        self.store.core.reservations()
+    }
+
+    /// The slots that all jobs hold.
+    pub fn held(&self) -> u32
+        ensures { result ≡ held (now_of self.now.ledger).plan.rows }
+    {
+        self.store.core.held()
+    }
+
+    /// The first moment from now on and before this end at which so many slots more would be too many. None exactly where they
+    /// fit. It takes no memory and makes no entry.
+    pub fn first_overfull(&self, slots: u32, until: End) -> Option<Moment>
+        ensures { result ≡ first_overfull (now_of self.now.ledger).plan slots (now_of self.now.ledger).plan.moment until }
+    {
+        self.store.core.first_overfull(slots, until)
     }
 
     /// The started job of least number that is this one or above it, at the greater of this moment and the machine's. It takes

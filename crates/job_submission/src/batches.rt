@@ -1,5 +1,6 @@
 //! The rows of the jobs of one submission. They are made whole, with the memory that they want, before anything changes.
-ghost use Rattle.std.specs.Prelude.{◌≡◌, ◌≤◌, ◌<◌, ◌+◌, ◌*◌, ◌^◌, None, Some, IfOk, IfErr, length};
+ghost use Rattle.std.specs.Prelude.{◌≡◌, ◌≤◌, ◌<◌, ◌+◌, ◌-◌, ◌*◌, ◌^◌, None, Some, SomeIff, IfOk, IfErr, length};
+ghost use Rattle.job_template.specs.Texts.{text_length};
 ghost use Rattle.drmaa_types.specs.Queues.{most_queues};
 ghost use Rattle.drmaa_types.specs.Refusals.{first_refusal};
 ghost use Rattle.drmaa_model.specs.Courses.{wants_of};
@@ -10,16 +11,12 @@ ghost use Rattle.job_submission.specs.Early.{AreSteps, asked};
 ghost use Rattle.job_submission.specs.Batches.{place, placed, batch_of, batch_row, batch_rows, batch_member, batch_members};
 
 use crate::bulks::{index_at, index_count};
-use crate::texts::{without_rows, without_template};
 use drmaa_model::{Indices, Row, Wants};
-use drmaa_types::{ArrayId, JobId, Moment, QueueList};
-use job_template::{JobTemplate, expand, queue_of};
+use drmaa_types::{ArrayId, Boxed, JobId, Moment, QueueList};
+use job_template::{JobTemplate, expand, queue_of, without_template};
 use plan_book::Book;
 use plan_book::courses::submitted;
 use std::alloc::Global;
-
-/// The most text of the templates of all kept jobs, in bytes.
-const MOST_KEPT_TEXT: usize = 67_108_864;
 
 /// What the jobs of one submission share.
 #[derive(Drop)]
@@ -54,6 +51,7 @@ pub fn batch_of(book: &Book, at: Moment, home: u64) -> Batch
 
 /// The row of a job, with its place in an array where it is a member of one.
 fn row_of(
+    alloc: Global,
     queues: &QueueList,
     b: &Batch,
     number: u64,
@@ -61,17 +59,23 @@ fn row_of(
     array: Option<ArrayId>,
     index: Option<u32>,
     bound: Option<u32>,
-) -> Row
+) -> Result<Row, Unmade>
     requires few { length queues.now ≤ most_queues }
-    ensures { result ≡ batch_row queues.now b.now number (placed template array index bound) }
+    ensures row { IfOk result (λ row. row ≡ batch_row queues.now b.now number (placed template array index bound)) }
+    ensures err { IfErr result (λ why. why ≡ Unmade.OutOfMemory) }
 {
-    Row {
-        job: JobId(number),
-        home: Some(b.home),
-        wants: wants_of(queues, &template, array, index, bound),
-        submitted: b.moment,
-        course: submitted(template.submit_as_hold),
-        template,
+    let wants = wants_of(queues, &template, array, index, bound);
+    let course = submitted(template.submit_as_hold);
+    match Boxed::new(alloc, template) {
+        Ok(template) => Ok(Row {
+            job: JobId(number),
+            home: Some(b.home),
+            wants,
+            submitted: b.moment,
+            course,
+            template,
+        }),
+        Err(_) => Err(Unmade::OutOfMemory),
     }
 }
 
@@ -122,7 +126,8 @@ fn member_row(
     let array = ArrayId(b.array);
     let index = index_at(i, place);
     match expand(alloc, t, index) {
-        Ok(template) => Ok(row_of(
+        Ok(template) => row_of(
+            alloc,
             queues,
             b,
             number,
@@ -130,9 +135,16 @@ fn member_row(
             Some(array),
             Some(index),
             i.bound,
-        )),
+        ),
         Err(_) => Err(Unmade::OutOfMemory),
     }
+}
+
+/// The room that the template of a job leaves. None exactly where it needs more.
+fn without_row(room: usize, row: &Row) -> Option<usize>
+    ensures { SomeIff result (text_length row.now.template ≤ room) (room - text_length row.now.template) }
+{
+    without_template(room, row.template.get())
 }
 
 /// The rows of all members of an array, whose templates have this room.
@@ -158,7 +170,7 @@ fn array_rows(
     let mut room = room;
     for place in 0..count {
         let row = member_row(alloc, queues, b, t, i, place)?;
-        let Some(left) = without_template(room, &row.template) else {
+        let Some(left) = without_row(room, &row) else {
             return Err(Unmade::TooMuchText);
         };
         if rows.push(row).is_err() {
@@ -188,7 +200,7 @@ fn single_rows(
     let Ok(mut rows) = Vec::with_capacity(alloc, 1) else {
         return Err(Unmade::OutOfMemory);
     };
-    let row = row_of(queues, b, b.first, template, None, None, None);
+    let row = row_of(alloc, queues, b, b.first, template, None, None, None)?;
     if rows.push(row).is_err() {
         return Err(Unmade::OutOfMemory);
     }
@@ -212,7 +224,7 @@ pub fn rows_of(
     ensures fits { IfOk result (λ rows. kept_text (plan_of book.now).rows + new_text (batch_members b.now template indices) ≤ most_kept_text) }
     ensures err { IfErr result (λ why. why ≡ Unmade.TooMuchText → most_kept_text < kept_text (plan_of book.now).rows + new_text (batch_members b.now template indices)) }
 {
-    let Some(room) = without_rows(MOST_KEPT_TEXT, book.rows()) else {
+    let Some(room) = book.text_room() else {
         return Err(Unmade::TooMuchText);
     };
     match indices {

@@ -6,6 +6,5 @@ mod bulks;
 mod named;
 mod refusals;
 mod submits;
-mod texts;
 
 pub use submits::submit;

@@ -22,4 +22,4 @@ pub use queues::{queue_limit, queue_of};
 pub use templates::{
     Frame, JobTemplate, LimitList, Pair, PairList, ReservationTemplate, ResourceLimit, Start,
 };
-pub use texts::text_length;
+pub use texts::{text_length, without_template};

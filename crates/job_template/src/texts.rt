@@ -16,12 +16,19 @@ const MOST_NAME: usize = 255;
 pub fn text_length(t: &JobTemplate) -> Option<u32>
     ensures { SomeIff result (form.text_length t.now ≤ form.most_text) (form.text_length t.now) }
 {
-    let room = MOST_TEXT.checked_sub(text_size(&t.remote_command))?;
+    let room = without_template(MOST_TEXT, t)?;
+    Some((MOST_TEXT - room) as u32)
+}
+
+/// The room that the text of a job template leaves, each text counted with one byte more. None exactly where it needs more.
+pub fn without_template(room: usize, t: &JobTemplate) -> Option<usize>
+    ensures { SomeIff result (form.text_length t.now ≤ room) (room - form.text_length t.now) }
+{
+    let room = room.checked_sub(text_size(&t.remote_command))?;
     let room = without_texts(room, &t.args)?;
     let room = without_pairs(room, &t.job_environment)?;
     let room = without_options(room, t)?;
-    let room = without_limits(room, &t.resource_limits)?;
-    Some((MOST_TEXT - room) as u32)
+    without_limits(room, &t.resource_limits)
 }
 
 /// The room that the arguments leave. None exactly where they need more.

@@ -3,8 +3,10 @@ pub mod ArrivalLaws
 pub mod FirstOrder
 pub mod Flat
 pub mod MoveLaws
+pub mod PassLaws
 pub mod QuietLaws
 pub mod RoomLaws
 pub mod Searched
 pub mod SumLaws
 pub mod SweepLaws
+pub mod TextLaws

@@ -3,10 +3,12 @@ pub mod FactLaws
 pub mod Facts
 pub mod MeetLaws
 pub mod Owed
+pub mod Passes
 pub mod Places
 pub mod Quiet
 pub mod Sums
 pub mod Sweeps
+pub mod Texts
 pub mod TieLaws
 pub mod Ties
 pub mod Waiting

@@ -1,11 +1,13 @@
 -- What rows come to, as it is kept beside them: our profile.
-use Rattle.std.specs.Prelude.{◌≡◌, ◌+◌, ◌-◌, ◌<◌, ◌≤◌, ◌^◌, List}
+use Rattle.std.specs.Prelude.{◌≡◌, ℕ, ◌+◌, ◌-◌, ◌<◌, ◌≤◌, ◌^◌, List, Option}
 use Rattle.std.specs.List.{AllByRecursion}
 use Rattle.drmaa_model.specs.declared.courses.Course.{Course}
 use Rattle.drmaa_model.specs.declared.rows.Row.{Row}
 use Rattle.drmaa_model.specs.Order.{held}
 use Rattle.drmaa_model.specs.Size.{room_of, promised}
+use Rattle.drmaa_model.specs.Submitting.{kept_text}
 use Rattle.plan_book.specs.Owed.{owes, may_ask, owed, askable}
+use Rattle.plan_book.specs.Texts.{IsRoomBeside}
 use Rattle.plan_book.specs.declared.sums.Sums.{Sums}
 
 -- The sums are those of the rows.
@@ -16,6 +18,11 @@ pub record AreSums (rows : List Row) (sums : Sums) : Type 0 where
   pub held : sums.held ≡ held rows
   -- so that the sum of what they hold is small too
   pub small : AllByRecursion (λ (row : Row). row.course.held < 2 ^ 32) rows
+
+-- what is kept beside the rows is theirs
+pub record AreKept (rows : List Row) (sums : Sums) (room : Option ℕ) : Type 0 where
+  pub totals : AreSums rows sums
+  pub text : IsRoomBeside (kept_text rows) room
 
 -- the sums leave room for others
 pub record AreFew (sums : Sums) : Type 0 where

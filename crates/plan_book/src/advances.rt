@@ -6,8 +6,10 @@ ghost use Rattle.plan_book.specs.Places.{AreInOrder};
 ghost use Rattle.plan_book.specs.Quiet.{IsQuiet};
 ghost use Rattle.plan_book.specs.Ties.{let_go_of};
 
+use crate::alarms::first_end;
 use crate::book::Book;
-use crate::time::{are_left, cancel_ended, is_past, keep_lasting, note_expiries, order_kills};
+use crate::courses::lesser_end;
+use crate::time::{cancel_ended, is_past, keep_lasting};
 use drmaa_types::Moment;
 
 impl Book {
@@ -28,52 +30,7 @@ impl Book {
         keep_lasting(&mut self.reservations, self.moment);
     }
 
-    /// The waiting jobs whose time is over end.
-    fn expire(&mut self, entry: u64)
-        requires room { HasRoom self.old }
-        requires order { AreInOrder self.old.reservations.items }
-        ensures plan { plan_of self.new ≡ expire entry (plan_of self.old) }
-        ensures order { AreInOrder self.new.reservations.items }
-        ensures calendar { self.new.calendar ≡ self.old.calendar }
-        ensures room { HasRoom self.new }
-        ensures spare { spare self.new ≡ spare self.old }
-        ensures spare_orders { spare_orders self.new ≡ spare_orders self.old }
-        ensures place { HasPlace self.old → HasPlace self.new }
-        ensures spare_rows { spare_rows self.new ≡ spare_rows self.old }
-    {
-        note_expiries(
-            &self.reservations,
-            self.rows.list(),
-            &mut self.changes,
-            self.moment,
-            entry,
-        );
-        self.rows.expire_rows(&self.reservations, self.moment);
-    }
-
-    /// The started jobs whose time is over are asked to end.
-    fn call_in(&mut self)
-        requires room { HasRoom self.old }
-        requires order { AreInOrder self.old.reservations.items }
-        ensures plan { plan_of self.new ≡ call_in (plan_of self.old) }
-        ensures order { AreInOrder self.new.reservations.items }
-        ensures calendar { self.new.calendar ≡ self.old.calendar }
-        ensures room { HasRoom self.new }
-        ensures spare { spare self.new ≡ spare self.old }
-        ensures spare_orders { spare_orders self.new ≡ spare_orders self.old }
-        ensures place { HasPlace self.old → HasPlace self.new }
-        ensures spare_rows { spare_rows self.new ≡ spare_rows self.old }
-    {
-        order_kills(
-            &self.reservations,
-            self.rows.list(),
-            &mut self.orders,
-            self.moment,
-        );
-        self.rows.call_in_rows(&self.reservations, self.moment);
-    }
-
-    /// Time has come to its moment: the jobs whose time is over end or are asked to end.
+    /// Time has come to its moment: the jobs whose time is over end or are asked to end, and the alarm is set anew.
     pub(crate) fn sweep(&mut self, entry: u64)
         requires room { HasRoom self.old }
         requires order { AreInOrder self.old.reservations.items }
@@ -85,12 +42,16 @@ impl Book {
         ensures spare_orders { spare_orders self.new ≡ spare_orders self.old }
         ensures place { HasPlace self.old → HasPlace self.new }
         ensures spare_rows { spare_rows self.new ≡ spare_rows self.old }
+        ensures quiet { IsQuiet self.new.alarm (plan_of self.new) }
     {
-        if are_left(&self.reservations, self.rows.list(), self.moment) {
-            return;
-        }
-        self.expire(entry);
-        self.call_in();
+        let soonest = self.rows.sweep_rows(
+            &self.reservations,
+            &mut self.changes,
+            &mut self.orders,
+            self.moment,
+            entry,
+        );
+        self.alarm = lesser_end(soonest, first_end(&self.reservations));
     }
 
     /// Time goes on. It takes no memory. Before the alarm it looks at no job and no reservation.
@@ -115,6 +76,5 @@ impl Book {
         }
         self.come_to(at);
         self.sweep(entry);
-        self.set_alarm();
     }
 }

@@ -7,11 +7,10 @@ ghost use Rattle.drmaa_types.specs.declared.moments.End.{End};
 ghost use Rattle.drmaa_model.specs.declared.rows.Row.{Row};
 ghost use Rattle.drmaa_model.specs.Fit.{IsRising, number_of};
 ghost use Rattle.drmaa_model.specs.Rows.{row_of};
-ghost use Rattle.plan_book.specs.Book.{plan_of, HasPlace, HasRoom, spare, spare_orders, spare_rows};
 ghost use Rattle.plan_book.specs.Places.{AreInOrder};
-ghost use Rattle.plan_book.specs.Quiet.{IsLeftUntil, LastsUntil, IsQuiet, acts_at, unless_stranded};
+ghost use Rattle.plan_book.specs.Quiet.{IsLeftUntil, LastsUntil, acts_at, unless_stranded};
 
-use crate::book::{Book, opening_moment};
+use crate::book::opening_moment;
 use crate::courses::{is_unasked, lesser_end, optional_end};
 use crate::kept::Rows;
 use crate::states::{is_started, is_waiting};
@@ -19,27 +18,9 @@ use crate::time::is_stranded;
 use drmaa_model::{Accepted, Course, Row};
 use drmaa_types::{End, JobId};
 
-impl Book {
-    /// Sets the alarm anew, by all jobs and reservations.
-    pub(crate) fn set_alarm(&mut self)
-        requires order { AreInOrder self.old.reservations.items }
-        ensures plan { plan_of self.new ≡ plan_of self.old }
-        ensures calendar { self.new.calendar ≡ self.old.calendar }
-        ensures room { HasRoom self.old → HasRoom self.new }
-        ensures spare { spare self.new ≡ spare self.old }
-        ensures spare_orders { spare_orders self.new ≡ spare_orders self.old }
-        ensures place { HasPlace self.old → HasPlace self.new }
-        ensures spare_rows { spare_rows self.new ≡ spare_rows self.old }
-        ensures quiet { IsQuiet self.new.alarm (plan_of self.new) }
-    {
-        let rows = soonest_of(&self.reservations, self.rows.list());
-        self.alarm = lesser_end(rows, first_end(&self.reservations));
-    }
-}
-
 /// The first moment at which time may act on a job that has this course: a waiting one may lapse, and a started one may be asked to
 /// end.
-fn acts_at(rs: &Vec<Accepted>, row: &Row, course: &Course) -> End
+pub fn acts_at(rs: &Vec<Accepted>, row: &Row, course: &Course) -> End
     requires order { AreInOrder rs.now.items }
     ensures { result ≡ acts_at rs.now.items (record row.now { course = course.now }) }
 {
@@ -96,7 +77,7 @@ pub fn soonest_of(rs: &Vec<Accepted>, rows: &Vec<Row>) -> End
 }
 
 /// Before it each reservation lasts.
-fn first_end(rs: &Vec<Accepted>) -> End
+pub fn first_end(rs: &Vec<Accepted>) -> End
     ensures { AllByRecursion (LastsUntil result) rs.now.items }
 {
     let mut first = End::Never;

@@ -138,9 +138,16 @@ pub fn append_rows(rows: &mut Vec<Row>, more: Vec<Row>)
     prove!(appended.is_ok());
 }
 
+/// Whether the job is meant and has ended.
+pub fn is_reaped(target: &Target, row: &Row) -> bool
+    ensures { result ≡ (is_meant target.now row.now && is_done row.now) }
+{
+    is_meant(target, row) && is_done(row)
+}
+
 /// Forgets the ended ones of the jobs that are meant.
 pub fn drop_done(rows: &mut Vec<Row>, target: &Target)
     ensures { rows.new.items ≡ filter (λ (row : Row). not (is_meant target.now row && is_done row)) rows.old.items }
 {
-    rows.retain(|row| !(is_meant(target, row) && is_done(row)));
+    rows.retain(|row| !is_reaped(target, row));
 }

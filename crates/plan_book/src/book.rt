@@ -1,5 +1,5 @@
 //! The plan as it is kept, and what is read of it.
-ghost use Rattle.std.specs.Prelude.{◌≡◌, ◌≤◌, true, length, max, filter, OnOk, IfErr};
+ghost use Rattle.std.specs.Prelude.{◌≡◌, ◌-◌, ◌≤◌, true, length, max, filter, SomeIff, OnOk, IfErr};
 ghost use Rattle.std.specs.List.{AllByRecursion};
 ghost use Rattle.std.specs.Option.{option_copied, option_map};
 ghost use Rattle.drmaa_types.specs.Queues.{most_queues};
@@ -8,6 +8,7 @@ ghost use Rattle.drmaa_model.specs.Order.{held};
 ghost use Rattle.drmaa_model.specs.Plan.{opening_plan};
 ghost use Rattle.drmaa_model.specs.Rows.{row_of};
 ghost use Rattle.drmaa_model.specs.Size.{weight};
+ghost use Rattle.drmaa_model.specs.Submitting.{kept_text, most_kept_text};
 ghost use Rattle.drmaa_model.specs.Time.{advance_plan, is_accepted, rows_at, lasts, lapsed, called_in};
 ghost use Rattle.drmaa_model.specs.Load.{reservation_of};
 ghost use Rattle.plan_book.specs.Book.{plan_of, calendar_of, IsKept, spare, course_then};
@@ -175,6 +176,14 @@ impl Book {
     {
         let _total = self.total(); // which is not less
         self.rows.held()
+    }
+
+    /// The room that the text of the templates of all kept jobs leaves of the most that they may have. None exactly where it passes
+    /// that.
+    pub fn text_room(&self) -> Option<usize>
+        ensures { SomeIff result (kept_text (plan_of self.now).rows ≤ most_kept_text) (most_kept_text - kept_text (plan_of self.now).rows) }
+    {
+        self.rows.text_room()
     }
 
     /// The accepted reservations, in order of number.

@@ -114,7 +114,6 @@ impl Book {
         self.advance(at, entry);
         self.drop_reservation(reservation);
         self.sweep(entry);
-        self.set_alarm();
         Ok(())
     }
 

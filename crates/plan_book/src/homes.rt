@@ -46,11 +46,18 @@ fn left_by(own: Option<u64>, home: u64) -> Option<u64>
     if is_home(own, home) { None } else { own }
 }
 
+/// Whether the job is forgotten with the home: it has ended.
+pub fn is_forgotten(row: &Row, home: u64) -> bool
+    ensures { result ≡ is_forgotten home row.now }
+{
+    is_home(row.home, home) && is_done(row)
+}
+
 /// Forgets the ended jobs of the home.
 pub fn drop_forgotten(rows: &mut Vec<Row>, home: u64)
     ensures { rows.new.items ≡ filter (λ (row : Row). not (is_forgotten home row)) rows.old.items }
 {
-    rows.retain(|row| !(is_home(row.home, home) && is_done(row)));
+    rows.retain(|row| !is_forgotten(row, home));
 }
 
 fn leave_row(row: &mut Row, home: u64)

@@ -1,5 +1,7 @@
-//! The rows of a book with what they come to. Where one job goes on or jobs come in, that is kept up; else it is added up anew.
-ghost use Rattle.std.specs.Prelude.{◌≡◌, ◌+◌, ◌≤◌, ◌^◌, ◌<◌, [], ◌++◌, ◌&&◌, not, map, filter, vec_len, vec_capacity, OnOk};
+//! The rows of a book with what they come to. Where one job goes on or jobs come in, that is kept up; else it is added up anew. The
+//! room that the text of their templates leaves is kept up always.
+ghost use Rattle.std.specs.Prelude.{◌≡◌, ◌+◌, ◌≤◌, ◌^◌, ◌<◌, [], ◌++◌, ◌&&◌, not, map, filter, length, vec_len, vec_capacity, OnOk};
+ghost use Rattle.std.specs.List.{AllByRecursion, flat_map};
 ghost use Rattle.std.specs.Option.{option_copied};
 ghost use Rattle.drmaa_model.specs.declared.rows.Row.{Row};
 ghost use Rattle.drmaa_model.specs.Controlling.{control_step, is_done};
@@ -8,15 +10,20 @@ ghost use Rattle.drmaa_model.specs.Fit.{IsRising, number_of};
 ghost use Rattle.drmaa_model.specs.Order.{held};
 ghost use Rattle.drmaa_model.specs.Rows.{row_of, with_course};
 ghost use Rattle.drmaa_model.specs.Size.{promised};
+ghost use Rattle.drmaa_model.specs.Submitting.{kept_text};
 ghost use Rattle.drmaa_model.specs.Targets.{is_meant};
-ghost use Rattle.drmaa_model.specs.Time.{lapsed, called_in};
+ghost use Rattle.drmaa_model.specs.TimeLaws.{timed};
 ghost use Rattle.plan_book.specs.Book.{owed, askable};
+ghost use Rattle.plan_book.specs.Passes.{ends, kills_then};
 ghost use Rattle.plan_book.specs.Places.{AreInOrder};
+ghost use Rattle.plan_book.specs.Quiet.{IsLeftUntil};
+ghost use Rattle.plan_book.specs.Texts.{IsRoomBeside};
 
 use crate::sums::{Sums, going_on, sums_of, with_others};
-use crate::{arrivals, homes, rows, sweeps, time};
-use drmaa_model::{Accepted, Course, Row, Target};
-use drmaa_types::{Control, JobId, Moment};
+use crate::texts::{room_beside, room_with, room_without_done, room_without_forgotten, whole_room};
+use crate::{arrivals, homes, passes, rows, sweeps};
+use drmaa_model::{Accepted, Course, Order, Row, Target};
+use drmaa_types::{Change, Control, End, JobId, Moment};
 use std::alloc::{AllocError, Global};
 use std::marker::Model;
 
@@ -24,24 +31,30 @@ use std::marker::Model;
 pub struct Rows {
     list: Vec<Row>,
     sums: Sums,
+    /// The room that the text of their templates leaves of the most that all kept jobs may have. None where it passes that.
+    room: Option<usize>,
 }
 
 impl Drop for Rows {
     fn drop(self) {
-        let Rows { list: _, sums: _ } = self;
+        let Rows {
+            list: _,
+            sums: _,
+            room: _,
+        } = self;
     }
 }
 
 impl Model for Rows {
     ghost use Rattle.std.specs.Global.{Vec};
     ghost use Rattle.drmaa_model.specs.declared.rows.Row.{Row};
-    ghost use Rattle.plan_book.specs.Sums.{AreSums};
+    ghost use Rattle.plan_book.specs.Sums.{AreKept};
 
     ghost Value = { Vec Row };
 
     ghost view = { λ r. r.list };
 
-    ghost invariant = { λ r. AreSums r.list.items r.sums };
+    ghost invariant = { λ r. AreKept r.list.items r.sums r.room };
 }
 
 impl Rows {
@@ -51,7 +64,11 @@ impl Rows {
     {
         let list = Vec::new(alloc);
         let sums = sums_of(&list);
-        Rows { list, sums }
+        Rows {
+            list,
+            sums,
+            room: whole_room(),
+        }
     }
 
     /// The rows.
@@ -101,6 +118,13 @@ impl Rows {
         self.sums.held as u32
     }
 
+    /// The room that the text of their templates leaves of the most that all kept jobs may have. None exactly where it passes that.
+    pub fn text_room(&self) -> Option<usize>
+        ensures { IsRoomBeside (kept_text self.now.items) result }
+    {
+        self.room
+    }
+
     /// Takes the memory for so many jobs more.
     ///
     /// # Errors
@@ -120,6 +144,7 @@ impl Rows {
         ensures { self.new.items ≡ self.old.items ++ more.items }
     {
         self.sums = with_others(&self.sums, &sums_of(&more));
+        self.room = room_with(self.room, &more);
         arrivals::append_rows(&mut self.list, more);
     }
 
@@ -137,26 +162,32 @@ impl Rows {
         }
     }
 
-    /// Ends the waiting jobs whose time is over.
-    pub(crate) fn expire_rows(&mut self, rs: &Vec<Accepted>, moment: Moment)
+    /// The jobs whose time is over end or are asked to end. Before the answer time leaves each of the jobs as it is then.
+    pub(crate) fn sweep_rows(
+        &mut self,
+        rs: &Vec<Accepted>,
+        changes: &mut Vec<Change>,
+        orders: &mut Vec<Order>,
+        moment: Moment,
+        entry: u64,
+    ) -> End
         requires order { AreInOrder rs.now.items }
-        ensures items { self.new.items ≡ map (lapsed moment rs.now.items) self.old.items }
+        requires changes { vec_len changes.old + length (flat_map (ends entry moment rs.now.items) self.old.items) ≤ vec_capacity changes.old }
+        requires orders { vec_len orders.old + length (flat_map (kills_then moment rs.now.items) self.old.items) ≤ vec_capacity orders.old }
+        ensures items { self.new.items ≡ map (timed moment rs.now.items) self.old.items }
         ensures len { vec_len self.new ≡ vec_len self.old }
         ensures capacity { vec_capacity self.new ≡ vec_capacity self.old }
+        ensures changes { changes.new.items ≡ changes.old.items ++ flat_map (ends entry moment rs.now.items) self.old.items }
+        ensures changes_len { vec_len changes.new ≡ vec_len changes.old + length (flat_map (ends entry moment rs.now.items) self.old.items) }
+        ensures changes_capacity { vec_capacity changes.new ≡ vec_capacity changes.old }
+        ensures orders { orders.new.items ≡ orders.old.items ++ flat_map (kills_then moment rs.now.items) self.old.items }
+        ensures orders_len { vec_len orders.new ≡ vec_len orders.old + length (flat_map (kills_then moment rs.now.items) self.old.items) }
+        ensures orders_capacity { vec_capacity orders.new ≡ vec_capacity orders.old }
+        ensures soonest { AllByRecursion (IsLeftUntil result rs.now.items) self.new.items }
     {
-        time::expire_rows(rs, &mut self.list, moment);
-        self.sums = sums_of(&self.list);
-    }
-
-    /// Asks for the end of the started jobs whose time is over.
-    pub(crate) fn call_in_rows(&mut self, rs: &Vec<Accepted>, moment: Moment)
-        requires order { AreInOrder rs.now.items }
-        ensures items { self.new.items ≡ map (called_in moment rs.now.items) self.old.items }
-        ensures len { vec_len self.new ≡ vec_len self.old }
-        ensures capacity { vec_capacity self.new ≡ vec_capacity self.old }
-    {
-        time::call_in_rows(rs, &mut self.list, moment);
-        self.sums = sums_of(&self.list);
+        let swept = passes::sweep_rows(rs, &mut self.list, changes, orders, moment, entry);
+        self.sums = swept.sums;
+        swept.soonest
     }
 
     /// The jobs on which the call acts go on.
@@ -171,16 +202,20 @@ impl Rows {
     pub(crate) fn drop_done(&mut self, target: &Target)
         ensures { self.new.items ≡ filter (λ (row : Row). not (is_meant target.now row && is_done row)) self.old.items }
     {
+        let known = room_without_done(self.room, &self.list, target);
         arrivals::drop_done(&mut self.list, target);
         self.sums = sums_of(&self.list);
+        self.room = room_beside(known, &self.list);
     }
 
     /// Forgets the ended jobs of a home.
     pub(crate) fn drop_forgotten(&mut self, home: u64)
         ensures { self.new.items ≡ filter (λ (row : Row). not (is_forgotten home row)) self.old.items }
     {
+        let known = room_without_forgotten(self.room, &self.list, home);
         homes::drop_forgotten(&mut self.list, home);
         self.sums = sums_of(&self.list);
+        self.room = room_beside(known, &self.list);
     }
 
     /// The jobs of a home are left without one.

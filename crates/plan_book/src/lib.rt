@@ -15,6 +15,7 @@ mod kept;
 mod makes;
 mod moves;
 mod orders;
+mod passes;
 mod reservations;
 mod rooms;
 mod rows;
@@ -22,6 +23,7 @@ pub mod states;
 mod sums;
 mod sweeps;
 pub mod targets;
+mod texts;
 mod time;
 
 pub use book::Book;

@@ -6,7 +6,7 @@ ghost use Rattle.std.specs.Option.{option_copied};
 ghost use Rattle.drmaa_model.specs.Rows.{row_of};
 
 use drmaa_model::{Course, Row};
-use drmaa_types::{JobId, JobState, Moment};
+use drmaa_types::JobId;
 
 /// What of a row an operation on one job needs.
 #[derive(Clone, Copy)]

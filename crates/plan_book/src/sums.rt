@@ -19,7 +19,7 @@ pub struct Sums {
 }
 
 /// What no jobs come to.
-fn no_sums() -> Sums
+pub fn no_sums() -> Sums
     ensures { AreSums [] result }
 {
     Sums {
@@ -42,7 +42,7 @@ pub fn sums_of(rows: &Vec<Row>) -> Sums
 }
 
 /// What they come to with one job more.
-fn with_job(sums: &Sums, course: &Course) -> Sums
+pub fn with_job(sums: &Sums, course: &Course) -> Sums
     requires few { AreFew sums.now }
     ensures value { result ≡ with_job sums.now course.now }
     ensures small { course.now.held < 2 ^ 32 }

@@ -1,20 +1,17 @@
-//! What time does to rows, reservations and orders. None of it takes memory.
-ghost use Rattle.std.specs.Prelude.{◌≡◌, ◌+◌, ◌≤◌, ◌++◌, ◌&&◌, ◌||◌, length, map, filter, if◌then◌else◌, vec_len, vec_capacity};
-ghost use Rattle.std.specs.List.{list_all};
+//! When a job's time is over, and what time does to reservations. None of it takes memory.
+ghost use Rattle.std.specs.Prelude.{◌≡◌, ◌≤◌, ◌&&◌, ◌||◌, filter, if◌then◌else◌, vec_len, vec_capacity};
 ghost use Rattle.drmaa_types.specs.States.{is_waiting, is_started};
 ghost use Rattle.drmaa_model.specs.Courses.{is_unasked};
-ghost use Rattle.drmaa_model.specs.Time.{lasts, is_late, is_past, is_over, is_stranded, lapses, lapsed, is_due, called_in, kill_order};
-ghost use Rattle.drmaa_model.specs.TimeLaws.{expiry};
+ghost use Rattle.drmaa_model.specs.Time.{lasts, is_late, is_past, is_over, is_stranded, lapses, lapsed, is_due, called_in};
 ghost use Rattle.reservation_calendar.specs.Schedules.{without};
 ghost use Rattle.plan_book.specs.Places.{AreInOrder};
 ghost use Rattle.plan_book.specs.Ties.{let_go_of};
-ghost use Rattle.plan_book.specs.Quiet.{is_left};
 
 use crate::courses::{called, failed, is_unasked};
 use crate::reservations::{is_accepted, is_lasting};
 use crate::states::{is_started, is_waiting};
-use drmaa_model::{Accepted, Course, Order, Row};
-use drmaa_types::{Change, End, JobState, Moment, Note, SignalKind};
+use drmaa_model::{Accepted, Course, Row};
+use drmaa_types::{End, Moment, Note};
 use reservation_calendar::{Calendar, Key};
 
 /// Whether the job names a reservation that is gone.
@@ -57,7 +54,7 @@ fn is_over(row: &Row, moment: Moment) -> bool
 }
 
 /// Whether a waiting job's time is over.
-fn lapses(rs: &Vec<Accepted>, row: &Row, moment: Moment) -> bool
+pub fn lapses(rs: &Vec<Accepted>, row: &Row, moment: Moment) -> bool
     requires order { AreInOrder rs.now.items }
     ensures { result ≡ lapses moment rs.now.items row.now }
 {
@@ -98,17 +95,8 @@ pub fn course_at(rs: &Vec<Accepted>, row: &Row, moment: Moment) -> Course
     row.course
 }
 
-fn lapse(rs: &Vec<Accepted>, row: &mut Row, moment: Moment)
-    requires order { AreInOrder rs.now.items }
-    ensures { row.new ≡ lapsed moment rs.now.items row.old }
-{
-    if lapses(rs, row, moment) {
-        let note = lapse_note(row, moment);
-        row.course = failed(&row.course, moment, note);
-    }
-}
-
-fn lapse_note(row: &Row, moment: Moment) -> Note
+/// Why a waiting job ends.
+pub fn lapse_note(row: &Row, moment: Moment) -> Note
     ensures { result ≡ (if is_late moment row.now then Note.PastDeadline else Note.ReservationGone) }
 {
     if is_late(row, moment) {
@@ -118,46 +106,8 @@ fn lapse_note(row: &Row, moment: Moment) -> Note
     }
 }
 
-/// Ends the waiting jobs whose time is over.
-pub fn expire_rows(rs: &Vec<Accepted>, rows: &mut Vec<Row>, moment: Moment)
-    requires order { AreInOrder rs.now.items }
-    ensures items { rows.new.items ≡ map (lapsed moment rs.now.items) rows.old.items }
-    ensures len { vec_len rows.new ≡ vec_len rows.old }
-    ensures capacity { vec_capacity rows.new ≡ vec_capacity rows.old }
-{
-    for row in rows.iter_mut() {
-        lapse(rs, row, moment);
-    }
-}
-
-/// Notes the changes of the jobs that time ends.
-pub fn note_expiries(
-    rs: &Vec<Accepted>,
-    rows: &Vec<Row>,
-    changes: &mut Vec<Change>,
-    moment: Moment,
-    entry: u64,
-)
-    requires order { AreInOrder rs.now.items }
-    requires room { vec_len changes.old + length (filter (lapses moment rs.now.items) rows.now.items) ≤ vec_capacity changes.old }
-    ensures items { changes.new.items ≡ changes.old.items ++ map (expiry entry) (filter (lapses moment rs.now.items) rows.now.items) }
-    ensures capacity { vec_capacity changes.new ≡ vec_capacity changes.old }
-    ensures len { vec_len changes.new ≡ vec_len changes.old + length (filter (lapses moment rs.now.items) rows.now.items) }
-{
-    for row in rows {
-        if lapses(rs, row, moment) {
-            changes.push_reserved(Change {
-                entry,
-                job: row.job,
-                home: row.home,
-                from: row.course.state,
-                to: JobState::Failed,
-            });
-        }
-    }
-}
-
-fn is_due(rs: &Vec<Accepted>, row: &Row, moment: Moment) -> bool
+/// Whether a started job's time is over, which is not asked to end.
+pub fn is_due(rs: &Vec<Accepted>, row: &Row, moment: Moment) -> bool
     requires order { AreInOrder rs.now.items }
     ensures { result ≡ is_due moment rs.now.items row.now }
 {
@@ -176,70 +126,14 @@ fn is_due_where(row: &Row, moment: Moment, stranded: bool) -> bool
     is_over(row, moment) || stranded
 }
 
-/// Whether time leaves all jobs as they are.
-pub fn are_left(rs: &Vec<Accepted>, rows: &Vec<Row>, moment: Moment) -> bool
-    requires order { AreInOrder rs.now.items }
-    ensures { result ≡ list_all (is_left moment rs.now.items) rows.now.items }
-{
-    rows.iter().all(|row| is_left(rs, row, moment))
-}
-
-/// Whether time leaves a job as it is.
-fn is_left(rs: &Vec<Accepted>, row: &Row, moment: Moment) -> bool
-    requires order { AreInOrder rs.now.items }
-    ensures { result ≡ is_left moment rs.now.items row.now }
-{
-    !lapses(rs, row, moment) && !is_due(rs, row, moment)
-}
-
-fn due_note(row: &Row, moment: Moment) -> Note
+/// Why a started job is asked to end.
+pub fn due_note(row: &Row, moment: Moment) -> Note
     ensures { result ≡ (if is_over moment row.now then Note.PastLimit else Note.ReservationGone) }
 {
     if is_over(row, moment) {
         Note::PastLimit
     } else {
         Note::ReservationGone
-    }
-}
-
-fn call_in_row(rs: &Vec<Accepted>, row: &mut Row, moment: Moment)
-    requires order { AreInOrder rs.now.items }
-    ensures { row.new ≡ called_in moment rs.now.items row.old }
-{
-    if is_due(rs, row, moment) {
-        let note = due_note(row, moment);
-        row.course = called(&row.course, note);
-    }
-}
-
-/// Asks for the end of the started jobs whose time is over.
-pub fn call_in_rows(rs: &Vec<Accepted>, rows: &mut Vec<Row>, moment: Moment)
-    requires order { AreInOrder rs.now.items }
-    ensures items { rows.new.items ≡ map (called_in moment rs.now.items) rows.old.items }
-    ensures len { vec_len rows.new ≡ vec_len rows.old }
-    ensures capacity { vec_capacity rows.new ≡ vec_capacity rows.old }
-{
-    for row in rows.iter_mut() {
-        call_in_row(rs, row, moment);
-    }
-}
-
-/// Adds the orders for them.
-pub fn order_kills(rs: &Vec<Accepted>, rows: &Vec<Row>, orders: &mut Vec<Order>, moment: Moment)
-    requires order { AreInOrder rs.now.items }
-    requires room { vec_len orders.old + length (filter (is_due moment rs.now.items) rows.now.items) ≤ vec_capacity orders.old }
-    ensures items { orders.new.items ≡ orders.old.items ++ map kill_order (filter (is_due moment rs.now.items) rows.now.items) }
-    ensures capacity { vec_capacity orders.new ≡ vec_capacity orders.old }
-    ensures len { vec_len orders.new ≡ vec_len orders.old + length (filter (is_due moment rs.now.items) rows.now.items) }
-{
-    for row in rows {
-        if is_due(rs, row, moment) {
-            orders.push_reserved(Order {
-                job: row.job,
-                kind: SignalKind::Kill,
-                taken: false,
-            });
-        }
     }
 }
 

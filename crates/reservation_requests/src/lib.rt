@@ -7,3 +7,4 @@ mod starts;
 
 pub use requests::request_reservation;
 pub use reservations::{end_reservation, is_lasting, lasting_from, lasting_of};
+pub use starts::overfull_from;

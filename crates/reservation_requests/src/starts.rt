@@ -69,8 +69,16 @@ pub fn denied_at(book: &Book, t: &ReservationTemplate, frame: &Frame) -> Option<
     if is_loose(t) {
         return None;
     }
-    book.calendar
-        .first_overfull(frame.min, frame.from, End::At(frame.until))
+    overfull_from(book, frame.min, frame.from, End::At(frame.until))
+}
+
+/// The first moment of an interval at which so many slots more would be too many. None exactly where they fit.
+pub fn overfull_from(book: &Book, slots: u32, from: Moment, until: End) -> Option<Moment>
+    requires kept { IsKept book.now }
+    requires since { (plan_of book.now).moment ≤ from }
+    ensures { result ≡ first_overfull (plan_of book.now) slots from until }
+{
+    book.calendar.first_overfull(slots, from, until)
 }
 
 /// Whether start, end and duration are all set.

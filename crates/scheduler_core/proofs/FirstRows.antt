@@ -1,5 +1,5 @@
 -- The first element of a number or above it, in a list that is in order of number.
-use Rattle.std.proofs.Common.{◌≡◌, ℕ, zero, suc, ◌<◌, ◌≤◌, nat_le, nat_lt, true, false, List, [], ◌∷◌, length, get_or, find, cond, Option, Some, None, refl, ap, ◌∙◌, arith}
+use Rattle.std.proofs.Common.{◌≡◌, ℕ, zero, suc, ◌<◌, ◌≤◌, nat_le, nat_lt, Bool, true, false, ◌&&◌, List, [], ◌∷◌, length, get_or, drop, find, cond, Option, Some, None, refl, sym, ap, ◌∙◌, arith}
 use Rattle.std.specs.List.{AllByRecursion}
 use Rattle.std.specs.List.Sorted.{IsNonDecreasingBy, IsPartitionPoint}
 use Rattle.std.proofs.lemmas.Bool.Decides.{nat_tests}
@@ -43,3 +43,25 @@ module _ {X : Type 0} (number : X → ℕ) where
   find-past n (x ∷ xs) below =
       ap (λ b. cond b (Some x) (find (λ y. nat_le n (number y)) xs)) (too_low n (number x) (below 0 x (omega arith)))
       ∙ find-past n xs (λ k e inside. below (suc k) e (omega (arith, inside)))
+
+  all-from : (test : X → Bool) (n : ℕ) (xs : List X) → ((k : ℕ) (e : X) → k < length xs → nat_lt (number (get_or xs k e)) n ≡ false)
+      → find test xs ≡ find (λ x. test x && nat_le n (number x)) xs
+  all-from test n [] above = refl
+  all-from test n (x ∷ xs) above =
+      (elim (test x) as (λ t. cond t (Some x) (find test xs) ≡ cond (t && true) (Some x) (find (λ y. test y && nat_le n (number y)) xs)) [
+        | true ↦ refl
+        | false ↦ all-from test n xs (λ k e inside. above (suc k) e (omega (arith, inside)))
+      ])
+      ∙ sym (ap (λ b. cond (test x && b) (Some x) (find (λ y. test y && nat_le n (number y)) xs)) (at_least n (number x) (above 0 x (omega arith))))
+
+  -- the first that passes a test from a number on is the first that passes it behind those of lesser numbers
+  pub find-from : (test : X → Bool) (n : ℕ) (xs : List X) (i : ℕ) → ((k : ℕ) (e : X) → k < i → k < length xs → nat_lt (number (get_or xs k e)) n ≡ true)
+      → ((k : ℕ) (e : X) → i ≤ k → k < length xs → nat_lt (number (get_or xs k e)) n ≡ false)
+      → find test (drop i xs) ≡ find (λ x. test x && nat_le n (number x)) xs
+  find-from test n [] zero below above = refl
+  find-from test n [] (suc i) below above = refl
+  find-from test n (x ∷ xs) zero below above = all-from test n (x ∷ xs) (λ k e inside. above k e (omega arith) inside)
+  find-from test n (x ∷ xs) (suc i) below above =
+      find-from test n xs i (λ k e less inside. below (suc k) e (omega (arith, less)) (omega (arith, inside))) (λ k e le inside. above (suc k) e (omega (arith, le)) (omega (arith, inside)))
+      ∙ (elim (test x) as (λ t. find (λ y. test y && nat_le n (number y)) xs ≡ cond (t && false) (Some x) (find (λ y. test y && nat_le n (number y)) xs)) [ true ↦ refl | false ↦ refl ])
+      ∙ sym (ap (λ b. cond (test x && b) (Some x) (find (λ y. test y && nat_le n (number y)) xs)) (too_low n (number x) (below 0 x (omega arith) (omega arith))))

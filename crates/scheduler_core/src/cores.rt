@@ -14,7 +14,7 @@ ghost use Rattle.drmaa_model.specs.Reporting.{report_of};
 ghost use Rattle.drmaa_model.specs.Controlling.{control, reap};
 ghost use Rattle.drmaa_model.specs.Effects.{forget_home};
 ghost use Rattle.drmaa_model.specs.Launching.{launch, next_signal, signal};
-ghost use Rattle.drmaa_model.specs.Load.{reservation_of};
+ghost use Rattle.drmaa_model.specs.Load.{first_overfull, reservation_of};
 ghost use Rattle.drmaa_model.specs.Requests.{end_reservation, request};
 ghost use Rattle.drmaa_model.specs.Rows.{row_of};
 ghost use Rattle.drmaa_model.specs.Size.{promised, weight};
@@ -30,13 +30,13 @@ use crate::facts::{self, RowFacts};
 use crate::ready::is_settled;
 use crate::rows::reports_to_come;
 use crate::{events, launches, reports, running};
-use drmaa_model::{Accepted, Indices, Launch, Report, Signal, Started, Submitted, Target};
+use drmaa_model::{Accepted, Indices, Launch, Report, Row, Signal, Started, Submitted, Target};
 use drmaa_types::{
-    ArrayId, Change, Control, JobId, Moment, QueueList, Refusal, ReservationId, Reserved, Text,
+    ArrayId, Change, Control, End, JobId, Moment, QueueList, Refusal, ReservationId, Reserved, Text,
 };
 use job_template::{JobTemplate, ReservationTemplate};
 use plan_book::Book;
-use reservation_requests::{lasting_from, lasting_of};
+use reservation_requests::{lasting_from, lasting_of, overfull_from};
 use std::alloc::Global;
 use std::marker::Model;
 
@@ -357,6 +357,28 @@ impl Core {
         self.book.moment()
     }
 
+    /// The kept jobs, in order of number.
+    pub fn rows(&self) -> &[Row]
+        ensures { result.now ≡ self.now.plan.rows }
+    {
+        self.book.rows().as_slice()
+    }
+
+    /// The accepted reservations, in order of number.
+    pub fn reservations(&self) -> &[Accepted]
+        ensures { result.now ≡ self.now.plan.reservations }
+    {
+        self.book.reservations().as_slice()
+    }
+
+    /// The first moment from now on and before this end at which so many slots more would be too many. None exactly where they
+    /// fit.
+    pub fn first_overfull(&self, slots: u32, until: End) -> Option<Moment>
+        ensures { result ≡ first_overfull self.now.plan slots self.now.plan.moment until }
+    {
+        overfull_from(&self.book, slots, self.book.moment(), until)
+    }
+
     /// The slots that all jobs hold.
     pub fn held(&self) -> u32
         ensures { result ≡ held self.now.plan.rows }
@@ -445,7 +467,7 @@ impl Core {
         ensures { option_copied result ≡ option_and_then (λ (row : Row). row.template.job_name) (row_of job self.now.plan.rows) }
     {
         match self.book.row(job) {
-            Some(row) => row.template.job_name.as_ref(),
+            Some(row) => row.template.get().job_name.as_ref(),
             None => None,
         }
     }

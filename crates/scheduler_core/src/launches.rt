@@ -18,7 +18,7 @@ use crate::ready::{first_ready_at, slots_at};
 use crate::times::course_then;
 use drmaa_model::{Launch, Row};
 use drmaa_types::{Boxed, End, Moment, Refusal, TextList};
-use job_template::{JobTemplate, launch_words};
+use job_template::launch_words;
 use plan_book::courses::{launched, planned_end};
 use plan_book::{Book, Booked, Edit, Move};
 use reservation_calendar::{Booking, Key};
@@ -110,7 +110,7 @@ fn next_of(
         job: row.job,
         attempt: before.attempt + 1,
         slots,
-        words: words_of(alloc, &row.template)?,
+        words: words_of(alloc, row)?,
     };
     Ok(Next { m, launch })
 }
@@ -130,10 +130,10 @@ fn booking_of(row: &Row, moment: Moment, slots: u32, planned: End) -> Booked
     }
 }
 
-fn words_of(alloc: Global, template: &JobTemplate) -> Result<Boxed<TextList>, AllocError>
-    ensures { IfOk result (λ words. words ≡ launch_words template.now) }
+fn words_of(alloc: Global, row: &Row) -> Result<Boxed<TextList>, AllocError>
+    ensures { IfOk result (λ words. words ≡ launch_words row.now.template) }
 {
-    match launch_words(alloc, template) {
+    match launch_words(alloc, row.template.get()) {
         Ok(words) => Boxed::new(alloc, words),
         Err(_) => Err(AllocError),
     }

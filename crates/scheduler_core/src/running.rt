@@ -1,8 +1,11 @@
 //! The started jobs, one after another. It takes no memory.
-ghost use Rattle.std.specs.Prelude.{◌≡◌};
+ghost use Rattle.std.specs.Prelude.{◌≡◌, find};
 ghost use Rattle.std.specs.Option.{option_copied, option_map};
+ghost use Rattle.drmaa_types.specs.States.{is_started};
+ghost use Rattle.drmaa_model.specs.declared.rows.Row.{Row};
 ghost use Rattle.drmaa_model.specs.Courses.{is_asked};
 ghost use Rattle.drmaa_model.specs.Events.{started_from, started_of};
+ghost use Rattle.drmaa_model.specs.Fit.{IsRising, number_of};
 ghost use Rattle.drmaa_model.specs.Time.{rows_at};
 ghost use Rattle.plan_book.specs.Book.{plan_of, IsKept};
 ghost use Rattle.scheduler_core.specs.Afters.{timed_at};
@@ -35,11 +38,26 @@ fn started_then(book: &Book, at: Moment, row: &Row) -> Started
     }
 }
 
+// The rows from this number on. They are found by halves.
+fn rows_from(rows: &Vec<Row>, from: JobId) -> &[Row]
+    requires rising { IsRising number_of rows.now.items }
+    ensures { find (λ (row : Row). is_started row.course.state) result.now ≡ started_from from.0 rows.now.items }
+{
+    let first = rows.partition_point(|row| row.job.0 < from.0);
+    &rows[first..]
+}
+
+fn first_started(rows: &[Row]) -> Option<&Row>
+    ensures { option_copied result ≡ find (λ (row : Row). is_started row.course.state) rows.now }
+{
+    rows.iter().find(|row| is_started(row.course.state))
+}
+
 fn first_row(rows: &Vec<Row>, from: JobId) -> Option<&Row>
+    requires rising { IsRising number_of rows.now.items }
     ensures { option_copied result ≡ started_from from.0 rows.now.items }
 {
-    rows.iter()
-        .find(|row| is_started(row.course.state) && from.0 <= row.job.0)
+    first_started(rows_from(rows, from))
 }
 
 /// The started job of least number that is this one or above it, once time has come to this moment.

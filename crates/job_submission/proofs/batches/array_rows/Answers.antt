@@ -5,12 +5,12 @@ use Rattle.job_submission.specs.Batches.{batch_rows, members_from}
 use Rattle.job_submission.proofs.BatchLaws.{rows-more, text-over, text-left}
 use Rattle.job_submission.proofs.batches.array_rows.Goals as goal
 
-pub returns-in_default-without_template-clause-err : goal.returns-in_default-without_template-clause-err
-returns-in_default-without_template-clause-err c = λ too_much. (
+pub returns-in_default-without_row-clause-err : goal.returns-in_default-without_row-clause-err
+returns-in_default-without_row-clause-err c = λ too_much. (
     let i = c.args.i.now in
     let less : c.loop-place.place < index_count i = omega arith in
     text-over c.args.queues.now c.args.b.now c.args.t.now i (index_count i) c.loop-place.place c.loop-place.room c.args.room
-    (new_text (members_from c.args.b.now c.args.t.now i i.begin (index_count i))) c.in_ok-row.row less (c.in_ok-row.ensures {u = tt}).row c.in_default-without_template.ensures c.loop-place.invariant.text)
+    (new_text (members_from c.args.b.now c.args.t.now i i.begin (index_count i))) c.in_ok-row.row less (c.in_ok-row.ensures {u = tt}).row c.in_default-without_row.ensures c.loop-place.invariant.text)
 
 pub loop-place-preserved : goal.loop-place-preserved
 loop-place-preserved c =

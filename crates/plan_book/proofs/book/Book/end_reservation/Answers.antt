@@ -17,10 +17,10 @@ use Rattle.plan_book.specs.Book.{plan_of, HasFewQueues}
 use Rattle.plan_book.specs.Ties.{IsTied}
 use Rattle.plan_book.specs.TieLaws.{tied-then, tied-ended, tied-passed}
 use Rattle.plan_book.proofs.book.Book.end_reservation.Goals as goal
-use Rattle.plan_book.proofs.book.Book.end_reservation.Goals.{After-set_alarm}
+use Rattle.plan_book.proofs.book.Book.end_reservation.Goals.{After-sweep}
 
-plan : (c : After-set_alarm) → plan_of c.set_alarm.new.self ≡ call_in (expire c.args.entry (without_reservation c.args.reservation (advance_plan c.args.entry c.args.at (plan_of c.args.self.now))))
-plan c = c.set_alarm.ensures.plan ∙ c.sweep.ensures.plan ∙ ap (λ (p : Plan). call_in (expire c.args.entry p)) (c.drop_reservation.ensures.plan ∙ ap (without_reservation c.args.reservation) c.advance.ensures.plan)
+plan : (c : After-sweep) → plan_of c.sweep.new.self ≡ call_in (expire c.args.entry (without_reservation c.args.reservation (advance_plan c.args.entry c.args.at (plan_of c.args.self.now))))
+plan c = c.sweep.ensures.plan ∙ ap (λ (p : Plan). call_in (expire c.args.entry p)) (c.drop_reservation.ensures.plan ∙ ap (without_reservation c.args.reservation) c.advance.ensures.plan)
 
 pub returns-clause-meets : goal.returns-clause-meets
 returns-clause-meets c =
@@ -40,17 +40,17 @@ returns-clause-kept c =
     let size = weight-advance c.args.entry c.args.at p in
     let same : weight (call_in (expire c.args.entry left)) ≡ weight left = weight-call_in (expire c.args.entry left) ∙ weight-expire c.args.entry left in
     let tied_q : IsTied c.advance.new.self.calendar q = tied-then c.args.self.now.calendar c.advance.new.self.calendar c.args.entry c.args.at p q c.requires.kept.fit c.requires.kept.tied c.advance.ensures.calendar refl in
-    let calendar : c.set_alarm.new.self.calendar ≡ record c.advance.new.self.calendar { bookings = without (Reservation c.args.reservation) c.advance.new.self.calendar.bookings } =
-    c.set_alarm.ensures.calendar ∙ c.sweep.ensures.calendar ∙ c.drop_reservation.ensures.calendar in
+    let calendar : c.sweep.new.self.calendar ≡ record c.advance.new.self.calendar { bookings = without (Reservation c.args.reservation) c.advance.new.self.calendar.bookings } =
+    c.sweep.ensures.calendar ∙ c.drop_reservation.ensures.calendar in
     record {
-      room = c.set_alarm.ensures.room c.sweep.ensures.room;
+      room = c.sweep.ensures.room;
       fit = subst IsFit (sym (plan c)) (call_in-fit (expire c.args.entry left) (expire-fit c.args.entry left fit_left));
       light = omega (arith, ap weight (plan c), size, same, c.requires.kept.light);
       queues = subst HasFewQueues (sym (plan c)) c.requires.kept.queues;
-      tied = subst (λ (s : Schedule). IsTied s (plan_of c.set_alarm.new.self)) (sym calendar)
+      tied = subst (λ (s : Schedule). IsTied s (plan_of c.sweep.new.self)) (sym calendar)
           (subst (IsTied (record c.advance.new.self.calendar { bookings = without (Reservation c.args.reservation) c.advance.new.self.calendar.bookings })) (sym (plan c))
           (tied-passed _ c.args.entry left fit_left (tied-ended c.advance.new.self.calendar q c.args.reservation tied_q)));
-      quiet = c.set_alarm.ensures.quiet;
+      quiet = c.sweep.ensures.quiet;
     }
 
 pub returns-then-size-limit-clause-meets : goal.returns-then-size-limit-clause-meets

@@ -1,15 +1,96 @@
-use Rattle.std.proofs.Common.{◌≡◌, true, sym, ◌∙◌, ap}
-use Rattle.std.specs.Global.{Vec}
-use Rattle.std.specs.List.{list_all}
+use Rattle.std.proofs.Common.{◌≡◌, ℕ, ◌++◌, List, map, filter, length, sym, ◌∙◌, ap, subst, arith}
+use Rattle.std.specs.List.{AllByRecursion, flat_map}
+use Rattle.std.proofs.lemmas.List.{length-map}
+use Rattle.drmaa_types.specs.declared.changes.Change.{Change}
+use Rattle.drmaa_types.specs.declared.moments.End.{End}
+use Rattle.drmaa_model.specs.declared.courses.Order.{Order}
+use Rattle.drmaa_model.specs.declared.reservations.Accepted.{Accepted}
 use Rattle.drmaa_model.specs.declared.rows.Row.{Row}
-use Rattle.plan_book.specs.Book.{plan_of}
-use Rattle.plan_book.specs.Quiet.{is_left}
-use Rattle.plan_book.proofs.QuietLaws.{quiet}
+use Rattle.drmaa_model.specs.Plan.{Plan}
+use Rattle.drmaa_model.specs.Rows.{change_of}
+use Rattle.drmaa_model.specs.Time.{lapses, lapsed, is_due, called_in, kill_order}
+use Rattle.drmaa_model.specs.TimeLaws.{changes-lapsed, expiry, map-twice}
+use Rattle.plan_book.specs.Book.{plan_of, owed, askable}
+use Rattle.plan_book.specs.Passes.{ends, kills_then}
+use Rattle.plan_book.specs.Quiet.{IsLeftUntil, LastsUntil}
+use Rattle.plan_book.proofs.PassLaws.{filter-flat, kills-flat}
+use Rattle.plan_book.proofs.QuietLaws.{rows-first, lasting-second}
+use Rattle.plan_book.proofs.RoomLaws.{changes-expire, orders-expire, changes-called, orders-called}
 use Rattle.plan_book.proofs.book.Book.sweep.Goals as goal
 
-pub returns-then-are_left-clause-plan : goal.returns-then-are_left-clause-plan
-returns-then-are_left-clause-plan c =
+-- so many changes and orders as there are jobs whose time is over
+count-ended : (entry m : ℕ) (rs : List Accepted) (rows : List Row) → length (flat_map (ends entry m rs) rows) ≡ length (filter (lapses m rs) rows)
+count-ended entry m rs rows = ap length (filter-flat (lapses m rs) (expiry entry) rows) ∙ length-map (filter (lapses m rs) rows) (expiry entry)
+
+count-asked : (m : ℕ) (rs : List Accepted) (rows : List Row) → length (flat_map (kills_then m rs) rows) ≡ length (filter (is_due m rs) (map (lapsed m rs) rows))
+count-asked m rs rows = ap length (kills-flat m rs rows) ∙ length-map (filter (is_due m rs) (map (lapsed m rs) rows)) kill_order
+
+pub sweep_rows-soonest-requires-clause-changes : goal.sweep_rows-soonest-requires-clause-changes
+sweep_rows-soonest-requires-clause-changes c =
     let s = c.args.self.now in
-    let left : list_all (is_left s.moment s.reservations.items) s.rows.items ≡ true =
-    ap (λ (v : Vec Row). list_all (is_left s.moment s.reservations.items) v.items) (sym c.list.ensures) ∙ sym c.are_left.ensures ∙ c.if-are_left.true in
-    sym (quiet (plan_of s) c.args.entry left)
+    omega (arith, c.requires.room.changes, count-ended c.args.entry s.moment s.reservations.items s.rows.items, changes-expire s.moment s.reservations.items s.rows.items)
+
+pub sweep_rows-soonest-requires-clause-orders : goal.sweep_rows-soonest-requires-clause-orders
+sweep_rows-soonest-requires-clause-orders c =
+    let s = c.args.self.now in
+    let m = s.moment in
+    let rs = s.reservations.items in
+    omega (arith, c.requires.room.orders, count-asked m rs s.rows.items, orders-expire m rs s.rows.items, orders-called m rs (map (lapsed m rs) s.rows.items))
+
+pub returns-clause-plan : goal.returns-clause-plan
+returns-clause-plan c =
+    let s = c.args.self.now in
+    let m = s.moment in
+    let rs = s.reservations.items in
+    let swept = c.sweep_rows-soonest in
+    let rows : swept.new.self.items ≡ map (called_in m rs) (map (lapsed m rs) s.rows.items) = swept.ensures.items ∙ map-twice (called_in m rs) (lapsed m rs) s.rows.items in
+    let changes : swept.new.changes.items ≡ s.changes.items ++ flat_map (λ row. change_of c.args.entry row (lapsed m rs row)) s.rows.items =
+    swept.ensures.changes ∙ ap (λ (cs : List Change). s.changes.items ++ cs) (filter-flat (lapses m rs) (expiry c.args.entry) s.rows.items ∙ sym (changes-lapsed c.args.entry m rs s.rows.items)) in
+    let orders : swept.new.orders.items ≡ s.orders.items ++ map kill_order (filter (is_due m rs) (map (lapsed m rs) s.rows.items)) =
+    swept.ensures.orders ∙ ap (λ (os : List Order). s.orders.items ++ os) (kills-flat m rs s.rows.items) in
+    ap (λ xs. let p : Plan = record (plan_of s) { rows = xs; changes = swept.new.changes.items; orders = swept.new.orders.items } in p) rows
+    ∙ ap (λ cs. let p : Plan = record (plan_of s) { rows = map (called_in m rs) (map (lapsed m rs) s.rows.items); changes = cs; orders = swept.new.orders.items } in p) changes
+    ∙ ap (λ os. let p : Plan = record (plan_of s) { rows = map (called_in m rs) (map (lapsed m rs) s.rows.items); changes = s.changes.items ++ flat_map (λ row. change_of c.args.entry row (lapsed m rs row)) s.rows.items; orders = os } in p) orders
+
+pub returns-clause-room : goal.returns-clause-room
+returns-clause-room c =
+    let s = c.args.self.now in
+    let m = s.moment in
+    let rs = s.reservations.items in
+    let old = s.rows.items in
+    let swept = c.sweep_rows-soonest in
+    let rows : swept.new.self.items ≡ map (called_in m rs) (map (lapsed m rs) old) = swept.ensures.items ∙ map-twice (called_in m rs) (lapsed m rs) old in
+    record {
+      changes = omega (arith, ap owed rows, c.requires.room.changes, swept.ensures.changes_len, swept.ensures.changes_capacity, count-ended c.args.entry m rs old, changes-expire m rs old, changes-called m rs (map (lapsed m rs) old));
+      orders = omega (arith, ap askable rows, c.requires.room.orders, swept.ensures.orders_len, swept.ensures.orders_capacity, count-asked m rs old, orders-expire m rs old, orders-called m rs (map (lapsed m rs) old));
+    }
+
+pub returns-clause-spare : goal.returns-clause-spare
+returns-clause-spare c =
+    let s = c.args.self.now in
+    let m = s.moment in
+    let rs = s.reservations.items in
+    let old = s.rows.items in
+    let swept = c.sweep_rows-soonest in
+    let rows : swept.new.self.items ≡ map (called_in m rs) (map (lapsed m rs) old) = swept.ensures.items ∙ map-twice (called_in m rs) (lapsed m rs) old in
+    omega (arith, ap owed rows, c.requires.room.changes, swept.ensures.changes_len, swept.ensures.changes_capacity, count-ended c.args.entry m rs old, changes-expire m rs old, changes-called m rs (map (lapsed m rs) old))
+
+pub returns-clause-spare_orders : goal.returns-clause-spare_orders
+returns-clause-spare_orders c =
+    let s = c.args.self.now in
+    let m = s.moment in
+    let rs = s.reservations.items in
+    let old = s.rows.items in
+    let swept = c.sweep_rows-soonest in
+    let rows : swept.new.self.items ≡ map (called_in m rs) (map (lapsed m rs) old) = swept.ensures.items ∙ map-twice (called_in m rs) (lapsed m rs) old in
+    omega (arith, ap askable rows, c.requires.room.orders, swept.ensures.orders_len, swept.ensures.orders_capacity, count-asked m rs old, orders-expire m rs old, orders-called m rs (map (lapsed m rs) old))
+
+pub returns-clause-quiet : goal.returns-clause-quiet
+returns-clause-quiet c =
+    let rs = c.args.self.now.reservations.items in
+    let swept = c.sweep_rows-soonest in
+    let first = c.first_end.result in
+    record {
+      rows = subst (λ (e : End). AllByRecursion (IsLeftUntil e rs) swept.new.self.items) (sym c.lesser_end-self.ensures) (rows-first swept.result first rs swept.new.self.items swept.ensures.soonest);
+      reservations = subst (λ (e : End). AllByRecursion (LastsUntil e) rs) (sym c.lesser_end-self.ensures) (lasting-second swept.result first rs c.first_end.ensures);
+    }

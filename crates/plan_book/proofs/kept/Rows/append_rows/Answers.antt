@@ -1,14 +1,18 @@
-use Rattle.std.proofs.Common.{◌++◌, List, sym, subst, arith}
+use Rattle.std.proofs.Common.{◌+◌, ◌++◌, ◌∙◌, List, ap, sym, subst, arith}
+use Rattle.std.proofs.lemmas.List.Sums.{sum_by-append}
+use Rattle.job_template.specs.Texts.{text_length}
 use Rattle.drmaa_model.specs.declared.rows.Row.{Row}
+use Rattle.drmaa_model.specs.Submitting.{kept_text}
 use Rattle.plan_book.specs.declared.sums.Sums.{Sums}
 use Rattle.plan_book.specs.Sums.{AreSums}
 use Rattle.plan_book.proofs.SumLaws.{sums-few, sums-append}
+use Rattle.plan_book.proofs.TextLaws.{same-room}
 use Rattle.plan_book.proofs.kept.Rows.append_rows.Goals as goal
 
 pub with_others-self-inside-requires-clause-few : goal.with_others-self-inside-requires-clause-few
 with_others-self-inside-requires-clause-few c =
     let vec = c.self.inside.list in
-    sums-few vec.items c.self.inside.sums (omega (arith, vec.ok.0, vec.ok.1, vec.small)) c.self.invariant
+    sums-few vec.items c.self.inside.sums (omega (arith, vec.ok.0, vec.ok.1, vec.small)) c.self.invariant.totals
 
 pub with_others-self-inside-requires-clause-few_others : goal.with_others-self-inside-requires-clause-few_others
 with_others-self-inside-requires-clause-few_others c =
@@ -18,6 +22,11 @@ with_others-self-inside-requires-clause-few_others c =
 pub invariant_of-self : goal.invariant_of-self
 invariant_of-self c =
     let xs = c.self.inside.list.items in
-    subst (λ (rows : List Row). AreSums rows c.with_others-self-inside.result) (sym c.append_rows.ensures)
-    (subst (λ (sums : Sums). AreSums (xs ++ c.args.more.items) sums) (sym c.with_others-self-inside.ensures)
-    (sums-append xs c.args.more.items c.self.inside.sums c.sums_of.result c.self.invariant c.sums_of.ensures))
+    let more = c.args.more.items in
+    record {
+      totals = subst (λ (rows : List Row). AreSums rows c.with_others-self-inside.result) (sym c.append_rows.ensures)
+          (subst (λ (sums : Sums). AreSums (xs ++ more) sums) (sym c.with_others-self-inside.ensures)
+          (sums-append xs more c.self.inside.sums c.sums_of.result c.self.invariant.totals c.sums_of.ensures));
+      text = same-room (kept_text xs + kept_text more) (kept_text c.append_rows.new.rows.items) c.room_with-self-inside.result
+          (ap kept_text c.append_rows.ensures ∙ sum_by-append (λ (row : Row). text_length row.template) xs more) (c.room_with-self-inside.ensures (kept_text xs) c.self.invariant.text);
+    }

@@ -3,16 +3,18 @@ use Rattle.std.specs.Global.{Vec}
 use Rattle.drmaa_model.specs.declared.rows.Row.{Row}
 use Rattle.drmaa_model.specs.Fit.{IsRising, number_of}
 use Rattle.drmaa_model.specs.Rows.{row_of, with_course}
+use Rattle.drmaa_model.specs.Submitting.{kept_text}
 use Rattle.plan_book.specs.declared.sums.Sums.{Sums}
 use Rattle.plan_book.specs.Sums.{AreSums}
 use Rattle.plan_book.proofs.Searched.{find-at, set-at, map-absent}
 use Rattle.plan_book.proofs.SumLaws.{sums-few, sums-parts, sums-change}
+use Rattle.plan_book.proofs.TextLaws.{same-room, text-course}
 use Rattle.plan_book.proofs.kept.Rows.put_course.Goals as goal
 
 pub going_on-self-inside-requires-clause-few : goal.going_on-self-inside-requires-clause-few
 going_on-self-inside-requires-clause-few c =
     let vec = c.self.inside.list in
-    sums-few vec.items c.self.inside.sums (omega (arith, vec.ok.0, vec.ok.1, vec.small)) c.self.invariant
+    sums-few vec.items c.self.inside.sums (omega (arith, vec.ok.0, vec.ok.1, vec.small)) c.self.invariant.totals
 
 pub going_on-self-inside-requires-clause-parts : goal.going_on-self-inside-requires-clause-parts
 going_on-self-inside-requires-clause-parts c =
@@ -20,7 +22,7 @@ going_on-self-inside-requires-clause-parts c =
     let row = c.index.result.now in
     let rising : IsRising number_of xs = subst (λ (v : Vec Row). IsRising number_of v.items) (sym c.self.view_is) c.requires in
     let found : row_of c.args.job xs ≡ Some row = find-at number_of c.args.job.0 xs c.in-Ok.place row rising (c.in-Ok.ensures {u = tt}).found ∙ ap (λ (r : Row). Some r) (sym c.index.ensures) in
-    sums-parts c.args.job c.args.course.now xs row c.self.inside.sums rising found c.self.invariant
+    sums-parts c.args.job c.args.course.now xs row c.self.inside.sums rising found c.self.invariant.totals
 
 pub invariant_of-self : goal.invariant_of-self
 invariant_of-self c =
@@ -33,9 +35,12 @@ invariant_of-self c =
     let found : row_of c.args.job xs ≡ Some row = find-at number_of c.args.job.0 xs c.in-Ok.place row rising at ∙ ap (λ (r : Row). Some r) (sym c.index.ensures) in
     let is : set xs c.in-Ok.place (give c.index_mut.result.now) ≡ map (with_course c.args.job course) xs =
     ap (λ (r : Row). set xs c.in-Ok.place (give r)) c.index_mut.ensures.value ∙ set-at number_of c.args.job.0 give xs c.in-Ok.place c.index_mut.result.now rising at in
-    subst (λ (rows : List Row). AreSums rows c.going_on-self-inside.result) (sym is)
-    (subst (λ (sums : Sums). AreSums (map (with_course c.args.job course) xs) sums) (sym c.going_on-self-inside.ensures.value)
-    (sums-change c.args.job course xs row c.self.inside.sums rising found c.self.invariant c.going_on-self-inside.ensures.small))
+    record {
+      totals = subst (λ (rows : List Row). AreSums rows c.going_on-self-inside.result) (sym is)
+          (subst (λ (sums : Sums). AreSums (map (with_course c.args.job course) xs) sums) (sym c.going_on-self-inside.ensures.value)
+          (sums-change c.args.job course xs row c.self.inside.sums rising found c.self.invariant.totals c.going_on-self-inside.ensures.small));
+      text = same-room (kept_text xs) (kept_text (set xs c.in-Ok.place (give c.index_mut.result.now))) c.self.inside.room (ap kept_text is ∙ text-course c.args.job course xs) c.self.invariant.text;
+    }
 
 pub returns-in-Ok : goal.returns-in-Ok
 returns-in-Ok c =

@@ -1,6 +1,6 @@
 use Rattle.std.proofs.Common.{◌≡◌, ◌+◌, take}
 use Rattle.drmaa_model.specs.Submitting.{kept_text}
-use Rattle.job_submission.proofs.texts.without_rows.Given as goal
+use Rattle.plan_book.proofs.texts.without_rows.Given as goal
 
 -- the room that is left, and what the jobs so far took
 abbrev pub invariant-loop-row : goal.invariant-loop-row

@@ -1,0 +1,57 @@
+-- The text of the templates of rows as rows go on and leave.
+use Rattle.std.proofs.Common.{◌≡◌, ℕ, ◌+◌, ◌-◌, ◌≤◌, Bool, true, false, cond, not, List, map, filter, drop, length, Option, Some, refl, sym, ap, subst, arith}
+use Rattle.std.proofs.Math.ListN.{drop_of_length-le}
+use Rattle.std.proofs.lemmas.List.Filters.{sum_by-filter_both}
+use Rattle.job_template.specs.Texts.{text_length}
+use Rattle.drmaa_types.specs.declared.identifiers.JobId.{JobId}
+use Rattle.drmaa_types.specs.declared.states.Control.{Control}
+use Rattle.drmaa_model.specs.declared.calls.Target.{Target}
+use Rattle.drmaa_model.specs.declared.courses.Course.{Course}
+use Rattle.drmaa_model.specs.declared.reservations.Accepted.{Accepted}
+use Rattle.drmaa_model.specs.declared.rows.Row.{Row}
+use Rattle.drmaa_model.specs.Controlling.{control_step}
+use Rattle.drmaa_model.specs.ControlLaws.{control-cases}
+use Rattle.drmaa_model.specs.Rows.{is_of, with_course}
+use Rattle.drmaa_model.specs.Submitting.{kept_text, most_kept_text}
+use Rattle.drmaa_model.specs.TimeLaws.{sum-kept, timed, timed-only}
+use Rattle.plan_book.specs.Texts.{IsRoomBeside}
+
+-- ---- the rows go on, each with its template
+
+pub same-room : (n m : ℕ) (room : Option ℕ) → m ≡ n → IsRoomBeside n room → IsRoomBeside m room
+same-room n m room same is = subst (λ (k : ℕ). IsRoomBeside k room) (sym same) is
+
+pub text-map : (f : Row → Row) → ((row : Row) → (f row).template ≡ row.template) → (rows : List Row) → kept_text (map f rows) ≡ kept_text rows
+text-map f same rows = sum-kept (λ (row : Row). text_length row.template) f (λ row. ap text_length (same row)) rows
+
+pub text-timed : (moment : ℕ) (rs : List Accepted) (rows : List Row) → kept_text (map (timed moment rs) rows) ≡ kept_text rows
+text-timed moment rs rows = text-map (timed moment rs) (λ row. ap (λ (r : Row). r.template) (timed-only moment rs row)) rows
+
+with-template : (job : JobId) (course : Course) (row : Row) → (with_course job course row).template ≡ row.template
+with-template job course row =
+    elim (is_of job row) as (λ b. (let r : Row = cond b (record row { course = course }) row in r).template ≡ row.template) [ true ↦ refl | false ↦ refl ]
+
+pub text-course : (job : JobId) (course : Course) (rows : List Row) → kept_text (map (with_course job course) rows) ≡ kept_text rows
+text-course job course rows = text-map (with_course job course) (with-template job course) rows
+
+step-template : (moment : ℕ) (t : Target) (what : Control) (row : Row) → (control_step moment t what row).template ≡ row.template
+step-template moment t what row = control-cases (λ (p q : Row). q.template ≡ p.template) moment t what row refl (λ state e. refl)
+
+pub text-step : (moment : ℕ) (t : Target) (what : Control) (rows : List Row) → kept_text (map (control_step moment t what) rows) ≡ kept_text rows
+text-step moment t what rows = text-map (control_step moment t what) (step-template moment t what) rows
+
+-- ---- rows leave
+
+-- what leaves and what stays
+pub text-both : (leaves : Row → Bool) (rows : List Row) → kept_text (filter leaves rows) + kept_text (filter (λ row. not (leaves row)) rows) ≡ kept_text rows
+text-both leaves rows = sum_by-filter_both leaves (λ row. not (leaves row)) (λ row. refl) (λ (row : Row). text_length row.template) rows
+
+-- the room after all rows
+pub room-stays : (leaves : Row → Bool) (rows seen : List Row) (i text : ℕ) → seen ≡ rows → length seen ≤ i → text + kept_text (filter leaves seen) ≡ kept_text seen + kept_text (filter leaves (drop i seen))
+    → kept_text seen ≤ most_kept_text → IsRoomBeside (kept_text (filter (λ row. not (leaves row)) rows)) (Some (most_kept_text - text))
+room-stays leaves rows seen i text same all left few =
+    let none : kept_text (filter leaves (drop i seen)) ≡ 0 = ap (λ (rs : List Row). kept_text (filter leaves rs)) (drop_of_length-le seen all) in
+    let both = text-both leaves seen in
+    let is : kept_text (filter (λ row. not (leaves row)) seen) ≡ text = omega arith in
+    subst (λ (rs : List Row). IsRoomBeside (kept_text (filter (λ row. not (leaves row)) rs)) (Some (most_kept_text - text))) same
+    (omega arith, ap (λ (n : ℕ). most_kept_text - n) (sym is))

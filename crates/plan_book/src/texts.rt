@@ -1,0 +1,82 @@
+//! The room that the text of the templates of the kept jobs leaves of the greatest that they may have. None of it takes memory.
+ghost use Rattle.std.specs.Prelude.{◌+◌, ◌-◌, ◌≤◌, ◌&&◌, ℕ, not, filter, Some, SomeIff, IfSome};
+ghost use Rattle.drmaa_model.specs.declared.rows.Row.{Row};
+ghost use Rattle.drmaa_model.specs.Controlling.{is_done};
+ghost use Rattle.drmaa_model.specs.Effects.{is_forgotten};
+ghost use Rattle.drmaa_model.specs.Submitting.{kept_text};
+ghost use Rattle.drmaa_model.specs.Targets.{is_meant};
+ghost use Rattle.plan_book.specs.Texts.{IsRoomBeside};
+
+use crate::arrivals::is_reaped;
+use crate::homes::is_forgotten;
+use drmaa_model::{Row, Target};
+use job_template::without_template;
+
+/// The most text of the templates of all kept jobs, in bytes.
+const MOST_KEPT_TEXT: usize = 67_108_864;
+
+/// The room where no job is kept.
+pub fn whole_room() -> Option<usize>
+    ensures { IsRoomBeside 0 result }
+{
+    Some(MOST_KEPT_TEXT)
+}
+
+/// The room that the templates of jobs leave. None exactly where they need more.
+fn without_rows(room: usize, rows: &Vec<Row>) -> Option<usize>
+    ensures { SomeIff result (kept_text rows.now.items ≤ room) (room - kept_text rows.now.items) }
+{
+    let mut room = room;
+    for row in rows {
+        room = without_template(room, row.template.get())?;
+    }
+    Some(room)
+}
+
+/// The room once more jobs have come in.
+pub fn room_with(room: Option<usize>, more: &Vec<Row>) -> Option<usize>
+    ensures { (text : ℕ) → IsRoomBeside text room → IsRoomBeside (text + kept_text more.now.items) result }
+{
+    without_rows(room?, more)
+}
+
+/// The room once the ended ones of the jobs that are meant are forgotten, at whose templates alone it looks. None where there was
+/// none: then it has to be counted anew.
+pub fn room_without_done(room: Option<usize>, rows: &Vec<Row>, target: &Target) -> Option<usize>
+    requires { IsRoomBeside (kept_text rows.now.items) room }
+    ensures { IfSome result (λ room. IsRoomBeside (kept_text (filter (λ (row : Row). not (is_meant target.now row && is_done row)) rows.now.items)) (Some room)) }
+{
+    let mut text = MOST_KEPT_TEXT - room?;
+    for row in rows {
+        if is_reaped(target, row) {
+            text = without_template(text, row.template.get())?;
+        }
+    }
+    Some(MOST_KEPT_TEXT - text)
+}
+
+/// The room once the ended jobs of a home are forgotten, at whose templates alone it looks. None where there was none: then it has
+/// to be counted anew.
+pub fn room_without_forgotten(room: Option<usize>, rows: &Vec<Row>, home: u64) -> Option<usize>
+    requires { IsRoomBeside (kept_text rows.now.items) room }
+    ensures { IfSome result (λ room. IsRoomBeside (kept_text (filter (λ (row : Row). not (is_forgotten home row)) rows.now.items)) (Some room)) }
+{
+    let mut text = MOST_KEPT_TEXT - room?;
+    for row in rows {
+        if is_forgotten(row, home) {
+            text = without_template(text, row.template.get())?;
+        }
+    }
+    Some(MOST_KEPT_TEXT - text)
+}
+
+/// The room that the kept jobs leave, which is counted where it isn't known.
+pub fn room_beside(known: Option<usize>, rows: &Vec<Row>) -> Option<usize>
+    requires { IfSome known (λ room. IsRoomBeside (kept_text rows.now.items) (Some room)) }
+    ensures { IsRoomBeside (kept_text rows.now.items) result }
+{
+    match known {
+        Some(room) => Some(room),
+        None => without_rows(MOST_KEPT_TEXT, rows),
+    }
+}
