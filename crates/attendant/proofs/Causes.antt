@@ -10,7 +10,7 @@ use Rattle.drmaa_model.specs.declared.faults.NoEntry.{NoEntry}
 use Rattle.drmaa_model.specs.declared.faults.NoEntry.TheVariants as no
 use Rattle.drmaa_model.specs.declared.replies.Signal.{Signal}
 use Rattle.turn_lock.specs.Tokens.{IsFree}
-use Rattle.call_history.specs.Clients.{mine_of, number_of}
+use Rattle.call_history.specs.Clients.{mine_of}
 use Rattle.child_spawner.specs.Children.{Told}
 use Rattle.attendant.specs.declared.reaper.Held.{Held}
 use Rattle.attendant.specs.declared.reaper.Hand.{Hand}
@@ -18,7 +18,7 @@ use Rattle.attendant.specs.Acts.{Act, act_of, acts_of}
 use Rattle.attendant.specs.Posts.{Post, acts_at, IsStillAt, Fails, FailsWithin}
 use Rattle.attendant.specs.Steps.{MayFail}
 use Rattle.attendant.specs.Rounds.{asked_signal, Took, FindsNone, Serves, ReportSteps, ServesTaken, ServesOrder, PollsAll, RoundAnswer, ReapSteps, IsTaking, takes, keeps, finds_none, finds_full, lacks_memory, IsOrderServed, IsRoundRefused, wants_memory, full_at_take, full_at_report}
-use Rattle.attendant.proofs.Desks.{still-same, still-both, still-free, fails-on}
+use Rattle.attendant.proofs.Desks.{still-same, still-both, within, fails-on, fails-last}
 use Rattle.attendant.proofs.Entries.{some_is}
 
 err_is : (a b : Refusal) (r : Result ℕ Refusal) → r ≡ Err a → r ≡ Err b → a ≡ b
@@ -29,7 +29,7 @@ none_some x e = cc
 
 -- a call that made no entry, in the time of a round
 pub fails-now : (old now new : Post) (c : Call) (why : NoEntry) → IsFree old.shared old.client → Fails old c why now → IsStillAt now new → FailsWithin old c why new
-fails-now old now new c why free f still = record { before = old; from_old = still-same old free; after = now; fails = f; to_new = still }
+fails-now old now new c why free f still = within old old now new c why (still-same old free) f still
 
 -- ---- whether an order was taken
 
@@ -86,7 +86,7 @@ report_refused old taken new hand s answer no.OutOfMemory why first still of f m
 report_refused old taken new hand s answer no.NotYet why first still of f m = wants_memory m
 report_refused old taken new hand s answer no.Nothing why first still of f m = wants_memory m
 report_refused old taken new hand s answer (no.Journal size) why first still of f m = full_at_report size s answer m
-    (record { before = taken; from_old = first; after = new; fails = f; to_new = still-same new (still-free taken new still) }) of
+    (fails-last old taken new (asked_signal answer s) _ first still f) of
 
 -- a delivery leaves the order's signal
 same_signal : {T : Type 0} (told : T → Option Told) (faults : T → ℕ) (h d : Hand) (c0 c1 : Slab (Held T)) → Serves told faults h d c0 c1 → d.signal ≡ h.signal

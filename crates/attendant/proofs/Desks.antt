@@ -214,7 +214,7 @@ answers config old new at c r m same own legal = record {
 
 -- ---- desks
 
-gives-one : (before : Option (List ℕ)) (at : ℕ) (after : Option (List ℕ)) → Reads before at after → Gives before (at ∷ []) after
+pub gives-one : (before : Option (List ℕ)) (at : ℕ) (after : Option (List ℕ)) → Reads before at after → Gives before (at ∷ []) after
 gives-one before at None told = tt
 gives-one None at (Some after) told = told
 gives-one (Some before) at (Some after) told = told
@@ -223,7 +223,7 @@ gives-none : (given : Option (List ℕ)) → Gives given [] given
 gives-none None = tt
 gives-none (Some readings) = sym (append-nil readings)
 
-gives-both : (before : Option (List ℕ)) (first : List ℕ) (mid : Option (List ℕ)) (second : List ℕ) (after : Option (List ℕ))
+pub gives-both : (before : Option (List ℕ)) (first : List ℕ) (mid : Option (List ℕ)) (second : List ℕ) (after : Option (List ℕ))
     → Gives before first mid → Gives mid second after → Gives before (first ++ second) after
 gives-both before first mid second None f s = tt
 gives-both before first None second (Some after) f s = absurd s
@@ -363,27 +363,29 @@ still-learnt old seat free number mine own begins legal = record {
 pub still-free : (old new : Post) → IsStillAt old new → IsFree new.shared new.client
 still-free old new s = subst (λ (n : Named Config). IsFree n new.client) (sym s.shared_is) s.client
 
+-- a call that made no entry between two posts, and its reading among those that were given there
+abbrev pub within : (old before after new : Post) (c : Call) (why : NoEntry) → IsStillAt old before → Fails before c why after → IsStillAt after new → FailsWithin old c why new
+within old before after new c why a f b = record {
+  before = before;
+  from_old = a;
+  after = after;
+  fails = f;
+  to_new = b;
+  earlier = a.readings;
+  later = b.readings;
+  read = gives-both old.clock.given a.readings before.clock.given (f.at ∷ b.readings) new.clock.given a.gave
+      (gives-both before.clock.given (f.at ∷ []) after.clock.given b.readings new.clock.given (gives-one before.clock.given f.at after.clock.given f.read.told) b.gave);
+}
+
 -- a call that made no entry, in a longer time
 abbrev pub fails-on : (first old new : Post) (c : Call) (why : NoEntry) → FailsWithin first c why old → IsStillAt old new → FailsWithin first c why new
-fails-on first old new c why f b = record {
-  before = f.before;
-  from_old = f.from_old;
-  after = f.after;
-  fails = f.fails;
-  to_new = still-both f.after old new f.to_new b;
-}
+fails-on first old new c why f b = within first f.before f.after new c why f.from_old f.fails (still-both f.after old new f.to_new b)
 
 abbrev pub fails-from : (first old new : Post) (c : Call) (why : NoEntry) → IsStillAt first old → FailsWithin old c why new → FailsWithin first c why new
-fails-from first old new c why a f = record {
-  before = f.before;
-  from_old = still-both first old f.before a f.from_old;
-  after = f.after;
-  fails = f.fails;
-  to_new = f.to_new;
-}
+fails-from first old new c why a f = within first f.before f.after new c why (still-both first old f.before a f.from_old) f.fails f.to_new
 
 abbrev pub fails-last : (old mid new : Post) (c : Call) (why : NoEntry) → IsStillAt old mid → IsStillAt mid new → Fails mid c why new → FailsWithin old c why new
-fails-last old mid new c why a b f = record { before = mid; from_old = a; after = new; fails = f; to_new = still-same new (still-free mid new b) }
+fails-last old mid new c why a b f = within old mid new new c why a f (still-same new (still-free mid new b))
 
 -- ---- takes
 

@@ -5,3 +5,4 @@ pub mod Outside
 pub mod Steps
 pub mod Rounds
 pub mod Whole
+pub mod Loops

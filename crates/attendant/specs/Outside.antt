@@ -211,17 +211,18 @@ pub record Attending {T : Type 0} (told : T → Option Told) (asked asked_after 
   pub keeps : Keeps told asked fate launcher reaper at hand → Keeps told asked_after fate_after launcher_after reaper_after at_after hand_after
   pub agrees : Clean → Keeps told asked fate launcher reaper at hand → AgreesOf asked fate launcher reaper → AgreesOf asked_after fate_after launcher_after reaper_after
 
--- Why the loops are refused: for want of memory; or since the journal had no room for the entry by which a launch or an order is
--- taken, or for that by which the order is reported which the reaper took last.
-pub data IsHeldUp (launcher launcher_after reaping reaping_after : Post) (why : Refusal) : Type 0 where
-  out_of_memory : why ≡ OutOfMemory → IsHeldUp launcher launcher_after reaping reaping_after why
+-- Why the loops are refused: for want of memory; or with the size that the machine answered for a call of launcher or reaper, at the
+-- reading that this call took: for taking a launch, for taking an order, or for reporting what the delivery of an order answered. That
+-- order is the one which the reaper took last, where the two tended before.
+pub data IsHeldUp (launcher launcher_after reaping reaping_after : Post) (Tended : Type 0) (why : Refusal) : Type 0 where
+  out_of_memory : why ≡ OutOfMemory → IsHeldUp launcher launcher_after reaping reaping_after Tended why
   full_at_launch : (size : ℕ) → why ≡ OutOfResource (limit.Journal size) → FailsWithin launcher call.TakeLaunch (no.Journal size) launcher_after
-      → IsHeldUp launcher launcher_after reaping reaping_after why
+      → IsHeldUp launcher launcher_after reaping reaping_after Tended why
   full_at_order : (size : ℕ) → why ≡ OutOfResource (limit.Journal size) → FailsWithin reaping call.TakeSignal (no.Journal size) reaping_after
-      → IsHeldUp launcher launcher_after reaping reaping_after why
+      → IsHeldUp launcher launcher_after reaping reaping_after Tended why
   full_at_answer : (size : ℕ) (signal : Signal) (answer : Bool) → why ≡ OutOfResource (limit.Journal size)
-      → (f : FailsWithin reaping (asked_signal answer signal) (no.Journal size) reaping_after) → owed (acts_at f.before) ≡ Some signal
-      → IsHeldUp launcher launcher_after reaping reaping_after why
+      → (f : FailsWithin reaping (asked_signal answer signal) (no.Journal size) reaping_after) → (Tended → owed (acts_at f.before) ≡ Some signal)
+      → IsHeldUp launcher launcher_after reaping reaping_after Tended why
 
 -- The client's last call was a look, at the clock's last reading, for the world of all that the client has seen, and it said that the machine is settled.
 pub record EndsSettled (config : Config) (now : Post) : Type 0 where

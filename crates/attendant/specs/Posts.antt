@@ -66,10 +66,14 @@ Succeeds old asked reply new = IsServed old.clock old.client asked reply new.clo
 abbrev pub Fails : Post → Call → NoEntry → Post → Type 0
 Fails old asked why new = IsUnserved old.shared.fixed old.clock old.client asked why new.clock new.client
 
--- At some time between the two a call made no entry, for this cause.
+-- At some time between the two a call made no entry, for this cause. The moment of the call is the one reading that it took of the
+-- desk's clock: where the clock tells, it gave that between the two.
 pub record FailsWithin (old : Post) (asked : Call) (why : NoEntry) (new : Post) : Type 0 where
   pub before : Post
   pub from_old : IsStillAt old before
   pub after : Post
   pub fails : Fails before asked why after
   pub to_new : IsStillAt after new
+  pub earlier : List ℕ
+  pub later : List ℕ
+  pub read : Gives old.clock.given (earlier ++ fails.at ∷ later) new.clock.given

@@ -1,19 +1,21 @@
 //! The loops of launcher and reaper.
-ghost use Rattle.std.specs.Prelude.{◌≡◌, OnOk, IfErr, IsOk, IsTrue, None};
+ghost use Rattle.std.specs.Prelude.{◌≡◌, OnOk, IfOk, IfErr, IsOk, IsTrue, Some, None};
 ghost use Rattle.slab.specs.Slab.{get};
 ghost use Rattle.turn_lock.specs.Histories.{BeginsWith};
 ghost use Rattle.turn_lock.specs.Tokens.{IsFree};
 ghost use Rattle.call_history.specs.Clients.{seen_of};
 ghost use Rattle.attendant.specs.Acts.{own_acts};
 ghost use Rattle.attendant.specs.Posts.{post, IsStillAt};
+ghost use Rattle.attendant.specs.Loops.{stage, IsRound, ComesBetween, EndsAtFirst, KeepsFirst};
 ghost use Rattle.attendant.specs.Outside.{Tends, Attending, EndsSettled, IsHeldUp};
 
 use crate::launching::launch_once;
+use crate::pauses::pause;
 use crate::reaping::{first_of, reap_once};
 use crate::{Launched, Reaper};
-use call_history::{Answer, Desk, Question};
+use call_history::{Answer, Desk, Pace, Question};
 use child_spawner::Spawner;
-use drmaa_types::{Clock, Refusal};
+use drmaa_types::{Clock, Refusal, WaitKind};
 use std::sync::{Mutex, Wait};
 use std::time::Clock as Pause;
 
@@ -64,8 +66,12 @@ fn attend_once<R: Wait, S: Spawner, C: Clock>(
     ensures attending { Attending S.One.told (S.asked spawner.old) (S.asked spawner.new) (S.fate spawner.old) (S.fate spawner.new)
         (own_acts launcher.old.client) (own_acts launcher.new.client) (own_acts reaping.old.client) (own_acts reaping.new.client)
         (get reaper.old.children) (get reaper.new.children) reaper.old.order reaper.new.order (IsOk result) }
-    ensures err { Tends (own_acts launcher.old.client) (own_acts reaping.old.client) (get reaper.old.children) reaper.old.order → IfErr result (IsHeldUp (post C.given C.least launcher.old) (post C.given C.least launcher.new)
-        (post C.given C.least reaping.old) (post C.given C.least reaping.new)) }
+    ensures served { IfOk result (λ idle. IsRound S.One.told S.One.faults (stage (post C.given C.least launcher.old) (post C.given C.least reaping.old) (S.asked spawner.old) (S.fate spawner.old) reaper.old.children reaper.old.order)
+        (stage (post C.given C.least launcher.new) (post C.given C.least reaping.new) (S.asked spawner.new) (S.fate spawner.new) reaper.new.children reaper.new.order) None) }
+    ensures refused { IfErr result (λ why. IsRound S.One.told S.One.faults (stage (post C.given C.least launcher.old) (post C.given C.least reaping.old) (S.asked spawner.old) (S.fate spawner.old) reaper.old.children reaper.old.order)
+        (stage (post C.given C.least launcher.new) (post C.given C.least reaping.new) (S.asked spawner.new) (S.fate spawner.new) reaper.new.children reaper.new.order) (Some why)) }
+    ensures err { IfErr result (IsHeldUp (post C.given C.least launcher.old) (post C.given C.least launcher.new) (post C.given C.least reaping.old) (post C.given C.least reaping.new)
+        (Tends (own_acts launcher.old.client) (own_acts reaping.old.client) (get reaper.old.children) reaper.old.order)) }
 {
     let launched = launch_once(rt, launcher, spawner, reaper);
     let reports = reap_once(rt, reaping, reaper);
@@ -87,6 +93,7 @@ fn is_settled<R: Wait, C: Clock>(
     ensures launcher { IsStillAt (post C.given C.least launcher.old) (post C.given C.least launcher.new) }
     ensures reaping { reaping.new ≡ reaping.old }
     ensures mine { own_acts launcher.new.client ≡ own_acts launcher.old.client }
+    ensures between { ComesBetween (post C.given C.least launcher.old) (post C.given C.least launcher.new) }
     ensures settled { IsTrue result → EndsSettled launcher.old.shared.now.fixed (post C.given C.least launcher.new) }
     ensures begins { BeginsWith (seen_of launcher.new.client) (seen_of reaping.new.client) }
 {
@@ -121,13 +128,17 @@ pub fn run_attendant<R: Wait + Pause, S: Spawner, C: Clock>(
     ensures attending { Attending S.One.told (S.asked spawner.old) (S.asked spawner.new) (S.fate spawner.old) (S.fate spawner.new)
         (own_acts launcher.old.client) (own_acts launcher.new.client) (own_acts reaping.old.client) (own_acts reaping.new.client)
         (get reaper.old.children) (get reaper.new.children) reaper.old.order reaper.new.order (IsOk result) }
-    ensures err { Tends (own_acts launcher.old.client) (own_acts reaping.old.client) (get reaper.old.children) reaper.old.order → IfErr result (IsHeldUp (post C.given C.least launcher.old) (post C.given C.least launcher.new)
-        (post C.given C.least reaping.old) (post C.given C.least reaping.new)) }
+    ensures rounds { KeepsFirst S.One.told S.One.faults (stage (post C.given C.least launcher.old) (post C.given C.least reaping.old) (S.asked spawner.old) (S.fate spawner.old) reaper.old.children reaper.old.order)
+        (stage (post C.given C.least launcher.new) (post C.given C.least reaping.new) (S.asked spawner.new) (S.fate spawner.new) reaper.new.children reaper.new.order) result }
+    ensures err { IfErr result (IsHeldUp (post C.given C.least launcher.old) (post C.given C.least launcher.new) (post C.given C.least reaping.old) (post C.given C.least reaping.new)
+        (Tends (own_acts launcher.old.client) (own_acts reaping.old.client) (get reaper.old.children) reaper.old.order)) }
     ensures settled { OnOk result (EndsSettled launcher.old.shared.now.fixed (post C.given C.least launcher.new)) }
     ensures begins { OnOk result (BeginsWith (seen_of launcher.new.client) (seen_of reaping.new.client)) }
 {
     let mut kept = None;
+    let mut pace = Pace::new();
     for _ in rt.forever() {
+        let before = launcher.bell.strokes(rt, WaitKind::Started);
         let over = done.clients_over(rt);
         let idle = match attend_once(rt, launcher, reaping, spawner, reaper) {
             Ok(idle) => idle,
@@ -144,9 +155,7 @@ pub fn run_attendant<R: Wait + Pause, S: Spawner, C: Clock>(
                 return Ok(());
             }
         }
-        if idle {
-            launcher.bell.rest(rt);
-        }
+        pause(rt, idle, launcher.bell, before, &mut pace);
     }
     unreachable!()
 }
@@ -171,19 +180,21 @@ pub fn finish<R: Wait + Pause, S: Spawner, C: Clock>(
     ensures attending { Attending S.One.told (S.asked spawner.old) (S.asked spawner.new) (S.fate spawner.old) (S.fate spawner.new)
         (own_acts launcher.old.client) (own_acts launcher.new.client) (own_acts reaping.old.client) (own_acts reaping.new.client)
         (get reaper.old.children) (get reaper.new.children) reaper.old.order reaper.new.order (IsOk result) }
-    ensures err { Tends (own_acts launcher.old.client) (own_acts reaping.old.client) (get reaper.old.children) reaper.old.order → IfErr result (IsHeldUp (post C.given C.least launcher.old) (post C.given C.least launcher.new)
-        (post C.given C.least reaping.old) (post C.given C.least reaping.new)) }
+    ensures rounds { EndsAtFirst S.One.told S.One.faults (stage (post C.given C.least launcher.old) (post C.given C.least reaping.old) (S.asked spawner.old) (S.fate spawner.old) reaper.old.children reaper.old.order)
+        (stage (post C.given C.least launcher.new) (post C.given C.least reaping.new) (S.asked spawner.new) (S.fate spawner.new) reaper.new.children reaper.new.order) result }
+    ensures err { IfErr result (IsHeldUp (post C.given C.least launcher.old) (post C.given C.least launcher.new) (post C.given C.least reaping.old) (post C.given C.least reaping.new)
+        (Tends (own_acts launcher.old.client) (own_acts reaping.old.client) (get reaper.old.children) reaper.old.order)) }
     ensures settled { OnOk result (EndsSettled launcher.old.shared.now.fixed (post C.given C.least launcher.new)) }
     ensures begins { OnOk result (BeginsWith (seen_of launcher.new.client) (seen_of reaping.new.client)) }
 {
+    let mut pace = Pace::new();
     for _ in rt.forever() {
+        let before = launcher.bell.strokes(rt, WaitKind::Started);
         let idle = attend_once(rt, launcher, reaping, spawner, reaper)?;
         if is_settled(rt, idle, launcher, reaping) {
             return Ok(());
         }
-        if idle {
-            launcher.bell.rest(rt);
-        }
+        pause(rt, idle, launcher.bell, before, &mut pace);
     }
     unreachable!()
 }

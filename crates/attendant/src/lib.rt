@@ -5,6 +5,7 @@ mod asking;
 mod attending;
 mod launching;
 mod laws;
+mod pauses;
 mod reaper;
 mod reaping;
 

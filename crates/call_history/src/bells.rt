@@ -4,11 +4,14 @@ use drmaa_types::{Control, WaitKind};
 use std::sync::{Condvar, Mutex, Wait};
 use std::time::{Clock, Duration};
 
-/// The longest rest of who looks for what rings no bell, as the end of a process, in microseconds.
-const SHORT_REST: u64 = 500;
+/// The shortest pause between two looks for what rings no bell, as the end of a process, in microseconds.
+const SHORTEST_REST: u64 = 500;
 
-/// The longest rest of a wait, in microseconds.
-const LONG_REST: u64 = 5_000;
+/// The longest pause between two looks, in microseconds. What time brings to a job rings no bell, and is seen so late at most.
+const LONGEST_REST: u64 = 50_000;
+
+/// Who looks for what rings no bell rests for one part in so many of the time in which nothing has happened.
+const PARTS: u64 = 16;
 
 /// What an entry may bring to those who rest, beside what time brings.
 #[derive(Clone, Copy)]
@@ -129,6 +132,36 @@ pub struct Strokes {
     count: u64,
 }
 
+/// How long to rest between two looks for what rings no bell: the longer nothing has happened, the longer. So what comes soon is seen
+/// soon, and a long wait costs little.
+#[derive(Clone, Copy)]
+pub struct Pace {
+    /// Since when nothing has happened, by the pauses, in microseconds.
+    quiet: u64,
+}
+
+impl Pace {
+    /// The pace of who begins to look.
+    pub fn new() -> Pace {
+        Pace { quiet: 0 }
+    }
+
+    /// Something has happened.
+    pub fn begin_anew(&mut self) {
+        self.quiet = 0;
+    }
+
+    /// The next pause, in microseconds.
+    fn pause(&self) -> u64 {
+        (self.quiet / PARTS).max(SHORTEST_REST).min(LONGEST_REST)
+    }
+
+    /// Nothing has happened for this pause.
+    fn go_on(&mut self, pause: u64) {
+        self.quiet = self.quiet.saturating_add(pause);
+    }
+}
+
 impl Bell {
     /// A bell. It takes no memory.
     pub fn new() -> Bell {
@@ -172,12 +205,6 @@ impl Bell {
         self.rings.lock(rt).count(is_end);
     }
 
-    /// Waits until the bell rings, or for a short while.
-    pub fn rest<R: Wait + Clock>(&self, rt: &R) {
-        let before = self.strokes(rt, WaitKind::Started);
-        self.rest_for(rt, before, SHORT_REST);
-    }
-
     /// How often the bell has struck for those who wait for this state.
     pub fn strokes<R: Wait>(&self, rt: &R, kind: WaitKind) -> Strokes {
         let count = self.rings.lock(rt).for_state(kind);
@@ -186,12 +213,23 @@ impl Bell {
 
     /// Waits until the bell has struck once more for those who wait for that state, or for a while.
     pub fn rest_since<R: Wait + Clock>(&self, rt: &R, before: Strokes) {
-        self.rest_for(rt, before, LONG_REST);
+        let _struck = self.rest_for(rt, before, LONGEST_REST);
     }
 
-    fn rest_for<R: Wait + Clock>(&self, rt: &R, before: Strokes, longest: u64) {
+    /// Waits until the bell has struck once more for those who wait for that state, or for a pause at this pace.
+    pub fn rest_at<R: Wait + Clock>(&self, rt: &R, before: Strokes, pace: &mut Pace) {
+        let pause = pace.pause();
+        if self.rest_for(rt, before, pause) {
+            pace.begin_anew();
+        } else {
+            pace.go_on(pause);
+        }
+    }
+
+    /// Whether the bell struck before so many microseconds were over.
+    fn rest_for<R: Wait + Clock>(&self, rt: &R, before: Strokes, longest: u64) -> bool {
         if self.is_silent {
-            return;
+            return false;
         }
         let Strokes { kind, count } = before;
         let struck = match kind {
@@ -200,6 +238,12 @@ impl Bell {
         };
         let rings = self.rings.lock(rt);
         let longest = Duration::from_micros(longest);
-        let _ = struck.wait_timeout_while(rt, rings, longest, |now| now.for_state(kind) == count);
+        let (_rings, ended) = struck.wait_timeout_while(
+            rt,
+            rings,
+            longest,
+            |now| now.for_state(kind) == count,
+        );
+        !ended.timed_out()
     }
 }

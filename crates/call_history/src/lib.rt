@@ -12,7 +12,7 @@ mod told;
 mod tries;
 mod waits;
 
-pub use bells::{Bell, News, Strokes};
+pub use bells::{Bell, News, Pace, Strokes};
 pub use desks::Desk;
 pub use drmaa_machine::{Answer, Awaited, Call, Config, Entry, Machine, NoEntry, Question, Reply};
 pub use machines::{Client, MachineOpener, Note, SharedMachine};

@@ -14,14 +14,14 @@ use Rattle.call_history.specs.ClientLaws.{begins-itself}
 use Rattle.attendant.specs.declared.reaper.Held.{Held}
 use Rattle.attendant.specs.declared.reaper.Hand.{Hand}
 use Rattle.attendant.specs.Posts.{Post, Gives, IsStillAt}
-use Rattle.attendant.specs.Outside.{IsHeldUp}
+use Rattle.attendant.specs.Outside.{IsHeldUp, out_of_memory, full_at_launch, full_at_order, full_at_answer}
 use Rattle.block_play.specs.declared.stops.Stopped.{Stopped}
 use Rattle.block_play.specs.declared.stops.Stopped.TheVariants as stopped
 use Rattle.thread_play.specs.declared.pairs.Pair.{Pair}
 use Rattle.thread_play.specs.Stages.{EndsAs, worse}
 use Rattle.thread_play.specs.Pairs.{launcher_at, reaping_at, ArePlaced, HasAttended, HasSettled, HasEnded}
 
-gives-none : (before : Option (List ℕ)) → Gives before [] before
+pub gives-none : (before : Option (List ℕ)) → Gives before [] before
 gives-none None = tt
 gives-none (Some before) = sym (append-nil before)
 
@@ -50,6 +50,13 @@ pub not-some : (o : Option Stopped) → is_some o ≡ false → o ≡ None
 not-some None is = refl
 not-some (Some w) is = absurd (cc)
 
+-- where the two tended, the order is the one that the reaper took last
+pub held-tended : (l0 l1 r0 r1 : Post) (K : Type 0) (why : Refusal) → K → IsHeldUp l0 l1 r0 r1 K why → IsHeldUp l0 l1 r0 r1 (Unit {0}) why
+held-tended l0 l1 r0 r1 K why k (out_of_memory w) = out_of_memory w
+held-tended l0 l1 r0 r1 K why k (full_at_launch n w f) = full_at_launch n w f
+held-tended l0 l1 r0 r1 K why k (full_at_order n w f) = full_at_order n w f
+held-tended l0 l1 r0 r1 K why k (full_at_answer n signal answer w f owes) = full_at_answer n signal answer w f (λ any. owes k)
+
 module _ {C T : Type 0} (given : C → Option (List ℕ)) (least : C → ℕ) (told : T → Option Told) (shared : Named Config) where
   -- a run that was stopped before
   pub ended-before : (p : Pair C) (asked : Option (List Asked)) (fate : ℕ → Fate) (at : ℕ → Option (Held T)) (hand : Option Hand) (before : Option Stopped) → ArePlaced shared p → (before ≡ None → ⊥)
@@ -59,7 +66,7 @@ module _ {C T : Type 0} (given : C → Option (List ℕ)) (least : C → ℕ) (t
     reaping = post-itself (reaping_at given least shared p) placed.reaping;
     attending = record { fates = refl; tends = λ t. t; keeps = λ k. k; agrees = λ clean k a. a };
     whole = λ none. absurd (stopped none);
-    full = λ size t is. inl is;
+    full = λ size is. inl is;
   }
 
   worse-ok : (end : Result (Unit {0}) Stopped) → worse None end ≡ None → end ≡ Ok tt
@@ -83,10 +90,10 @@ module _ {C T : Type 0} (given : C → Option (List ℕ)) (least : C → ℕ) (t
   ends-full (Err why) (Err (stopped.Full n)) size same is = let k : n ≡ size = cc in ap (λ (w : Refusal). Err w) (same ∙ ap (λ (m : ℕ). OutOfResource (limit.Journal m)) k)
 
   -- why launcher and reaper stopped a run
-  pub full-held : (p q : Pair C) (r : Result (Unit {0}) Refusal) (end : Result (Unit {0}) Stopped) (size : ℕ) → EndsAs r end → worse None end ≡ Some (stopped.Full size)
-      → IfErr r (IsHeldUp (launcher_at given least shared p) (launcher_at given least shared q) (reaping_at given least shared p) (reaping_at given least shared q))
-      → IsHeldUp (launcher_at given least shared p) (launcher_at given least shared q) (reaping_at given least shared p) (reaping_at given least shared q) (OutOfResource (limit.Journal size))
-  full-held p q r end size same is held = subst (λ (x : Result (Unit {0}) Refusal). IfErr x (IsHeldUp (launcher_at given least shared p) (launcher_at given least shared q) (reaping_at given least shared p) (reaping_at given least shared q)))
+  pub full-held : (p q : Pair C) (K : Type 0) (r : Result (Unit {0}) Refusal) (end : Result (Unit {0}) Stopped) (size : ℕ) → EndsAs r end → worse None end ≡ Some (stopped.Full size)
+      → IfErr r (IsHeldUp (launcher_at given least shared p) (launcher_at given least shared q) (reaping_at given least shared p) (reaping_at given least shared q) K)
+      → IsHeldUp (launcher_at given least shared p) (launcher_at given least shared q) (reaping_at given least shared p) (reaping_at given least shared q) K (OutOfResource (limit.Journal size))
+  full-held p q K r end size same is held = subst (λ (x : Result (Unit {0}) Refusal). IfErr x (IsHeldUp (launcher_at given least shared p) (launcher_at given least shared q) (reaping_at given least shared p) (reaping_at given least shared q) K))
       (ends-full r end size same (worse-full end size is)) held
 
   pub whole-ok : (r : Result (Unit {0}) Refusal) (end : Result (Unit {0}) Stopped) → EndsAs r end → worse None end ≡ None → IsOk r
@@ -101,5 +108,5 @@ module _ {C T : Type 0} (given : C → Option (List ℕ)) (least : C → ℕ) (t
     reaping = a.reaping;
     attending = record { fates = a.attending.fates; tends = a.attending.tends; keeps = a.attending.keeps; agrees = λ clean. a.attending.agrees (whole-ok r end same (sym is ∙ clean)) };
     whole = λ clean. (none, settled (whole-ok r end same (sym is ∙ clean)));
-    full = λ size t full. inr (none, full-held p q r end size same (sym is ∙ full) (a.held_up t));
+    full = λ size full. inr (none, full-held p q _ r end size same (sym is ∙ full) a.held_up);
   }

@@ -19,6 +19,7 @@ use Rattle.script_asks.specs.declared.given.Given.{Given}
 use Rattle.attendant.specs.declared.reaper.Held.{Held}
 use Rattle.attendant.specs.declared.reaper.Hand.{Hand}
 use Rattle.attendant.specs.Acts.{acts_of, own_acts, Act}
+use Rattle.attendant.specs.Posts.{Gives}
 use Rattle.attendant.specs.Outside.{Tends, Keeps, AgreesOf}
 use Rattle.block_play.specs.declared.stops.Stopped.{Stopped}
 use Rattle.block_play.specs.declared.stops.Stopped.TheVariants as stopped
@@ -32,7 +33,7 @@ use Rattle.thread_play.proofs.Lists.{set-between, length-mapped, some-item}
 use Rattle.thread_play.proofs.Clients.{Lists, own_lists, hired-count, with_back-all, worst-none, worst-full}
 use Rattle.thread_play.proofs.Callers.{launcher-at-once, reaper-at-once}
 use Rattle.thread_play.proofs.Posts.{still-timed, none-timed}
-use Rattle.thread_play.proofs.Endings.{full-held, whole-ok}
+use Rattle.thread_play.proofs.Endings.{gives-none, held-tended, full-held, whole-ok}
 
 -- a client that was opened last
 pub record IsOpened (shared : Named Config) (o p : Seat) (client : Seat) : Type 0 where
@@ -170,7 +171,7 @@ module _ {C T : Type 0} (given : C → Option (List ℕ)) (least : C → ℕ) (t
 
   sufficed : (full : Option ℕ) → after ≡ stop_at full → (i : ℕ) (v : Worker C) → i < length vs → (slice_index_or vs i v).ended ≢ Err stopped.Memory
   sufficed None is i v h bad = let good = (well is).1 i v h in absurd (cc)
-  sufficed (Some size) is i v h bad = elim (e.full size tends-c is) [
+  sufficed (Some size) is i v h bad = elim (e.full size is) [
     | inl before ↦ (worst-full (worse None end) vs size (sym worst_is ∙ before)).sufficed i v h bad
     | inr then ↦ (let good = (worst-none (worse None end) vs (sym worst_is ∙ then.0)).1 i v h in absurd (cc))
   ]
@@ -279,15 +280,18 @@ module _ {C T : Type 0} (given : C → Option (List ℕ)) (least : C → ℕ) (t
 
   -- ---- how it ended
 
-  ends-by : (full : Option ℕ) → after ≡ stop_at full → Ends shared (length s.clients + 2) p5 vs (launcher_at given least shared pd) pd.reaping full
+  ends-by : (full : Option ℕ) → after ≡ stop_at full → Ends shared (length s.clients + 2) p5 vs (launcher_at given least shared pd) pd.reaping (given pd.reaping_clock) full
   ends-by None is = let so = (e.whole is).1 in record { ended = (well is).1; settled = so.settled; begins = so.begins }
-  ends-by (Some size) is = elim (e.full size tends-c is) [
+  ends-by (Some size) is = elim (e.full size is) [
     | inl before ↦ elim ((worst-full (worse None end) vs size (sym worst_is ∙ before)).cause) [
       | inl attendants ↦ by_attendant (launcher_at given least shared pa) (launcher_at given least shared pb) (reaping_at given least shared pa) (reaping_at given least shared pb) refl refl or.own reaping-first
-          (full-held given least told shared pa pb r end size ends_so attendants (a.held_up tends-a)) launcher-b reaping-b
+          (held-tended _ _ _ _ _ _ tends-a (full-held given least told shared pa pb _ r end size ends_so attendants a.held_up)) launcher-b reaping-b
+          e.launcher.readings e.reaping.readings (subst (λ (c : C). Gives (given c) e.launcher.readings (given pd.launcher_clock)) clock_l e.launcher.gave)
+          (subst (λ (c : C). Gives (given c) e.reaping.readings (given pd.reaping_clock)) clock_r e.reaping.gave)
       | inr met ↦ by_client met.place met.item met.within met.met
     ]
-    | inr then ↦ by_attendant (launcher_at given least shared pc) (launcher_at given least shared pd) (reaping_at given least shared pc) (reaping_at given least shared pd) refl refl own-middle reaping-middle then.1 (at-last (seen_of pd.launcher) rel.launcher) (at-last (seen_of pd.reaping) rel.reaping)
+    | inr then ↦ by_attendant (launcher_at given least shared pc) (launcher_at given least shared pd) (reaping_at given least shared pc) (reaping_at given least shared pd) refl refl own-middle reaping-middle (held-tended _ _ _ _ _ _ tends-c then.1) (at-last (seen_of pd.launcher) rel.launcher) (at-last (seen_of pd.reaping) rel.reaping)
+        [] [] (gives-none (given pd.launcher_clock)) (gives-none (given pd.reaping_clock))
   ]
 
   pub others-made : (full : Option ℕ) → after ≡ stop_at full → Others given told s names shared o p5 asked asked2 fate2 clocks0 clocks3 full

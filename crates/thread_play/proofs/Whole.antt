@@ -43,7 +43,7 @@ use Rattle.script_asks.specs.Plays.{Plays, names_by, setup_names}
 use Rattle.attendant.specs.declared.reaper.Held.{Held}
 use Rattle.attendant.specs.declared.reaper.Hand.{Hand}
 use Rattle.attendant.specs.Acts.{acts_of, own_acts, Each, is_launched}
-use Rattle.attendant.specs.Posts.{Post, FailsWithin}
+use Rattle.attendant.specs.Posts.{Post, Gives, FailsWithin}
 use Rattle.attendant.specs.Runs.{is_ended, owed}
 use Rattle.attendant.specs.Outside.{Keeps, Tells, AgreesOf, IsHeldUp, out_of_memory, full_at_launch, full_at_order, full_at_answer, EndsSettled, IsLaunchersEntry, IsReapersEntry}
 use Rattle.attendant.specs.Whole.{AgreesWithOutside, AreAlone}
@@ -56,7 +56,7 @@ use Rattle.thread_play.specs.declared.workers.Worker.{Worker}
 use Rattle.thread_play.specs.Hubs.{FollowsAll, HearRun}
 use Rattle.thread_play.specs.Stages.{StopsAt, PlaysOn, IsFirst}
 use Rattle.thread_play.specs.Others.{IsFullAtEnd, by_attendant, by_client, Ends, Others}
-use Rattle.thread_play.specs.Runs.{launcher_of, reaper_of, hub_of, names_given, IsRun, PlaysAll, IsSettledAt, IsCutShort, PlaysUpTo, MeetsSize, IsMet, by_block, by_launch, by_order, by_answer, AreAsked, in_setup, behind_setup, EndsBy, HasRun}
+use Rattle.thread_play.specs.Runs.{launcher_of, reaper_of, hub_of, names_given, IsRun, PlaysAll, IsSettledAt, IsCutShort, PlaysUpTo, HaveReading, IsReadBy, MeetsSize, IsMet, by_block, by_launch, by_order, by_answer, AreAsked, in_setup, behind_setup, EndsBy, HasRun}
 use Rattle.thread_play.proofs.Lists.{at-between, at-front, length-mapped, map-at, some-item}
 use Rattle.thread_play.proofs.Beginnings.{calls-append, calls-begin, begins-shorter, alone, nothing-after}
 use Rattle.thread_play.proofs.Clients.{Lists, own_lists}
@@ -170,13 +170,25 @@ at-rest s config history launcher laws config_is legal same e =
       last = last-of s.config history e.before.given l.at launcher.clock.given l.read.told now;
     }
 
+-- a reading of a call, among all that its clock told
+reading-stays : (before mid last : Option (List ℕ)) (earlier later more : List ℕ) (at : ℕ) → Gives before (earlier ++ at ∷ later) mid → Gives mid more last → IfSome last (HaveReading at)
+reading-stays before mid None earlier later more at a b = tt
+reading-stays before None (Some last) earlier later more at a b = absurd b
+reading-stays None (Some mid) (Some last) earlier later more at a b = absurd a
+reading-stays (Some before) (Some mid) (Some last) earlier later more at a b = (
+  before ++ earlier,
+  later ++ more,
+  b ∙ ap (λ (l : List ℕ). l ++ more) (a ∙ sym (append_assoc before earlier (at ∷ later))) ∙ append_assoc (before ++ earlier) (at ∷ later) more,
+)
+
 -- a call that met the size, as the whole history has it
-meets : (s : Script) (shared : Named Config) (l0 l1 : Post) (asked : Call) (size : ℕ) (history : List Entry) → shared.fixed ≡ s.config → l0.shared ≡ shared → BeginsWith history (seen_of l1.client)
-    → FailsWithin l0 asked (no.Journal size) l1 → MeetsSize s.config history asked size
-meets s shared l0 l1 asked size history config_is at_lock begins f = record {
+meets : {C : Type 0} (given : C → Option (List ℕ)) (clocks : List C) (s : Script) (shared : Named Config) (l0 l1 : Post) (caller : ℕ) (asked : Call) (size : ℕ) (history : List Entry) → shared.fixed ≡ s.config → l0.shared ≡ shared → BeginsWith history (seen_of l1.client)
+    → (f : FailsWithin l0 asked (no.Journal size) l1) → IsReadBy given clocks caller f.fails.at → MeetsSize given clocks s.config history caller asked size
+meets given clocks s shared l0 l1 caller asked size history config_is at_lock begins f read = record {
   seen = seen_of f.after.client;
   begins = begins-both (seen_of f.after.client) (seen_of l1.client) history f.to_new.begins begins;
   at = f.fails.at;
+  read = read;
   none = subst (λ (c : Config). MakesNone (replay c (seen_of f.after.client)) f.fails.at (kept asked) (no.Journal size)) (ap (λ (n : Named Config). n.fixed) (f.from_old.shared_is ∙ at_lock) ∙ config_is) f.fails.reason;
 }
 
@@ -187,19 +199,20 @@ still-own old new own m =
     ∙ (calls-append (seen_of old) m.between (number_of old)
     ∙ (ap (λ (l : List Entry). calls_of (seen_of old) (number_of old) ++ l) m.others ∙ (append-nil (calls_of (seen_of old) (number_of old)) ∙ sym own)))
 
-held-met : (s : Script) (shared : Named Config) (l0 l1 r0 r1 : Post) (size : ℕ) (history : List Entry) → shared.fixed ≡ s.config → l0.shared ≡ shared → r0.shared ≡ shared
+held-met : {C : Type 0} (given : C → Option (List ℕ)) (clocks : List C) (s : Script) (shared : Named Config) (l0 l1 r0 r1 : Post) (size : ℕ) (history : List Entry) → shared.fixed ≡ s.config → l0.shared ≡ shared → r0.shared ≡ shared
     → KnowsItsOwn r0.client → number_of r0.client ≡ reaper_of s → BeginsWith history (seen_of l1.client) → BeginsWith history (seen_of r1.client)
-    → (why : Refusal) → why ≡ OutOfResource (limit.Journal size) → IsHeldUp l0 l1 r0 r1 why → IsMet s history size
+    → ((c : Call) (n : ℕ) (f : FailsWithin l0 c (no.Journal n) l1) → IsReadBy given clocks (launcher_of s) f.fails.at) → ((c : Call) (n : ℕ) (f : FailsWithin r0 c (no.Journal n) r1) → IsReadBy given clocks (reaper_of s) f.fails.at)
+    → (why : Refusal) → why ≡ OutOfResource (limit.Journal size) → IsHeldUp l0 l1 r0 r1 (Unit {0}) why → IsMet given clocks s history size
 unfolding meets
-held-met s shared l0 l1 r0 r1 size history config_is at_l at_r own number bl br why is (out_of_memory w) = absurd (cc)
-held-met s shared l0 l1 r0 r1 size history config_is at_l at_r own number bl br why is (full_at_launch n w f) =
-    let same : n ≡ size = cc in subst (IsMet s history) same (by_launch (meets s shared l0 l1 call.TakeLaunch n history config_is at_l bl f))
-held-met s shared l0 l1 r0 r1 size history config_is at_l at_r own number bl br why is (full_at_order n w f) =
-    let same : n ≡ size = cc in subst (IsMet s history) same (by_order (meets s shared r0 r1 call.TakeSignal n history config_is at_r br f))
-held-met s shared l0 l1 r0 r1 size history config_is at_l at_r own number bl br why is (full_at_answer n signal a w f owes) =
+held-met given clocks s shared l0 l1 r0 r1 size history config_is at_l at_r own number bl br reads_l reads_r why is (out_of_memory w) = absurd (cc)
+held-met given clocks s shared l0 l1 r0 r1 size history config_is at_l at_r own number bl br reads_l reads_r why is (full_at_launch n w f) =
+    let same : n ≡ size = cc in subst (IsMet given clocks s history) same (by_launch (meets given clocks s shared l0 l1 (launcher_of s) call.TakeLaunch n history config_is at_l bl f (reads_l call.TakeLaunch n f)))
+held-met given clocks s shared l0 l1 r0 r1 size history config_is at_l at_r own number bl br reads_l reads_r why is (full_at_order n w f) =
+    let same : n ≡ size = cc in subst (IsMet given clocks s history) same (by_order (meets given clocks s shared r0 r1 (reaper_of s) call.TakeSignal n history config_is at_r br f (reads_r call.TakeSignal n f)))
+held-met given clocks s shared l0 l1 r0 r1 size history config_is at_l at_r own number bl br reads_l reads_r why is (full_at_answer n signal a w f owes) =
     let same : n ≡ size = cc in
-    subst (IsMet s history) same (by_answer signal a (meets s shared r0 r1 (asked_signal a signal) n history config_is at_r br f)
-    (ap (λ (es : List Entry). owed (acts_of es)) (ap (λ (k : ℕ). calls_of (seen_of f.after.client) k) (sym (f.from_old.number ∙ number)) ∙ still-own f.before.client f.after.client (f.from_old.own own) f.fails.more) ∙ owes))
+    subst (IsMet given clocks s history) same (by_answer signal a (meets given clocks s shared r0 r1 (reaper_of s) (asked_signal a signal) n history config_is at_r br f (reads_r (asked_signal a signal) n f))
+    (ap (λ (es : List Entry). owed (acts_of es)) (ap (λ (k : ℕ). calls_of (seen_of f.after.client) k) (sym (f.from_old.number ∙ number)) ∙ still-own f.before.client f.after.client (f.from_old.own own) f.fails.more) ∙ owes tt))
 
 left-own : {C : Type 0} (ws : List (Worker C)) (rest : Lists) → left_of (own_lists ws ++ rest) ≡ left_of rest
 left-own [] rest = refl
@@ -453,7 +466,7 @@ module _ {C T : Type 0} (given : C → Option (List ℕ)) (told : T → Option T
     callers-are : length clocks ≡ hub_of s + 1
     callers-are = let z = clocks-size in omega arith
 
-    cut-client : (size i : ℕ) (d : Worker C) → i < length x.ws → (slice_index_or x.ws i d).ended ≡ Err (stopped.Full size) → IsMet s history size
+    cut-client : (size i : ℕ) (d : Worker C) → i < length x.ws → (slice_index_or x.ws i d).ended ≡ Err (stopped.Full size) → IsMet given clocks s history size
     cut-client size i d below is =
         let w = slice_index_or x.ws i d in
         let block = slice_index_or s.clients i [] in
@@ -463,16 +476,26 @@ module _ {C T : Type 0} (given : C → Option (List ℕ)) (told : T → Option T
         by_block i block at (subst (λ (ns : List (List ℕ × Given)). IsCutShort s ns block (i + 1) history size) names-given
         (cut-first s names block (i + 1) (mine_of w.client) (seen_of w.client) history size shared.fixed config_is (client-known i d below) (own-seen i d below) (of-client i d below) stops))
 
-    met-by : (size : ℕ) → IsFullAtEnd shared (length s.clients + 2) p x.ws size → IsMet s history size
-    met-by size (by_attendant l0 l1 r0 r1 at_l at_r own number held bl br) =
-        held-met s shared l0 l1 r0 r1 size history config_is at_l at_r own number (begins-both (seen_of l1.client) (seen_of p) history bl closed.seen)
-        (begins-both (seen_of r1.client) (seen_of p) history br closed.seen) (OutOfResource (limit.Journal size)) refl held
+    -- a reading that the launcher's clock told, or the reaper's, among all of its readings
+    read-launcher : (old new : Post) (more : List ℕ) → Gives new.clock.given more x.launcher.clock.given → (c : Call) (n : ℕ) (f : FailsWithin old c (no.Journal n) new) → IsReadBy given clocks (launcher_of s) f.fails.at
+    read-launcher old new more gives c n f clock at = subst (λ (y : C). IfSome (given y) (HaveReading f.fails.at)) (launcher-place clock at)
+        (subst (λ (g : Option (List ℕ)). IfSome g (HaveReading f.fails.at)) (sym x.launcher_given)
+        (reading-stays old.clock.given new.clock.given x.launcher.clock.given f.earlier f.later more f.fails.at f.read gives))
+
+    read-reaper : (old new : Post) (more : List ℕ) → Gives new.clock.given more (given x.reaping_clock) → (c : Call) (n : ℕ) (f : FailsWithin old c (no.Journal n) new) → IsReadBy given clocks (reaper_of s) f.fails.at
+    read-reaper old new more gives c n f clock at = subst (λ (y : C). IfSome (given y) (HaveReading f.fails.at)) (reaper-place clock at)
+        (reading-stays old.clock.given new.clock.given (given x.reaping_clock) f.earlier f.later more f.fails.at f.read gives)
+
+    met-by : (size : ℕ) → IsFullAtEnd shared (length s.clients + 2) p x.ws x.launcher.clock.given (given x.reaping_clock) size → IsMet given clocks s history size
+    met-by size (by_attendant l0 l1 r0 r1 at_l at_r own number held bl br l_more r_more l_gives r_gives) =
+        held-met given clocks s shared l0 l1 r0 r1 size history config_is at_l at_r own number (begins-both (seen_of l1.client) (seen_of p) history bl closed.seen)
+        (begins-both (seen_of r1.client) (seen_of p) history br closed.seen) (read-launcher l0 l1 l_more l_gives) (read-reaper r0 r1 r_more r_gives) (OutOfResource (limit.Journal size)) refl held
     met-by size (by_client i d below is) = cut-client size i d below is
 
     ends-of : ((starts : List Asked) (es : List Entry) (at : ℕ → Option (Held T)) (hand : Option Hand) → AreAlone (length s.clients + 1) (length s.clients + 2) (acts_of es)
         → Keeps told (Some starts) fate (acts_of (calls_of es (length s.clients + 1))) (acts_of (calls_of es (length s.clients + 2))) at hand
         → AgreesOf (Some starts) fate (acts_of (calls_of es (length s.clients + 1))) (acts_of (calls_of es (length s.clients + 2))) → AgreesWithOutside starts fate (acts_of es))
-        → (r : Option ℕ) → full ≡ r → Ends shared (length s.clients + 2) p x.ws x.launcher x.reaping r → EndsBy given s history asked asked2 fate clocks r
+        → (r : Option ℕ) → full ≡ r → Ends shared (length s.clients + 2) p x.ws x.launcher x.reaping (given x.reaping_clock) r → EndsBy given s history asked asked2 fate clocks r
     ends-of law None is e =
         let all : PlaysAll s history = record { setup = setup-played; clients = whole-client e.ended } in
         let rest = at-rest s shared.fixed history x.launcher laws config_is legal (all-seen e.begins) e.settled in

@@ -18,7 +18,7 @@ use Rattle.script_asks.specs.declared.given.Given.{Given}
 use Rattle.attendant.specs.declared.reaper.Held.{Held}
 use Rattle.attendant.specs.declared.reaper.Hand.{Hand}
 use Rattle.attendant.specs.Acts.{own_acts}
-use Rattle.attendant.specs.Posts.{Post}
+use Rattle.attendant.specs.Posts.{Post, Gives}
 use Rattle.attendant.specs.Outside.{Tends, Keeps, AgreesOf, IsHeldUp, EndsSettled}
 use Rattle.block_play.specs.declared.stops.Stopped.TheVariants as stopped
 use Rattle.thread_play.specs.declared.workers.Worker.{Worker}
@@ -37,11 +37,13 @@ pub record IsEnded {C : Type 0} (given : C → Option (List ℕ)) (config : Conf
   pub sufficed : w.ended ≢ Err stopped.Memory
   pub played : (block : List Line) → slice_get s.clients place ≡ Some block → PlaysOn config s names block (mine_of w.client) (seen_of w.client) w.ended
 
--- Why a run was stopped: launcher or reaper met the size at some time before the end, or a client did.
-pub data IsFullAtEnd {C : Type 0} (shared : Named Config) (number : ℕ) (p : Seat) (ws : List (Worker C)) (size : ℕ) : Type 0 where
-  by_attendant : (l0 l1 r0 r1 : Post) → l0.shared ≡ shared → r0.shared ≡ shared → KnowsItsOwn r0.client → number_of r0.client ≡ number → IsHeldUp l0 l1 r0 r1 (OutOfResource (limit.Journal size))
-      → BeginsWith (seen_of p) (seen_of l1.client) → BeginsWith (seen_of p) (seen_of r1.client) → IsFullAtEnd shared number p ws size
-  by_client : (place : ℕ) (d : Worker C) → place < length ws → (slice_index_or ws place d).ended ≡ Err (stopped.Full size) → IsFullAtEnd shared number p ws size
+-- Why a run was stopped: launcher or reaper met the size at some time before the end, when their clocks told these readings, or a
+-- client did.
+pub data IsFullAtEnd {C : Type 0} (shared : Named Config) (number : ℕ) (p : Seat) (ws : List (Worker C)) (launcher reaper : Option (List ℕ)) (size : ℕ) : Type 0 where
+  by_attendant : (l0 l1 r0 r1 : Post) → l0.shared ≡ shared → r0.shared ≡ shared → KnowsItsOwn r0.client → number_of r0.client ≡ number → IsHeldUp l0 l1 r0 r1 (Unit {0}) (OutOfResource (limit.Journal size))
+      → BeginsWith (seen_of p) (seen_of l1.client) → BeginsWith (seen_of p) (seen_of r1.client)
+      → (l_more r_more : List ℕ) → Gives l1.clock.given l_more launcher → Gives r1.clock.given r_more reaper → IsFullAtEnd shared number p ws launcher reaper size
+  by_client : (place : ℕ) (d : Worker C) → place < length ws → (slice_index_or ws place d).ended ≡ Err (stopped.Full size) → IsFullAtEnd shared number p ws launcher reaper size
 
 -- All were played whole, and then the machine was settled.
 pub record EndsWhole {C : Type 0} (config : Config) (ws : List (Worker C)) (launcher : Post) (reaping : Seat) : Type 0 where
@@ -50,9 +52,9 @@ pub record EndsWhole {C : Type 0} (config : Config) (ws : List (Worker C)) (laun
   pub begins : BeginsWith (seen_of launcher.client) (seen_of reaping)
 
 -- how a run ended, by the size that it met
-abbrev pub Ends : {C : Type 0} → Named Config → ℕ → Seat → List (Worker C) → Post → Seat → Option ℕ → Type 0
-Ends shared number p ws launcher reaping None = EndsWhole shared.fixed ws launcher reaping
-Ends shared number p ws launcher reaping (Some size) = IsFullAtEnd shared number p ws size
+abbrev pub Ends : {C : Type 0} → Named Config → ℕ → Seat → List (Worker C) → Post → Seat → Option (List ℕ) → Option ℕ → Type 0
+Ends shared number p ws launcher reaping reaper None = EndsWhole shared.fixed ws launcher reaping
+Ends shared number p ws launcher reaping reaper (Some size) = IsFullAtEnd shared number p ws launcher.clock.given reaper size
 
 -- What is left once all are back: each client's entries under its number, then the launcher's, the reaper's, and those of the hub's
 -- client, which made none.
@@ -85,7 +87,7 @@ pub record Others {C T : Type 0} (given : C → Option (List ℕ)) (told : T →
   pub tends : Tends (own_acts launcher.client) (own_acts reaping) at hand
   pub keeps : asked ≡ Some [] → Keeps told asked_after fate (own_acts launcher.client) (own_acts reaping) at hand
   pub agrees : full ≡ None → asked ≡ Some [] → AgreesOf asked_after fate (own_acts launcher.client) (own_acts reaping)
-  pub ends : Ends shared (length s.clients + 2) p ws launcher reaping full
+  pub ends : Ends shared (length s.clients + 2) p ws launcher reaping (given reaping_clock) full
 
 -- The hub's client has seen what the launcher's and the reaper's had, and all changes of that were handed over.
 pub record OthersHeard {B C T : Type 0} (given : C → Option (List ℕ)) (told : T → Option Told) (s : Script) (names : List (List ℕ × Given)) (shared : Named Config) (o p : Seat)

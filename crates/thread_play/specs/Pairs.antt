@@ -38,8 +38,8 @@ pub record HasAttended {C T : Type 0} (given : C → Option (List ℕ)) (least :
   pub launcher : IsStillAt (launcher_at given least shared p) (launcher_at given least shared q)
   pub reaping : IsStillAt (reaping_at given least shared p) (reaping_at given least shared q)
   pub attending : Attending told asked asked_after fate fate_after (own_acts p.launcher) (own_acts q.launcher) (own_acts p.reaping) (own_acts q.reaping) at at_after hand hand_after (IsOk ended)
-  pub held_up : Tends (own_acts p.launcher) (own_acts p.reaping) at hand
-      → IfErr ended (IsHeldUp (launcher_at given least shared p) (launcher_at given least shared q) (reaping_at given least shared p) (reaping_at given least shared q))
+  pub held_up : IfErr ended (IsHeldUp (launcher_at given least shared p) (launcher_at given least shared q) (reaping_at given least shared p) (reaping_at given least shared q)
+      (Tends (own_acts p.launcher) (own_acts p.reaping) at hand))
 
 -- The launcher's last reading was that of a look which said that the machine is settled, after all that the reaper's client has seen.
 pub record HasSettled {C : Type 0} (given : C → Option (List ℕ)) (least : C → ℕ) (shared : Named Config) (p : Pair C) : Type 0 where
@@ -53,9 +53,9 @@ pub record HasEnded {C T : Type 0} (given : C → Option (List ℕ)) (least : C 
   pub reaping : IsStillAt (reaping_at given least shared p) (reaping_at given least shared q)
   pub attending : Attending told asked asked_after fate fate_after (own_acts p.launcher) (own_acts q.launcher) (own_acts p.reaping) (own_acts q.reaping) at at_after hand hand_after (after ≡ None)
   pub whole : after ≡ None → (before ≡ None) × HasSettled given least shared q
-  pub full : (size : ℕ) → Tends (own_acts p.launcher) (own_acts p.reaping) at hand → after ≡ Some (stopped.Full size)
+  pub full : (size : ℕ) → after ≡ Some (stopped.Full size)
       → (before ≡ Some (stopped.Full size)) ⊎ ((before ≡ None) × IsHeldUp (launcher_at given least shared p) (launcher_at given least shared q)
-      (reaping_at given least shared p) (reaping_at given least shared q) (OutOfResource (limit.Journal size)))
+      (reaping_at given least shared p) (reaping_at given least shared q) (Tends (own_acts p.launcher) (own_acts p.reaping) at hand) (OutOfResource (limit.Journal size)))
 
 -- The pair is back, and the opener has seen what each of them had.
 pub record AreReleased {C : Type 0} (shared : Named Config) (o p : Seat) (pair : Pair C) : Type 0 where

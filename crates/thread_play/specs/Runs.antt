@@ -102,21 +102,31 @@ pub record IsCutShort (s : Script) (names : List (List ℕ × Given)) (block : L
 abbrev pub PlaysUpTo : Script → List (List ℕ × Given) → List Line → ℕ → List Entry → Type 0
 PlaysUpTo s names block caller history = Plays s names 0 block (calls_of history caller) ⊎ ((size : ℕ) × IsCutShort s names block caller history size)
 
--- This call made no entry, since after some beginning of the history the journal would have had this size.
-pub record MeetsSize (config : Config) (history : List Entry) (asked : Call) (size : ℕ) : Type 0 where
+-- these readings have this moment
+abbrev pub HaveReading : ℕ → List ℕ → Type 0
+HaveReading at readings = (earlier : List ℕ) × (later : List ℕ) × (readings ≡ earlier ++ at ∷ later)
+
+-- the moment is a reading of this caller's clock, where it tells them
+abbrev pub IsReadBy : {C : Type 0} → (C → Option (List ℕ)) → List C → ℕ → ℕ → Type 0
+IsReadBy {C} given clocks caller at = (clock : C) → slice_get clocks caller ≡ Some clock → IfSome (given clock) (HaveReading at)
+
+-- This call of a caller made no entry, since after some beginning of the history, at a reading of the caller's clock, the journal would
+-- have had this size.
+pub record MeetsSize {C : Type 0} (given : C → Option (List ℕ)) (clocks : List C) (config : Config) (history : List Entry) (caller : ℕ) (asked : Call) (size : ℕ) : Type 0 where
   pub seen : List Entry
   pub begins : BeginsWith history seen
   pub at : ℕ
+  pub read : IsReadBy given clocks caller at
   pub none : MakesNone (replay config seen) at (kept asked) (fault.Journal size)
 
 -- Which call met the size: the one that a client's next line asks; the taking of a launch or of an order; or the report of the order
 -- that the reaper took last.
-pub data IsMet (s : Script) (history : List Entry) (size : ℕ) : Type 0 where
-  by_block : (n : ℕ) (block : List Line) → slice_get s.clients n ≡ Some block → IsCutShort s (names_given s history) block (n + 1) history size → IsMet s history size
-  by_launch : MeetsSize s.config history call.TakeLaunch size → IsMet s history size
-  by_order : MeetsSize s.config history call.TakeSignal size → IsMet s history size
-  by_answer : (signal : Signal) (answer : Bool) → (m : MeetsSize s.config history (asked_signal answer signal) size)
-      → owed (acts_of (calls_of m.seen (reaper_of s))) ≡ Some signal → IsMet s history size
+pub data IsMet {C : Type 0} (given : C → Option (List ℕ)) (clocks : List C) (s : Script) (history : List Entry) (size : ℕ) : Type 0 where
+  by_block : (n : ℕ) (block : List Line) → slice_get s.clients n ≡ Some block → IsCutShort s (names_given s history) block (n + 1) history size → IsMet given clocks s history size
+  by_launch : MeetsSize given clocks s.config history (launcher_of s) call.TakeLaunch size → IsMet given clocks s history size
+  by_order : MeetsSize given clocks s.config history (reaper_of s) call.TakeSignal size → IsMet given clocks s history size
+  by_answer : (signal : Signal) (answer : Bool) → (m : MeetsSize given clocks s.config history (reaper_of s) (asked_signal answer signal) size)
+      → owed (acts_of (calls_of m.seen (reaper_of s))) ≡ Some signal → IsMet given clocks s history size
 
 -- the launches of these entries, in order, are the job, attempt and words of each start that was asked of a spawner
 abbrev pub AreAsked : List Act → List Asked → Type 0
@@ -124,14 +134,14 @@ AreAsked es starts = requests_in es ≡ map (λ (a : Asked). record { job = a.jo
 
 -- The run was stopped since the journal would have had this size: within setup, and then nobody else made a call, and nothing was asked
 -- of the spawner; or behind it, and then each launch was asked of the spawner and nothing else, where it tells and nothing had been
--- asked of it before. So many callers there were.
-pub data IsStopped (s : Script) (history : List Entry) (asked asked_after : Option (List Asked)) (size callers : ℕ) : Type 0 where
-  in_setup : IsCutShort s [] (lines_of s.setup) 0 history size → ((caller : ℕ) → 0 < caller → calls_of history caller ≡ []) → asked_after ≡ asked → callers ≡ 1
-      → IsStopped s history asked asked_after size callers
+-- asked of it before. There are as many clocks as callers.
+pub data IsStopped {C : Type 0} (given : C → Option (List ℕ)) (clocks : List C) (s : Script) (history : List Entry) (asked asked_after : Option (List Asked)) (size : ℕ) : Type 0 where
+  in_setup : IsCutShort s [] (lines_of s.setup) 0 history size → ((caller : ℕ) → 0 < caller → calls_of history caller ≡ []) → asked_after ≡ asked → length clocks ≡ 1
+      → IsStopped given clocks s history asked asked_after size
   behind_setup : Plays s [] 0 (lines_of s.setup) (calls_of history 0)
       → ((n : ℕ) (block : List Line) → slice_get s.clients n ≡ Some block → PlaysUpTo s (names_given s history) block (n + 1) history)
-      → IsMet s history size → (asked ≡ Some [] → IfSome asked_after (λ starts. AreAsked (acts_of (calls_of history (launcher_of s))) starts)) → callers ≡ hub_of s + 1
-      → IsStopped s history asked asked_after size callers
+      → IsMet given clocks s history size → (asked ≡ Some [] → IfSome asked_after (λ starts. AreAsked (acts_of (calls_of history (launcher_of s))) starts)) → length clocks ≡ hub_of s + 1
+      → IsStopped given clocks s history asked asked_after size
 
 -- ---- a run as it is left
 
@@ -148,7 +158,7 @@ pub record IsWhole {C : Type 0} (given : C → Option (List ℕ)) (s : Script) (
 -- how a run ended, by the size that stopped it
 abbrev pub EndsBy : {C : Type 0} → (C → Option (List ℕ)) → Script → List Entry → Option (List Asked) → Option (List Asked) → (ℕ → Fate) → List C → Option ℕ → Type 0
 EndsBy given s history asked asked_after fate clocks None = IsWhole given s history asked asked_after fate clocks
-EndsBy given s history asked asked_after fate clocks (Some size) = IsStopped s history asked asked_after size (length clocks)
+EndsBy given s history asked asked_after fate clocks (Some size) = IsStopped given clocks s history asked asked_after size
 
 -- A run left this history, and these clocks of its callers, in the order of their numbers.
 pub record HasRun {C : Type 0} (given : C → Option (List ℕ)) (s : Script) (history : List Entry) (asked asked_after : Option (List Asked)) (fate : ℕ → Fate) (clocks : List C) (full : Option ℕ) : Type 0 where

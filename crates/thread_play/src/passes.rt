@@ -10,8 +10,8 @@ ghost use Rattle.thread_play.specs.Pairs.{ArePlaced};
 
 use crate::pairs::Pair;
 use attendant::Done;
-use call_history::{Bell, Client, MachineOpener, SharedMachine};
-use drmaa_types::Clock;
+use call_history::{Bell, Client, MachineOpener, Pace, SharedMachine};
+use drmaa_types::{Clock, WaitKind};
 use notify_hub::{Callback, Hub};
 use std::sync::Wait;
 use std::time::Clock as Pause;
@@ -57,12 +57,14 @@ pub(crate) fn follow<R: Wait + Pause, C: Clock, B: Callback>(
     if !hub.listens() {
         return;
     }
+    let mut pace = Pace::new();
     for _ in rt.forever() {
+        let strokes = bell.strokes(rt, WaitKind::Started);
         pump_once(rt, shared, hub, pass);
         if done.clients_over(rt) {
             return;
         }
-        bell.rest(rt);
+        bell.rest_at(rt, strokes, &mut pace);
     }
     unreachable!()
 }
