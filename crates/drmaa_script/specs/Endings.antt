@@ -105,15 +105,15 @@ Starts (Recur words) = ⊥
 Starts (Soak words) = ⊥
 
 -- The statuses that a command can come to at all, whatever its source tells: one that plays a script calls no journal illegal, one
--- that reads a journal lacks no callbacks, and one that makes its own script does neither.
+-- that reads a journal lacks no callbacks, and one that makes its own script does neither, finds no bad line, and fills no journal.
 abbrev pub IsOfSoak : Status → Type 0
 IsOfSoak Done = Unit {0}
-IsOfSoak (Text line) = Unit {0}
+IsOfSoak (Text line) = ⊥
 IsOfSoak Words = ⊥
 IsOfSoak ReadFault = ⊥
 IsOfSoak WriteFault = Unit {0}
 IsOfSoak Memory = Unit {0}
-IsOfSoak (JournalFull size) = Unit {0}
+IsOfSoak (JournalFull size) = ⊥
 IsOfSoak (NotLegal entry given machine) = ⊥
 
 abbrev pub MayEnd : Command → Status → Type 0

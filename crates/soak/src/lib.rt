@@ -6,5 +6,5 @@ mod soaks;
 mod summaries;
 
 pub use printed::print_summary;
-pub use soaks::{Soaked, soak};
+pub use soaks::soak;
 pub use summaries::{Summary, summary_of};

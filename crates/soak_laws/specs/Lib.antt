@@ -1,0 +1,9 @@
+pub mod Scripts
+pub mod NameLaws
+pub mod FollowLaws
+pub mod LineTexts
+pub mod ShownLaws
+pub mod SizeLaws
+pub mod SoakLaws
+pub mod GrowthLaws
+pub mod PlayLaws
