@@ -1,1 +1,2 @@
 pub mod Pairings
+pub mod Tellings

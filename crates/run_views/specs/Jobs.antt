@@ -1,5 +1,5 @@
 -- What is told of the jobs of a history: our profile.
-use Rattle.std.specs.Prelude.{ℕ, ◌+◌, ◌-◌, ◌==◌, ◌&&◌, ◌||◌, nat_lt, Bool, true, false, List, filter, length, if◌then◌else◌}
+use Rattle.std.specs.Prelude.{ℕ, ◌+◌, ◌-◌, ◌==◌, ◌&&◌, ◌||◌, nat_lt, Bool, true, false, List, filter, length, map, if◌then◌else◌}
 use Rattle.std.specs.List.{list_any}
 use Rattle.drmaa_types.specs.States.{is_state, is_waiting, is_started}
 use Rattle.drmaa_types.specs.declared.changes.Change.{Change}
@@ -57,9 +57,13 @@ abbrev pub refused_for : Reply → ℕ
 refused_for (reply.Refused why) = refusal_number why
 refused_for other = 0
 
--- how many calls got the refusal of this number
-abbrev pub refused : ℕ → List Entry → ℕ
-refused number entries = length (filter (λ (entry : Entry). refused_for entry.reply == number) entries)
+-- the number of the refusal that each call got, 0 where it got none
+abbrev pub refusals : List Entry → List ℕ
+refusals entries = map (λ (entry : Entry). refused_for entry.reply) entries
+
+-- how many of these numbers are this one
+abbrev pub how_many : ℕ → List ℕ → ℕ
+how_many number numbers = length (filter (λ (n : ℕ). n == number) numbers)
 
 abbrev pub is_submission : Call → Bool
 is_submission (call.RunJob session template) = true

@@ -9,14 +9,14 @@ use drmaa_types::Moment;
 use std::alloc::{AllocError, Global};
 
 /// The moment before the first entry.
-fn opening_moment() -> Moment
+pub(crate) fn opening_moment() -> Moment
     ensures { result ≡ 0 }
 {
     Moment::new(0).unwrap_or(Moment::greatest())
 }
 
 /// The moment to which time comes by an entry: it never falls.
-fn later(now: Moment, at: Moment) -> Moment
+pub(crate) fn later(now: Moment, at: Moment) -> Moment
     ensures { result ≡ max now at }
 {
     if now.number() < at.number() { at } else { now }
@@ -37,7 +37,7 @@ fn begun(at: Moment, launch: &Launch) -> Result<Run, AllocError>
 }
 
 /// The end of a run that a call reports.
-fn reported(at: Moment, call: &Call) -> Option<EndReport>
+pub(crate) fn reported(at: Moment, call: &Call) -> Option<EndReport>
     ensures { result ≡ told.reported at call.now }
 {
     match call {

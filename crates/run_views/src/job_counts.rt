@@ -2,8 +2,8 @@
 ghost use Rattle.std.specs.Prelude.{◌≡◌, ◌++◌, IfOk, OnOk, codes, decimal, string_bytes};
 ghost use Rattle.run_views.specs.JobTexts as texts;
 
-use crate::job_rows::push_rows;
-use crate::jobs::{come_to, kept_in, left, reaped, refused};
+use crate::all_rows::push_rows;
+use crate::jobs::{come_to, how_many, kept_in, left, reaped, refusals};
 use drmaa_model::Entry;
 use drmaa_types::{Change, JobInfo, JobState, Moment, Text};
 use itoa::Buffer;
@@ -70,46 +70,41 @@ fn push_ended(out: &mut String, infos: &[JobInfo], changes: &[Change]) -> Result
 }
 
 /// Writes how many calls got the refusal of a number, behind words.
-fn push_refusal(
-    out: &mut String,
-    entries: &[Entry],
-    words: &str,
-    number: u8,
-) -> Result<(), AllocError>
-    ensures { OnOk result (string_bytes out.new ≡ string_bytes out.old ++ texts.refused_line words.now number entries.now) }
+fn push_refusal(out: &mut String, numbers: &[u8], words: &str, number: u8) -> Result<(), AllocError>
+    ensures { OnOk result (string_bytes out.new ≡ string_bytes out.old ++ texts.refused_line words.now number numbers.now) }
 {
-    push_count(out, words, refused(entries, number) as u128)
+    push_count(out, words, how_many(numbers, number) as u128)
 }
 
 /// Writes how many calls got each of the first refusals.
 #[tactic(auto, unfolding(crate::specs::JobTexts::first_refused_lines))]
-fn push_first_refusals(out: &mut String, entries: &[Entry]) -> Result<(), AllocError>
-    ensures { OnOk result (string_bytes out.new ≡ string_bytes out.old ++ texts.first_refused_lines entries.now) }
+fn push_first_refusals(out: &mut String, numbers: &[u8]) -> Result<(), AllocError>
+    ensures { OnOk result (string_bytes out.new ≡ string_bytes out.old ++ texts.first_refused_lines numbers.now) }
 {
-    push_refusal(out, entries, "refused 1", 1)?;
-    push_refusal(out, entries, "refused 3", 3)?;
-    push_refusal(out, entries, "refused 4", 4)?;
-    push_refusal(out, entries, "refused 5", 5)
+    push_refusal(out, numbers, "refused 1", 1)?;
+    push_refusal(out, numbers, "refused 3", 3)?;
+    push_refusal(out, numbers, "refused 4", 4)?;
+    push_refusal(out, numbers, "refused 5", 5)
 }
 
 /// Writes how many calls got each of the other refusals.
 #[tactic(auto, unfolding(crate::specs::JobTexts::last_refused_lines))]
-fn push_last_refusals(out: &mut String, entries: &[Entry]) -> Result<(), AllocError>
-    ensures { OnOk result (string_bytes out.new ≡ string_bytes out.old ++ texts.last_refused_lines entries.now) }
+fn push_last_refusals(out: &mut String, numbers: &[u8]) -> Result<(), AllocError>
+    ensures { OnOk result (string_bytes out.new ≡ string_bytes out.old ++ texts.last_refused_lines numbers.now) }
 {
-    push_refusal(out, entries, "refused 6", 6)?;
-    push_refusal(out, entries, "refused 7", 7)?;
-    push_refusal(out, entries, "refused 9", 9)?;
-    push_refusal(out, entries, "refused 10", 10)
+    push_refusal(out, numbers, "refused 6", 6)?;
+    push_refusal(out, numbers, "refused 7", 7)?;
+    push_refusal(out, numbers, "refused 9", 9)?;
+    push_refusal(out, numbers, "refused 10", 10)
 }
 
 /// Writes how many calls got each refusal.
 #[tactic(auto, unfolding(crate::specs::JobTexts::refused_lines))]
-fn push_refusals(out: &mut String, entries: &[Entry]) -> Result<(), AllocError>
-    ensures { OnOk result (string_bytes out.new ≡ string_bytes out.old ++ texts.refused_lines entries.now) }
+fn push_refusals(out: &mut String, numbers: &[u8]) -> Result<(), AllocError>
+    ensures { OnOk result (string_bytes out.new ≡ string_bytes out.old ++ texts.refused_lines numbers.now) }
 {
-    push_first_refusals(out, entries)?;
-    push_last_refusals(out, entries)
+    push_first_refusals(out, numbers)?;
+    push_last_refusals(out, numbers)
 }
 
 /// Writes how many jobs are left.
@@ -133,19 +128,22 @@ fn push_jobs(out: &mut String, infos: &[JobInfo], changes: &[Change]) -> Result<
 /// Writes all counts.
 fn push_counts(
     out: &mut String,
+    alloc: Global,
     infos: &[JobInfo],
     changes: &[Change],
     entries: &[Entry],
 ) -> Result<(), AllocError>
     ensures { OnOk result (string_bytes out.new ≡ string_bytes out.old ++ texts.count_lines infos.now changes.now entries.now) }
 {
+    let numbers = refusals(alloc, entries)?;
     push_jobs(out, infos, changes)?;
-    push_refusals(out, entries)?;
+    push_refusals(out, numbers.as_slice())?;
     push_left(out, infos)
 }
 
-/// The rows of the kept jobs as they are now, and the counts of the jobs by state, of the refused calls by refusal, and of the jobs
-/// that are left. `changes` are what became of the states of all jobs.
+/// The rows of all jobs that ever were, by number, and the counts of the jobs by state, of the refused calls by refusal, and of the
+/// jobs that are left. `infos` are those of the kept jobs, in order of number; of a job that is kept no more the row says what the
+/// entries tell, and the changes, which are those of the states of all jobs.
 ///
 /// # Errors
 ///
@@ -160,7 +158,7 @@ pub fn print_jobs(
     ensures { IfOk result (λ text. text ≡ texts.jobs_text now infos.now changes.now entries.now) }
 {
     let mut out = String::new(alloc);
-    push_rows(&mut out, alloc, now, infos)?;
-    push_counts(&mut out, infos, changes, entries)?;
+    push_rows(&mut out, alloc, now, infos, changes, entries)?;
+    push_counts(&mut out, alloc, infos, changes, entries)?;
     Ok(Text::from_string(out))
 }

@@ -1,9 +1,9 @@
-//! The row of a job.
-ghost use Rattle.std.specs.Prelude.{◌≡◌, ◌++◌, IfOk, OnOk, string_bytes};
+//! The row of a kept job.
+ghost use Rattle.std.specs.Prelude.{◌≡◌, ◌++◌, IfOk, OnOk, option_copied, string_bytes};
 ghost use Rattle.text_codec.specs.Lexical.{quoted};
 ghost use Rattle.run_views.specs.JobTexts as texts;
 
-use drmaa_types::{Exit, JobInfo, Moment, Note, Text};
+use drmaa_types::{Exit, JobInfo, JobState, Moment, Note, Text};
 use itoa::Buffer;
 use std::alloc::{AllocError, Global};
 use text_words::{PrintForm, spell_state};
@@ -25,8 +25,8 @@ fn quoted(alloc: Global, text: &Text) -> Result<String, AllocError>
 
 /// Writes a name in quotes.
 #[tactic(auto, unfolding(crate::specs::JobTexts::name_text))]
-fn push_name(out: &mut String, alloc: Global, name: &Option<Text>) -> Result<(), AllocError>
-    ensures { OnOk result (string_bytes out.new ≡ string_bytes out.old ++ texts.name_text name.now) }
+fn push_name(out: &mut String, alloc: Global, name: Option<&Text>) -> Result<(), AllocError>
+    ensures { OnOk result (string_bytes out.new ≡ string_bytes out.old ++ texts.name_text (option_copied name.entry)) }
 {
     match name {
         Some(name) => {
@@ -38,7 +38,7 @@ fn push_name(out: &mut String, alloc: Global, name: &Option<Text>) -> Result<(),
 }
 
 /// Writes a number.
-fn push_number(out: &mut String, number: Option<u64>) -> Result<(), AllocError>
+pub(crate) fn push_number(out: &mut String, number: Option<u64>) -> Result<(), AllocError>
     ensures { OnOk result (string_bytes out.new ≡ string_bytes out.old ++ texts.number_text number) }
 {
     let mut digits = Buffer::new();
@@ -106,36 +106,47 @@ fn waited(now: Moment, info: &JobInfo) -> u64
 }
 
 /// Writes number, session and name.
-fn push_names(out: &mut String, alloc: Global, info: &JobInfo) -> Result<(), AllocError>
-    ensures { OnOk result (string_bytes out.new ≡ string_bytes out.old ++ texts.names_text info.now) }
+pub(crate) fn push_names(
+    out: &mut String,
+    alloc: Global,
+    job: u128,
+    session: Option<&Text>,
+    name: Option<&Text>,
+) -> Result<(), AllocError>
+    ensures { OnOk result (string_bytes out.new ≡ string_bytes out.old ++ texts.names_text job (option_copied session.entry) (option_copied name.entry)) }
 {
     let mut digits = Buffer::new();
-    out.push_str(digits.format(info.job.0))?;
+    out.push_str(digits.format(job))?;
     out.push_str("\t")?;
-    push_name(out, alloc, &info.session)?;
+    push_name(out, alloc, session)?;
     out.push_str("\t")?;
-    push_name(out, alloc, &info.name)?;
+    push_name(out, alloc, name)?;
     out.push_str("\t")
 }
 
-/// Writes its state.
-fn push_state(out: &mut String, info: &JobInfo) -> Result<(), AllocError>
-    ensures { OnOk result (string_bytes out.new ≡ string_bytes out.old ++ texts.tabbed_state info.now) }
+/// Writes a state.
+pub(crate) fn push_state(out: &mut String, state: JobState) -> Result<(), AllocError>
+    ensures { OnOk result (string_bytes out.new ≡ string_bytes out.old ++ texts.tabbed_state state) }
 {
-    out.push_str(spell_state(info.state))?;
+    out.push_str(spell_state(state))?;
     out.push_str("\t")
 }
 
-/// Writes slots, the moment of submission, and the seconds that it waited.
-fn push_times(out: &mut String, now: Moment, info: &JobInfo) -> Result<(), AllocError>
-    ensures { OnOk result (string_bytes out.new ≡ string_bytes out.old ++ texts.times_text now info.now) }
+/// Writes slots, the moment of submission, and the seconds that the job waited.
+pub(crate) fn push_times(
+    out: &mut String,
+    slots: Option<u32>,
+    submitted: Moment,
+    waited: u64,
+) -> Result<(), AllocError>
+    ensures { OnOk result (string_bytes out.new ≡ string_bytes out.old ++ texts.times_text slots submitted waited) }
 {
     let mut digits = Buffer::new();
-    push_slots(out, info.slots)?;
+    push_slots(out, slots)?;
     out.push_str("\t")?;
-    out.push_str(digits.format(info.submitted.number()))?;
+    out.push_str(digits.format(submitted.number()))?;
     out.push_str("\t")?;
-    out.push_str(digits.format(waited(now, info)))?;
+    out.push_str(digits.format(waited))?;
     out.push_str("\t")
 }
 
@@ -151,27 +162,23 @@ fn push_ends(out: &mut String, info: &JobInfo) -> Result<(), AllocError>
     out.push_str("\n")
 }
 
-/// Writes the row of a job.
-fn push_row(out: &mut String, alloc: Global, now: Moment, info: &JobInfo) -> Result<(), AllocError>
-    ensures { OnOk result (string_bytes out.new ≡ string_bytes out.old ++ texts.job_row now info.now) }
-{
-    push_names(out, alloc, info)?;
-    push_state(out, info)?;
-    push_times(out, now, info)?;
-    push_ends(out, info)
-}
-
-/// Writes the rows of these jobs.
-pub(crate) fn push_rows(
+/// Writes the row of a kept job.
+pub(crate) fn push_row(
     out: &mut String,
     alloc: Global,
     now: Moment,
-    infos: &[JobInfo],
+    info: &JobInfo,
 ) -> Result<(), AllocError>
-    ensures { OnOk result (string_bytes out.new ≡ string_bytes out.old ++ texts.job_rows now infos.now) }
+    ensures { OnOk result (string_bytes out.new ≡ string_bytes out.old ++ texts.job_row now info.now) }
 {
-    for info in infos {
-        push_row(out, alloc, now, info)?;
-    }
-    Ok(())
+    push_names(
+        out,
+        alloc,
+        info.job.0 as u128,
+        info.session.as_ref(),
+        info.name.as_ref(),
+    )?;
+    push_state(out, info.state)?;
+    push_times(out, info.slots, info.submitted, waited(now, info))?;
+    push_ends(out, info)
 }

@@ -1,10 +1,11 @@
 //! The jobs of a history, counted.
-ghost use Rattle.std.specs.Prelude.{◌≡◌};
+ghost use Rattle.std.specs.Prelude.{◌≡◌, IfOk};
 ghost use Rattle.run_views.specs.Jobs as jobs;
 
 use drmaa_model::{Call, Entry, Reply};
 use drmaa_types::{Change, JobInfo, JobState, Refusal};
 use plan_book::states::{is_started, is_state, is_waiting};
+use std::alloc::{AllocError, Global};
 
 /// What a script tests of the jobs of a history.
 #[derive(Clone, Copy, Debug, PartialEq, Eq)]
@@ -88,14 +89,22 @@ fn refused_for(reply: &Reply) -> u8
     }
 }
 
-/// How many calls got the refusal of this number.
-pub(crate) fn refused(entries: &[Entry], number: u8) -> usize
-    ensures { result ≡ jobs.refused number entries.now }
+/// The number of the refusal that each call got, and 0 where it got none: so that they are looked up once.
+pub(crate) fn refusals(alloc: Global, entries: &[Entry]) -> Result<Vec<u8>, AllocError>
+    ensures { IfOk result (λ numbers. numbers.items ≡ jobs.refusals entries.now) }
 {
-    entries
-        .iter()
-        .filter(|entry| refused_for(&entry.reply) == number)
-        .count()
+    let mut numbers = Vec::with_capacity(alloc, entries.len())?;
+    for entry in entries {
+        numbers.push(refused_for(&entry.reply))?;
+    }
+    Ok(numbers)
+}
+
+/// How many of these numbers are this one.
+pub(crate) fn how_many(numbers: &[u8], number: u8) -> usize
+    ensures { result ≡ jobs.how_many number numbers.now }
+{
+    numbers.iter().filter(|n| **n == number).count()
 }
 
 /// Whether a call submits jobs.

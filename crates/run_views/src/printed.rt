@@ -24,7 +24,7 @@ fn words_text(alloc: Global, words: &TextList) -> Result<String, AllocError>
 }
 
 /// Writes how a run ended.
-fn push_ending(out: &mut String, how: Ending) -> Result<(), AllocError>
+pub(crate) fn push_ending(out: &mut String, how: Ending) -> Result<(), AllocError>
     ensures { OnOk result (string_bytes out.new ≡ string_bytes out.old ++ texts.ending_text how) }
 {
     let mut digits = Buffer::new();

@@ -14,8 +14,10 @@ use drmaa_types::Text;
 use journal_check::{Replayed, replay_history};
 use journal_commands::{Made, Output};
 use journal_text::{Journal, a_writable_journal_keeps_its_calls};
+use run_chart::chart;
 use run_views::{Verdict, print_jobs, print_log, runs_of, verdict_of};
 use std::alloc::{AllocError, Global};
+use wait_reasons::print_why;
 
 /// What is shown of a legal journal.
 #[derive(Drop)]
@@ -69,6 +71,33 @@ fn see_log(alloc: Global, machine: &Machine) -> Result<Seen, AllocError>
     })
 }
 
+/// Why the jobs of a machine wait.
+fn see_why(alloc: Global, machine: &Machine) -> Result<Seen, AllocError>
+    ensures text { IfOk result (λ seen. seen.text ≡ views.view_text View.Why machine.now.ledger) }
+    ensures verdict { IfOk result (λ seen. seen.verdict ≡ views.view_verdict View.Why machine.now.ledger) }
+{
+    Ok(Seen {
+        text: print_why(alloc, machine)?,
+        verdict: Verdict::AllEnded,
+    })
+}
+
+/// The chart of a machine.
+fn see_chart(alloc: Global, machine: &Machine) -> Result<Seen, AllocError>
+    ensures text { IfOk result (λ seen. seen.text ≡ views.view_text View.Chart machine.now.ledger) }
+    ensures verdict { IfOk result (λ seen. seen.verdict ≡ views.view_verdict View.Chart machine.now.ledger) }
+{
+    Ok(Seen {
+        text: chart(
+            alloc,
+            machine.entries(),
+            machine.config().slots,
+            machine.moment(),
+        )?,
+        verdict: Verdict::AllEnded,
+    })
+}
+
 /// A view of a machine.
 fn see(alloc: Global, view: View, machine: &Machine) -> Result<Seen, AllocError>
     ensures text { IfOk result (λ seen. seen.text ≡ views.view_text view machine.now.ledger) }
@@ -77,6 +106,8 @@ fn see(alloc: Global, view: View, machine: &Machine) -> Result<Seen, AllocError>
     match view {
         View::Jobs => see_jobs(alloc, machine),
         View::Log => see_log(alloc, machine),
+        View::Why => see_why(alloc, machine),
+        View::Chart => see_chart(alloc, machine),
     }
 }
 

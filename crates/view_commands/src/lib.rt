@@ -1,5 +1,5 @@
 //! The commands of the program that shows what a journal tells: a journal of either version is read from a source, and what is told
-//! of its jobs or of their runs is written to a sink.
+//! of its jobs, of their runs, or of why jobs wait, or a chart, is written to a sink.
 #![tactic(auto)]
 
 mod judging;

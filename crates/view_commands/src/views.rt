@@ -12,10 +12,14 @@ pub enum View {
     Jobs,
     /// Their runs.
     Log,
+    /// Why each job that waits is not launched.
+    Why,
+    /// A chart of their runs, as SVG.
+    Chart,
 }
 
 /// All views.
-pub const VIEWS: [View; 2] = [View::Jobs, View::Log];
+pub const VIEWS: [View; 4] = [View::Jobs, View::Log, View::Why, View::Chart];
 
 /// The word that asks for a view.
 pub fn spell_view(view: View) -> &'static str
@@ -24,6 +28,8 @@ pub fn spell_view(view: View) -> &'static str
     match view {
         View::Jobs => "jobs",
         View::Log => "log",
+        View::Why => "why",
+        View::Chart => "chart",
     }
 }
 

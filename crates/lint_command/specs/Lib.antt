@@ -1,0 +1,5 @@
+pub mod Words
+pub mod Kinds
+pub mod Refusals
+pub mod Outcomes
+pub mod Ends

@@ -1,0 +1,14 @@
+pub mod Lanes
+pub mod Bars
+pub mod BarLaws
+pub mod Blocks
+pub mod BlockLaws
+pub mod Charts
+pub mod Scales
+pub mod Shapes
+pub mod Pieces
+pub mod Drawing
+pub mod Axes
+pub mod Dates
+pub mod Numbers
+pub mod Pages

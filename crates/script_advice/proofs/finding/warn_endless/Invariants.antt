@@ -1,0 +1,11 @@
+use Rattle.std.proofs.Common.{◌≡◌, ◌++◌, take, drop, []}
+use Rattle.script_advice.specs.Holds.{AreHolds}
+use Rattle.script_advice.specs.Warnings.{endless}
+use Rattle.script_advice.proofs.finding.warn_endless.Given as goal
+
+-- what was found so far, and what is left, are all of it; and what the lines so far hold is known
+abbrev pub invariant-loop-line : goal.invariant-loop-line
+invariant-loop-line l = record {
+  found : l.found.items ++ endless l.fn.place l.script (take l.line-index l.lines) (drop l.line-index l.lines) ≡ l.initial.found.items ++ endless l.fn.place l.script [] l.lines;
+  holds : AreHolds l.script (take l.line-index l.lines) l.earlier;
+}
