@@ -1,5 +1,6 @@
-//! The program `drmaa`: plays scripts of clients, writes the journal of what they were answered or the listing of their jobs,
-//! and checks journals, writes them in other forms, forecasts their starts, and goes on with them by reservations.
+//! The program `drmaa`: plays scripts of clients, one made of random numbers too, and writes the journal of what they were answered,
+//! the listing of their jobs or counts; and checks journals, writes them in other forms, forecasts their starts, and goes on with
+//! them by reservations or a further script.
 #![tactic(auto)]
 
 use byte_streams::{StdSink, StdSource};
@@ -8,11 +9,18 @@ use child_spawner::LocalSpawner;
 use drmaa_script::{Outcome, Status, SystemClocks, printed_callbacks, run};
 use drmaa_types::{Text, TextList};
 use std::alloc::{AllocError, Global};
+use std::io::IsTerminal;
 use std::process::ExitCode;
 use std::sync::Wait;
 use std::thread::Threads;
 use std::time::Clock as Pause;
 use std::{env, io};
+
+/// The uses of the program, for who sits at a terminal.
+const USAGE: &str = "\
+usage: drmaa threads|serial|table <SCRIPT, or drmaa soak N SEED
+       drmaa check|migrate|json|forecast <JOURNAL, or continue <JOURNAL_AND_SCRIPT
+       drmaa recur NAME UNIT N COUNT @M SECONDS SLOTS <JOURNAL";
 
 /// The words behind the program's name.
 fn words(rt: &HostRuntime) -> Result<TextList, io::Error> {
@@ -57,14 +65,22 @@ fn status_of<E: Threads + Wait + Pause + Sync>(
     Ok(status)
 }
 
+/// Says on standard error how the run ended, and at a terminal how the program is used. Where standard error takes nothing, the
+/// number alone has to tell.
+fn say(rt: &HostRuntime, status: &Status) {
+    let _ = eprintln!(rt; "drmaa: {status}");
+    if matches!(status, Status::Words) && rt.stderr().is_terminal() {
+        let _ = eprintln!(rt; "{USAGE}");
+    }
+}
+
 fn main(rt: HostRuntime) -> ExitCode {
     let status = match words(&rt) {
         Ok(words) => status_of(&rt, rt, &words).unwrap_or(Status::Memory),
         Err(error) => word_status(&error),
     };
     if !matches!(status, Status::Done) {
-        // Where standard error takes nothing, the number alone has to tell.
-        let _ = eprintln!(rt; "drmaa: {status}");
+        say(&rt, &status);
     }
     ExitCode::from(status.number())
 }

@@ -25,6 +25,8 @@ const COMMANDS: &[(&str, bool)] = &[
     ("exit 0", true),
     ("exit 1", false),
     ("kill -KILL $$", false),
+    // No process has so great a number.
+    ("kill -CONT 4194305", false),
 ];
 
 #[test]
