@@ -1,5 +1,5 @@
 -- What is shown of a legal journal, and how that ends: our profile.
-use Rattle.std.specs.Prelude.{◌≡◌, ℕ, List, Option, None}
+use Rattle.std.specs.Prelude.{◌≡◌, ℕ, ◌++◌, List, Option, None}
 use Rattle.drmaa_model.specs.History.{Ledger, now_of}
 use Rattle.drmaa_model.specs.Infos.{infos}
 use Rattle.journal_text.specs.declared.journals.Journal.{Journal}
@@ -21,10 +21,11 @@ use Rattle.wait_reasons.specs.Texts.{why_text}
 use Rattle.view_commands.specs.declared.views.View.{View}
 use Rattle.view_commands.specs.declared.views.View.TheVariants.{Jobs, Log, Why, Chart}
 
--- `jobs`: all jobs that ever were, the kept ones as they are in the world that the history leads to, and the counts; `log`: the runs of the history; `why`: the reasons for
--- which the jobs that wait in that world are not launched; `chart`: the chart of the history, up to the moment of that world
+-- `jobs`: all jobs that ever were, the kept ones as they are in the world that the history leads to, the counts, and why those wait
+-- that do; `log`: the runs of the history; `why`: the reasons for which the jobs that wait in that world are not launched; `chart`: the
+-- chart of the history, up to the moment of that world
 abbrev pub view_text : View → Ledger → List ℕ
-view_text Jobs ledger = jobs_text (now_of ledger).plan.moment (infos (now_of ledger)) (now_of ledger).plan.changes ledger.history
+view_text Jobs ledger = jobs_text (now_of ledger).plan.moment (infos (now_of ledger)) (now_of ledger).plan.changes ledger.history ++ why_text (now_of ledger).plan
 view_text Log ledger = log_text (runs_of ledger.history)
 view_text Why ledger = why_text (now_of ledger).plan
 view_text Chart ledger = chart_text (chart_of ledger.config.slots (now_of ledger).plan.moment ledger.history)

@@ -1,5 +1,5 @@
 //! What is shown of a journal, and whether a script may be content with its jobs.
-ghost use Rattle.std.specs.Prelude.{◌≡◌, ◌⊎◌, IfOk};
+ghost use Rattle.std.specs.Prelude.{◌≡◌, ◌++◌, ◌⊎◌, IfOk};
 ghost use Rattle.drmaa_model.specs.History.{Ledger};
 ghost use Rattle.journal_text.specs.Journals.{IsWritable};
 ghost use Rattle.journal_commands.specs.Commands.{OfLegal, RefusesFault, Judged, ledger_of};
@@ -42,7 +42,16 @@ fn replayed_journal(alloc: Global, journal: Journal) -> Replayed
     replay_history(alloc, journal.config, journal.entries)
 }
 
-/// The jobs of a machine.
+/// A text with another one behind it.
+fn joined(first: Text, second: &Text) -> Result<Text, AllocError>
+    ensures { IfOk result (λ text. text ≡ first ++ second.now) }
+{
+    let mut out = first.into_string();
+    out.push_str(second.as_str())?;
+    Ok(Text::from_string(out))
+}
+
+/// The jobs of a machine, and why those wait that do.
 fn see_jobs(alloc: Global, machine: &Machine) -> Result<Seen, AllocError>
     ensures text { IfOk result (λ seen. seen.text ≡ views.view_text View.Jobs machine.now.ledger) }
     ensures verdict { IfOk result (λ seen. seen.verdict ≡ views.view_verdict View.Jobs machine.now.ledger) }
@@ -53,8 +62,10 @@ fn see_jobs(alloc: Global, machine: &Machine) -> Result<Seen, AllocError>
     let infos = infos.as_slice();
     let changes = machine.changes();
     let entries = machine.entries();
+    let jobs = print_jobs(alloc, machine.moment(), infos, changes, entries)?;
+    let why = print_why(alloc, machine)?;
     Ok(Seen {
-        text: print_jobs(alloc, machine.moment(), infos, changes, entries)?,
+        text: joined(jobs, &why)?,
         verdict: verdict_of(infos, changes, entries),
     })
 }
