@@ -13,10 +13,10 @@ ghost use Rattle.journal_commands.specs.Statuses.{IsQuiet, HasRead, HasWritten, 
 ghost use Rattle.journal_commands.specs.Texts.{IsReadAs, IsReadOut};
 ghost use Rattle.batch_command.specs.Ends.{AreCommands, BatchEnds, BatchIsWhole};
 
-use byte_streams::{Input, Sink, Source, read_all, write_all};
+use byte_streams::{Input, Sink, Source, read_all};
 use command_scripts::{Machine, write_script};
 use drmaa_types::Bytes;
-use journal_commands::{Status, read_status, status_of};
+use journal_commands::{Status, read_status, status_of, write_output};
 use std::alloc::Global;
 
 /// The greatest number of bytes of the commands.
@@ -47,20 +47,6 @@ fn read_commands<R: Source>(
     }
 }
 
-/// Writes a text, and finishes the sink.
-fn write_text<W: Sink>(text: &[u8], sink: &mut W) -> Status
-    ensures ends { OutputEnds text.now None result (W.written sink.old) (W.written sink.new) }
-    ensures finished { HasWritten result → W.finished sink.new }
-    ensures fault { result ≡ Status.WriteFault → Rose (W.faults sink.old) (W.faults sink.new) }
-    ensures untouched { IsQuiet result → sink.new ≡ sink.old }
-    ensures whole { (Rose (W.faults sink.old) (W.faults sink.new) → ⊥) → result ≡ Status.Done }
-{
-    match write_all(sink, text) {
-        Ok(()) => Status::Done,
-        Err(_) => Status::WriteFault,
-    }
-}
-
 /// Reads commands for a shell, one a line, and writes the script for threads that runs them on this machine. The source is read to
 /// its end, or past the greatest number of bytes, 16,777,216, and the whole script is made before its first byte is written.
 pub fn run_batch<R: Source, W: Sink>(
@@ -81,7 +67,7 @@ pub fn run_batch<R: Source, W: Sink>(
         → IfSome (R.left source.old) (λ bytes. BatchIsWhole machine bytes result) }
 {
     match read_commands(alloc, machine, source) {
-        Ok(script) => write_text(script.as_slice(), sink),
+        Ok(script) => write_output(script.as_slice(), None, sink),
         Err(status) => status,
     }
 }

@@ -1,11 +1,9 @@
--- What a queue and a pool lack while they are filled and emptied.
+-- What a queue lacks while it is filled and emptied.
 use Rattle.std.proofs.Common.{◌≡◌, ℕ, ◌<◌, false, List, [], ◌∷◌, None, ◌+◌, refl, arith}
 use Rattle.std.proofs.lemmas.Bool.Decides.{nat_tests}
 use Rattle.drmaa_types.specs.declared.identifiers.JobId.{JobId}
 use Rattle.run_queue.specs.declared.items.QueueItem.{QueueItem}
 use Rattle.run_queue.specs.Order.{is_of, item_of, with_item}
-use Rattle.slot_pool.specs.declared.pool.Holding.{Holding}
-use Rattle.slot_pool.specs.Holdings.{slots_of, without_job}
 
 -- a job is not there after another was put in
 absent_with : (job : JobId) (added : QueueItem) (l : List QueueItem) → item_of job l ≡ None → is_of job added ≡ false → item_of job (with_item added l) ≡ None
@@ -18,8 +16,3 @@ Begun number items = (job : JobId) → number < job.0 → item_of job items ≡ 
 
 pub one_more : (number : ℕ) (items : List QueueItem) (added : QueueItem) → added.job.0 ≡ number + 1 → Begun number items → Begun (number + 1) (with_item added items)
 one_more number items added is begun job greater = absent_with job added items (begun job (omega (arith, greater))) (grind (arith, nat_tests, is, greater))
-
--- a job that has given back its slots holds none
-pub holds_none : (job : JobId) (l : List Holding) → slots_of job (without_job job l) ≡ 0
-holds_none job [] = refl
-holds_none job (x ∷ l) = grind (arith, nat_tests, holds_none job l)

@@ -1,6 +1,5 @@
-//! The work of a run queue, a slot pool and a calendar with many items, holdings and bookings.
+//! The work of a run queue and a calendar with many items and bookings.
 mod calendar_load;
-mod pool_load;
 mod queue_load;
 mod way;
 
@@ -8,7 +7,7 @@ use crate::command::{Ending, only_number};
 use std::io;
 use way::Way;
 
-/// Does the work with as many items, holdings and bookings as the word COUNT says, in both ways, and prints how long each piece took.
+/// Does the work with as many items and bookings as the word COUNT says, in both ways, and prints how long each piece took.
 pub fn measure(rt: HostRuntime, words: &[String]) -> io::Result<Ending> {
     let Some(count) = count_of_words(words) else {
         return Ok(Ending::UnknownWords);
@@ -16,13 +15,12 @@ pub fn measure(rt: HostRuntime, words: &[String]) -> io::Result<Ending> {
     let mut done = true;
     for way in [Way::InOrder, Way::Scattered] {
         done &= queue_load::measure(rt, count, way)?;
-        done &= pool_load::measure(rt, count, way)?;
         done &= calendar_load::measure(rt, count, way)?;
     }
     Ok(Ending::of(done))
 }
 
-// How many items and holdings, at least one.
+// How many items and bookings, at least one.
 fn count_of_words(words: &[String]) -> Option<u32> {
     let count = u32::try_from(only_number(words)?).ok()?;
     if count == 0 { None } else { Some(count) }

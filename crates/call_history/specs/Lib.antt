@@ -5,6 +5,7 @@ pub mod Clocks
 pub mod Calls
 pub mod Turns
 pub mod Refused
+pub mod Said
 pub mod Looks
 pub mod Timed
 pub mod TimedLaws

@@ -1,6 +1,6 @@
 //! The machine: a history, and the world that it leads to.
 ghost use Rattle.std.specs.Prelude.{◌≡◌, ◌≢◌, ◌+◌, ◌≤◌, ◌↔◌, ◌⊎◌, ℕ, [], map, IfOk, IfErr, IsOk, OnOk, OnErr, IsTrue, true, None, Some, length};
-ghost use Rattle.std.specs.Option.{option_map};
+ghost use Rattle.std.specs.Option.{option_copied, option_map};
 ghost use Rattle.drmaa_types.specs.Queues.{are_queues};
 ghost use Rattle.drmaa_types.specs.declared.refusals.Refusal.{Refusal};
 ghost use Rattle.drmaa_model.specs.declared.rows.Row.{Row};
@@ -19,6 +19,7 @@ ghost use Rattle.drmaa_model.specs.Steps.{answer, IsStep};
 ghost use Rattle.drmaa_model.specs.Time.{advance};
 ghost use Rattle.drmaa_model.specs.WaitLaws.{HandsOut, SendsOut};
 ghost use Rattle.drmaa_model.specs.World.{counted};
+ghost use Rattle.session_table.specs.Sessions.{name_of};
 ghost use Rattle.drmaa_machine.specs.Applying.{served, IsTooLarge, GoesByEdges, IsOver, IsRefusedFor, is_submission, is_foreseen, is_frugal, is_run_report};
 ghost use Rattle.drmaa_machine.specs.Looks.{IsAnswer};
 ghost use Rattle.drmaa_machine.specs.Waits.{call_of};
@@ -27,7 +28,7 @@ use crate::applying::serve;
 use crate::looks::{infos_in, look_in, must_wait_in, reservations_in, reserve_in, size_in};
 use crate::waits::Awaited;
 use drmaa_model::{Accepted, Answer, Call, Config, Entry, NoEntry, Question, Reply, Row, Started};
-use drmaa_types::{CallerId, Change, End, InfoList, JobId, Moment, Refusal, ReservationList};
+use drmaa_types::{CallerId, Change, End, InfoList, JobId, Moment, Refusal, ReservationList, Text};
 use machine_readings::Store;
 use scheduler_core::Core;
 use session_table::SessionTable;
@@ -266,6 +267,14 @@ impl Machine {
         ensures { result ≡ next_event (now_of self.now.ledger).plan after }
     {
         self.store.core.next_event(after)
+    }
+
+    /// The name of the named session with this number, as a change and a notification have it. None exactly where there is no such
+    /// session, or no longer. It takes no memory and makes no entry.
+    pub fn session_name(&self, home: u64) -> Option<&Text>
+        ensures { option_copied result ≡ name_of home (now_of self.now.ledger).sessions.named }
+    {
+        self.store.sessions.name(home)
     }
 
     /// What was served, in order.

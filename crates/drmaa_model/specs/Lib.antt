@@ -47,6 +47,7 @@ pub mod RowLaws
 pub mod Rows
 pub mod RunLaws
 pub mod Runs
+pub mod Said
 pub mod SettledLaws
 pub mod Size
 pub mod SizeLaws

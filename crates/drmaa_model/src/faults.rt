@@ -1,5 +1,7 @@
 //! Why a call made no entry.
 use std::alloc::AllocError;
+use std::error::Error;
+use std::fmt;
 
 /// Why a call made no entry. The machine is then as it was.
 #[derive(Clone, Copy, Debug, PartialEq, Eq)]
@@ -24,3 +26,21 @@ impl From<AllocError> for NoEntry {
         NoEntry::OutOfMemory
     }
 }
+
+impl fmt::Display for NoEntry {
+    ghost use Rattle.std.specs.Prelude.{Some};
+    ghost use Rattle.drmaa_model.specs.Said.{fault_text};
+
+    ghost output = { λ why. Some (fault_text why) };
+
+    fn fmt<W: fmt::Write>(&self, f: &mut fmt::Formatter<W>) -> fmt::Result {
+        match self {
+            NoEntry::OutOfMemory => write!(f, "out of memory"),
+            NoEntry::NotYet => write!(f, "no listed job has reached the state yet"),
+            NoEntry::Nothing => write!(f, "there is no job to launch and no signal to send"),
+            NoEntry::Journal { size } => write!(f, "the journal would have the size {size}"),
+        }
+    }
+}
+
+impl Error for NoEntry {}

@@ -54,9 +54,9 @@ memory_possible : (command : Command) → MayEnd command Memory
 memory_possible Serial = tt
 memory_possible Threads = tt
 memory_possible Table = tt
-memory_possible Check = λ e. cc
-memory_possible Migrate = λ e. cc
-memory_possible Json = λ e. cc
+memory_possible Check = tt
+memory_possible Migrate = tt
+memory_possible Json = tt
 memory_possible Forecast = λ e. cc
 memory_possible Continue = tt
 memory_possible (Recur words) = λ e. cc

@@ -105,7 +105,9 @@ Starts (Recur words) = ⊥
 Starts (Soak words) = ⊥
 
 -- The statuses that a command can come to at all, whatever its source tells: one that plays a script calls no journal illegal, one
--- that reads a journal lacks no callbacks, and one that makes its own script does neither, finds no bad line, and fills no journal.
+-- that reads a journal lacks no callbacks.
+
+-- one that makes its own script does neither, finds no bad line, and fills no journal
 abbrev pub IsOfSoak : Status → Type 0
 IsOfSoak Done = Unit {0}
 IsOfSoak (Text line) = ⊥
@@ -116,13 +118,35 @@ IsOfSoak Memory = Unit {0}
 IsOfSoak (JournalFull size) = ⊥
 IsOfSoak (NotLegal entry given machine) = ⊥
 
+-- one that reads a journal and makes no entries fills none
+abbrev pub IsOfCheck : Status → Type 0
+IsOfCheck Done = Unit {0}
+IsOfCheck (Text line) = Unit {0}
+IsOfCheck Words = ⊥
+IsOfCheck ReadFault = Unit {0}
+IsOfCheck WriteFault = Unit {0}
+IsOfCheck Memory = Unit {0}
+IsOfCheck (JournalFull size) = ⊥
+IsOfCheck (NotLegal entry given machine) = Unit {0}
+
+-- and one that writes every journal in another form calls none illegal either
+abbrev pub IsOfForm : Status → Type 0
+IsOfForm Done = Unit {0}
+IsOfForm (Text line) = Unit {0}
+IsOfForm Words = ⊥
+IsOfForm ReadFault = Unit {0}
+IsOfForm WriteFault = Unit {0}
+IsOfForm Memory = Unit {0}
+IsOfForm (JournalFull size) = ⊥
+IsOfForm (NotLegal entry given machine) = ⊥
+
 abbrev pub MayEnd : Command → Status → Type 0
 MayEnd Serial status = IsOfScript status
 MayEnd Threads status = IsOfScript status
 MayEnd Table status = IsOfScript status
-MayEnd Check status = status ≢ Words
-MayEnd Migrate status = status ≢ Words
-MayEnd Json status = status ≢ Words
+MayEnd Check status = IsOfCheck status
+MayEnd Migrate status = IsOfForm status
+MayEnd Json status = IsOfForm status
 MayEnd Forecast status = status ≢ Words
 MayEnd Continue status = Unit {0}
 MayEnd (Recur words) status = status ≢ Words

@@ -10,7 +10,7 @@ ghost use Rattle.script_text.specs.declared.scripts.Mode.TheVariants as mode;
 ghost use Rattle.script_text.specs.declared.scripts.Script.{Script};
 ghost use Rattle.command_words.specs.Commands.{IsRanged, begins_dash};
 ghost use Rattle.command_words.specs.declared.commands.SoakWords.{SoakWords};
-ghost use Rattle.journal_commands.specs.Outcomes.{JournalEnds, JournalIsWhole};
+ghost use Rattle.journal_commands.specs.Outcomes.{CameTo, JournalEnds, JournalIsWhole};
 ghost use Rattle.drmaa_script.specs.Commands.{Asks, CanRun, NamesNone};
 ghost use Rattle.drmaa_script.specs.Soaking.{SoakEnds};
 ghost use Rattle.drmaa_script.specs.Endings.{Ends, IsWhole, MayEnd, PlaysAlone, IsDeaf, Reads, limit_of, WritesJournal, HandsClocks, Starts};
@@ -72,6 +72,7 @@ fn run_deaf<J: JournalCommand, R: Source, W: Sink, C, B: Callback>(
     callbacks: Callbacks<B>,
 ) -> Outcome<C, B>
     ensures ends { IfSome (R.left source.old) (λ bytes. JournalEnds (J.Writes command) (J.Refuses command) bytes result.status (W.written sink.old) (W.written sink.new)) }
+    ensures came { CameTo (J.Writes command) (J.Refuses command) result.status }
     ensures words { result.status ≢ Status.Words }
     ensures read_whole { HasRead result.status → IsAtEnd (R.left source.new) }
     ensures read_out { (line : ℕ) → result.status ≡ Status.Text line → IsReadOut 268_435_456 (R.left source.old) (R.left source.new) }

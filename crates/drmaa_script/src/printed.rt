@@ -6,7 +6,6 @@ ghost use Rattle.notify_hub.specs.Hearing.{Hears};
 use drmaa_types::Notification;
 use notify_hub::{Callback, Callbacks};
 use std::alloc::AllocError;
-use text_words::spell_state;
 
 /// How many callbacks hear a run of the program.
 const COUNT: u32 = 64;
@@ -33,7 +32,7 @@ impl Callback for PrintedCallback {
             "callback {} job {} {}",
             self.number,
             n.job.0,
-            spell_state(n.state)
+            n.state.name()
         );
         self.calls = self.calls.saturating_add(1);
     }

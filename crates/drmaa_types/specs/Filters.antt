@@ -9,6 +9,10 @@ use Rattle.drmaa_types.specs.declared.infos.JobInfo.{JobInfo}
 use Rattle.drmaa_types.specs.declared.states.Exit.{Exit}
 use Rattle.drmaa_types.specs.declared.states.Exit.TheVariants.{Code, Signal}
 
+-- the filter that lets every job through
+abbrev pub all : JobFilter
+all = record { job = None; name = None; state = None; slots = None; queue = None; status = None; wallclock = None; submitted = None; dispatched = None; finished = None }
+
 -- An unset field lets everything through. A set one asks that the info has a value there, which agrees with it.
 abbrev pub agrees : {A : Type 0} → (A → A → Bool) → Option A → Option A → Bool
 agrees same None there = true

@@ -7,4 +7,5 @@ pub mod Readings
 pub mod Queues
 pub mod RefusalLaws
 pub mod Refusals
+pub mod Said
 pub mod States

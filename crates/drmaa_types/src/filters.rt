@@ -1,5 +1,5 @@
 //! Which jobs a filter lets through.
-ghost use Rattle.std.specs.Prelude.{◌≡◌, nat_le};
+ghost use Rattle.std.specs.Prelude.{◌≡◌, nat_le, Some};
 ghost use Rattle.std.specs.Str.{bytes_eq};
 ghost use Rattle.std.specs.Option.{option_and_then};
 ghost use Rattle.drmaa_types.specs.States.{is_state, state_number};
@@ -29,6 +29,42 @@ pub struct JobFilter {
 }
 
 impl JobFilter {
+    /// The filter that lets every job through.
+    pub fn all() -> JobFilter
+        ensures { result ≡ filter.all }
+    {
+        JobFilter {
+            job: None,
+            name: None,
+            state: None,
+            slots: None,
+            queue: None,
+            status: None,
+            wallclock: None,
+            submitted: None,
+            dispatched: None,
+            finished: None,
+        }
+    }
+
+    /// The same filter for the jobs in this state alone.
+    pub fn in_state(self, state: JobState) -> JobFilter
+        ensures { result ≡ record self { state = Some state } }
+    {
+        let mut filter = self;
+        filter.state = Some(state);
+        filter
+    }
+
+    /// The same filter for the jobs of this name alone.
+    pub fn named(self, name: Text) -> JobFilter
+        ensures { result ≡ record self { name = Some name } }
+    {
+        let mut filter = self;
+        filter.name = Some(name);
+        filter
+    }
+
     /// Whether each set field agrees with the info. Where the info has no value, a set field does not. It takes no memory.
     pub fn matches(&self, info: &JobInfo) -> bool
         ensures { result ≡ filter.matches self.now info.now }

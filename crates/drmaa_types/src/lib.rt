@@ -14,6 +14,7 @@ mod moments;
 mod queues;
 mod readings;
 mod refusals;
+mod said;
 mod sessions;
 mod states;
 mod texts;

@@ -1,12 +1,12 @@
 //! A text, seen by contracts as its bytes.
-ghost use Rattle.std.specs.Prelude.{◌≡◌, IsUtf8, string_bytes, nat_eq};
+ghost use Rattle.std.specs.Prelude.{◌≡◌, IfOk, IsUtf8, string_bytes, nat_eq};
 ghost use Rattle.std.specs.Hash as fed;
 ghost use Rattle.std.specs.Cmp.Lexicographic.{pointwise, nat_list_eq_equiv};
 ghost use Rattle.std.specs.Cmp.{partial_equiv_from_equiv};
 ghost use Rattle.std.specs.Cmp.Rules.{hashing};
 ghost use Rattle.std.proofs.Common.{rules};
 
-use std::alloc::AllocError;
+use std::alloc::{AllocError, Global};
 use std::fmt;
 use std::hash::{Hash, Hasher};
 use std::marker::Model;
@@ -26,6 +26,19 @@ impl Model for Text {
 }
 
 impl Text {
+    /// A copy of this text, as a value of its own.
+    ///
+    /// # Errors
+    ///
+    /// Want of memory.
+    pub fn of(alloc: Global, text: &str) -> Result<Self, AllocError>
+        ensures { IfOk result (λ t. t ≡ text.now) }
+    {
+        Ok(Text {
+            inner: String::from_str(alloc, text)?,
+        })
+    }
+
     /// The text of this string; it takes no memory.
     pub fn from_string(inner: String) -> Self
         ensures { result ≡ string_bytes inner }

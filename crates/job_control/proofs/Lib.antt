@@ -1,3 +1,4 @@
+pub mod Among
 pub mod ControlLaws
 pub mod PhaseLaws
 pub mod Searches

@@ -13,7 +13,7 @@ use drmaa_model::{Row, Target};
 use drmaa_types::{Control, JobState, Moment, Refusal, Which};
 use job_states::{after_control, has_terminated};
 use plan_book::Book;
-use plan_book::targets::is_meant;
+use plan_book::targets::{is_meant, meant_rows};
 
 /// What a call does to the jobs that are meant and whose state permits it.
 #[derive(Clone, Copy)]
@@ -60,11 +60,19 @@ fn first_state(book: &Book, at: Moment, target: &Target) -> Option<JobState>
     }
 }
 
-/// The row of the job, or of the array's kept member of least number, as it is now.
+/// The row of the job, which is found by halves, or of the array's kept member of least number, as it is now.
 fn first_meant<'a>(book: &'a Book, target: &Target) -> Option<&'a Row>
+    requires kept { IsKept book.now }
     ensures { option_copied result ≡ find (is_meant target.now) book.now.rows.items }
 {
-    book.rows().iter().find(|row| is_meant(target, row))
+    first_in(meant_rows(book.rows(), *target), target)
+}
+
+/// The first of these jobs that is meant.
+fn first_in<'a>(rows: &'a [Row], target: &Target) -> Option<&'a Row>
+    ensures { option_copied result ≡ find (is_meant target.now) rows.now }
+{
+    rows.iter().find(|row| is_meant(target, row))
 }
 
 /// Whether the state of one of the jobs that are meant permits the call once time has come to this moment.
@@ -72,7 +80,15 @@ fn is_any_permitted(book: &Book, at: Moment, target: &Target, act: Act) -> bool
     requires kept { IsKept book.now }
     ensures { result ≡ list_any (λ (row : Row). is_meant target.now row && may_act act row.course.state) (rows_at at (plan_of book.now)) }
 {
-    for row in book.rows() {
+    is_any_among(book, at, meant_rows(book.rows(), *target), target, act)
+}
+
+/// The same of these jobs.
+fn is_any_among(book: &Book, at: Moment, rows: &[Row], target: &Target, act: Act) -> bool
+    requires kept { IsKept book.now }
+    ensures { result ≡ list_any (λ (row : Row). is_meant target.now row && may_act act (row_then at (plan_of book.now) row).course.state) rows.now }
+{
+    for row in rows {
         if is_permitted(book, at, row, target, act) {
             return true;
         }

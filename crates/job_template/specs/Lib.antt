@@ -1,3 +1,4 @@
+pub mod Blanks
 pub mod Expand
 pub mod Frames
 pub mod JobTests

@@ -2,13 +2,16 @@
 //! that start a job.
 #![tactic(auto)]
 
+mod additions;
 mod attributes;
+mod builders;
 mod copies;
 mod expansion;
 mod frames;
 mod jobs;
 mod launch;
 mod queues;
+mod reservation_builders;
 mod templates;
 mod texts;
 mod variables;

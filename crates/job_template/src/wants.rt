@@ -5,7 +5,7 @@ ghost use Rattle.job_template.specs.Wants as wants;
 use crate::{JobTemplate, ResourceLimit};
 
 /// The name of the limit of how many seconds a launch may last.
-const WALLCLOCK_TIME: &str = "WALLCLOCK_TIME";
+pub(crate) const WALLCLOCK_TIME: &str = "WALLCLOCK_TIME";
 
 /// The least number of slots; 1 where it is unset.
 pub fn least_slots(min: Option<u32>) -> u32

@@ -60,6 +60,17 @@ JournalEnds Writes Refuses bytes Memory old new = Unit {0}
 JournalEnds Writes Refuses bytes (JournalFull size) old new = (j : Journal) × (text : List ℕ) × IsJournalText bytes j × Writes j text (Some size) × Appends old new text
 JournalEnds Writes Refuses bytes (NotLegal entry given machine) old new = (j : Journal) × IsJournalText bytes j × Refuses j entry given machine
 
+-- Whatever the source tells: a journal stands behind each status at which one was read.
+abbrev pub CameTo : Writing → Refusing → Status → Type 0
+CameTo Writes Refuses Done = (j : Journal) × (text : List ℕ) × Writes j text None
+CameTo Writes Refuses (Text line) = Unit {0}
+CameTo Writes Refuses Words = ⊥
+CameTo Writes Refuses ReadFault = Unit {0}
+CameTo Writes Refuses WriteFault = (j : Journal) × (text : List ℕ) × (full : Option ℕ) × Writes j text full
+CameTo Writes Refuses Memory = Unit {0}
+CameTo Writes Refuses (JournalFull size) = (j : Journal) × (text : List ℕ) × Writes j text (Some size)
+CameTo Writes Refuses (NotLegal entry given machine) = (j : Journal) × Refuses j entry given machine
+
 -- Where no read and no write failed: a journal decides how the command ends, and other bytes are refused, unless memory runs out.
 pub record JournalIsWhole (Decides : Journal → Status → Type 0) (bytes : List ℕ) (status : Status) : Type 0 where
   pub journal : (j : Journal) → IsJournalText bytes j → (status ≡ Memory) ⊎ Decides j status

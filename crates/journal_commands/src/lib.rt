@@ -19,5 +19,5 @@ pub use json_forms::Json;
 pub use legal::{LegalCommand, OfLegal};
 pub use migrates::{Migrate, migrating_keeps_the_journal};
 pub use recurrences::{Recur, has_occurrences};
-pub use running::{JournalCommand, Made, Output, run_journal};
+pub use running::{JournalCommand, Made, Output, run_journal, write_made, write_output};
 pub use status::{Status, ended_as, status_of};

@@ -6,8 +6,8 @@ ghost use Rattle.drmaa_model.specs.declared.replies.Reply.{Reply};
 ghost use Rattle.journal_text.specs.Journals.{IsWritable};
 ghost use Rattle.journal_text.specs.declared.journals.Journal.{Journal};
 ghost use Rattle.journal_commands.specs.declared.status.Status.{Status};
-ghost use Rattle.journal_commands.specs.Outcomes.{Makes, MadeEnds, JournalEnds, JournalIsWhole, end_of};
-ghost use Rattle.journal_commands.specs.Statuses.{IsQuiet, HasRead, HasWritten};
+ghost use Rattle.journal_commands.specs.Outcomes.{Makes, MadeEnds, OutputEnds, JournalEnds, JournalIsWhole, CameTo, end_of};
+ghost use Rattle.journal_commands.specs.Statuses.{IsQuiet, HasRead, HasWritten, ended_as};
 ghost use Rattle.journal_commands.specs.Texts.{IsReadOut};
 
 use crate::inputs::read_journal;
@@ -58,8 +58,22 @@ pub trait JournalCommand: Drop + Sized {
         ensures decides { (result ≡ Made.OutOfMemory) ⊎ Decides self journal (end_of result) };
 }
 
-/// Writes what was made.
-fn write_made<W: Sink>(made: Made, sink: &mut W) -> Status
+/// Writes a text, of a command that stopped for this size of the journal, if for any, and finishes the sink.
+pub fn write_output<W: Sink>(text: &[u8], full: Option<u64>, sink: &mut W) -> Status
+    ensures ends { OutputEnds text.now full result (W.written sink.old) (W.written sink.new) }
+    ensures finished { HasWritten result → W.finished sink.new }
+    ensures fault { result ≡ Status.WriteFault → Rose (W.faults sink.old) (W.faults sink.new) }
+    ensures untouched { IsQuiet result → sink.new ≡ sink.old }
+    ensures whole { (Rose (W.faults sink.old) (W.faults sink.new) → ⊥) → result ≡ ended_as full }
+{
+    match write_all(sink, text) {
+        Ok(()) => ended_as(full),
+        Err(_) => Status::WriteFault,
+    }
+}
+
+/// Writes what was made, where that is a text, and finishes the sink then.
+pub fn write_made<W: Sink>(made: Made, sink: &mut W) -> Status
     ensures ends { MadeEnds made result (W.written sink.old) (W.written sink.new) }
     ensures finished { HasWritten result → W.finished sink.new }
     ensures fault { result ≡ Status.WriteFault → Rose (W.faults sink.old) (W.faults sink.new) }
@@ -67,10 +81,9 @@ fn write_made<W: Sink>(made: Made, sink: &mut W) -> Status
     ensures whole { (Rose (W.faults sink.old) (W.faults sink.new) → ⊥) → result ≡ end_of made }
 {
     match made {
-        Made::Written(Output { text, full }) => match write_all(sink, text.as_str().as_bytes()) {
-            Ok(()) => ended_as(full),
-            Err(_) => Status::WriteFault,
-        },
+        Made::Written(Output { text, full }) => {
+            write_output(text.as_str().as_bytes(), full, sink)
+        }
         Made::NotLegal {
             entry,
             given,
@@ -93,6 +106,7 @@ pub fn run_journal<C: JournalCommand, R: Source, W: Sink>(
     sink: &mut W,
 ) -> Status
     ensures ends { IfSome (R.left source.old) (λ bytes. JournalEnds (C.Writes command) (C.Refuses command) bytes result (W.written sink.old) (W.written sink.new)) }
+    ensures came { CameTo (C.Writes command) (C.Refuses command) result }
     ensures words { result ≢ Status.Words }
     ensures read_whole { HasRead result → IsAtEnd (R.left source.new) }
     ensures read_out { (line : ℕ) → result ≡ Status.Text line → IsReadOut 268_435_456 (R.left source.old) (R.left source.new) }

@@ -14,9 +14,9 @@ ghost use Rattle.lint_command.specs.Refusals.{advice_at};
 
 use crate::judging::{Refused, lint_first};
 use crate::outcomes::Outcome;
-use byte_streams::{Input, Sink, Source, read_all, write_all};
+use byte_streams::{Input, Sink, Source, read_all};
 use drmaa_types::Text;
-use journal_commands::{Status, read_status};
+use journal_commands::{Status, read_status, write_output};
 use std::alloc::Global;
 
 /// The greatest number of bytes of a script.
@@ -68,20 +68,6 @@ fn lint_source<R: Source>(alloc: Global, source: &mut R) -> Result<Text, Outcome
     }
 }
 
-/// Writes a text, and finishes the sink.
-fn write_text<W: Sink>(text: &[u8], sink: &mut W) -> Status
-    ensures ends { OutputEnds text.now None result (W.written sink.old) (W.written sink.new) }
-    ensures finished { HasWritten result → W.finished sink.new }
-    ensures fault { result ≡ Status.WriteFault → Rose (W.faults sink.old) (W.faults sink.new) }
-    ensures untouched { IsQuiet result → sink.new ≡ sink.old }
-    ensures whole { (Rose (W.faults sink.old) (W.faults sink.new) → ⊥) → result ≡ Status.Done }
-{
-    match write_all(sink, text) {
-        Ok(()) => Status::Done,
-        Err(_) => Status::WriteFault,
-    }
-}
-
 /// Reads a script, of the kind for one thread, or else of that for threads, and writes its warnings, a line for each, or
 /// `no warnings`. The source is read to its end, or past the greatest number of bytes, 16,777,216, and the whole text is made before
 /// its first byte is written.
@@ -98,7 +84,7 @@ pub fn run_lint<R: Source, W: Sink>(alloc: Global, source: &mut R, sink: &mut W)
         → IfSome (R.left source.old) (λ bytes. LintIsWhole bytes result.status) }
 {
     match lint_source(alloc, source) {
-        Ok(text) => plain(write_text(text.as_str().as_bytes(), sink)),
+        Ok(text) => plain(write_output(text.as_str().as_bytes(), None, sink)),
         Err(outcome) => outcome,
     }
 }

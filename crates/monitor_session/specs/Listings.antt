@@ -4,7 +4,7 @@ use Rattle.std.specs.List.{flat_map}
 use Rattle.drmaa_types.specs.declared.infos.JobInfo.{JobInfo}
 use Rattle.text_codec.specs.Formats.{spell_or}
 use Rattle.text_codec.specs.Lexical.{quoted}
-use Rattle.text_words.specs.Words.{state_text}
+use Rattle.drmaa_types.specs.Said.{state_name}
 
 -- the spaces that fill a word up to so many places; none where it has more
 abbrev pub spaces : ℕ → List ℕ → List ℕ
@@ -30,7 +30,7 @@ header = line (codes "job") (codes "state") (codes "slots") (codes "name")
 
 -- the line of a job; what has no value is `-`
 abbrev pub row : JobInfo → List ℕ
-row info = line (decimal info.job.0) (state_text info.state) (spell_or (codes "-") decimal info.slots) (spell_or (codes "-") quoted info.name)
+row info = line (decimal info.job.0) (state_name info.state) (spell_or (codes "-") decimal info.slots) (spell_or (codes "-") quoted info.name)
 
 -- a header and the line of each job, in order
 abbrev pub listing_text : List JobInfo → List ℕ

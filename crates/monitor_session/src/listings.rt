@@ -10,7 +10,6 @@ use drmaa_types::{InfoList, JobInfo, Refusal, Text};
 use itoa::Buffer;
 use std::alloc::{AllocError, Global};
 use text_codec::Print;
-use text_words::spell_state;
 
 /// How many places the columns have.
 const JOB_PLACES: usize = 10;
@@ -88,7 +87,7 @@ fn push_row(alloc: Global, out: &mut String, info: &JobInfo) -> Result<(), Alloc
     push_line(
         out,
         job.format(info.job.0),
-        spell_state(info.state),
+        info.state.name(),
         slots_word(&mut slots, info.slots),
         name.as_str(),
     )

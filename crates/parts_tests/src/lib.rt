@@ -9,8 +9,6 @@ mod hosts;
 #[cfg(test)]
 mod messages;
 #[cfg(test)]
-mod pool;
-#[cfg(test)]
 mod queue;
 #[cfg(test)]
 mod streams;

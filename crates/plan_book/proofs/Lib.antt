@@ -2,7 +2,9 @@ pub mod AlarmLaws
 pub mod ArrivalLaws
 pub mod FirstOrder
 pub mod Flat
+pub mod MeantLaws
 pub mod MoveLaws
+pub mod OpenLaws
 pub mod PassLaws
 pub mod QuietLaws
 pub mod RoomLaws

@@ -1,8 +1,8 @@
 -- What a search by halves finds in a list that is in order of number.
-use Rattle.std.proofs.Common.{◌≡◌, ◌≢◌, ℕ, zero, suc, ◌<◌, ◌≤◌, Bool, true, false, cond, eqb, List, [], ◌∷◌, length, get_or, set, map, filter, find, Option, Some, None, Result, Ok, Err, IfOk, IfErr, refl, sym, ◌∙◌, ap, arith}
+use Rattle.std.proofs.Common.{◌≡◌, ◌≢◌, ℕ, zero, suc, ◌<◌, ◌≤◌, Bool, true, false, cond, not, ◌&&◌, eqb, List, [], ◌∷◌, length, take, drop, get_or, set, map, filter, find, Option, Some, None, Result, Ok, Err, IfOk, IfErr, refl, sym, ◌∙◌, ap, arith}
 use Rattle.std.specs.Prelude.{is_some}
 use Rattle.std.specs.Option.{option_map_or}
-use Rattle.std.specs.List.{AllByRecursion}
+use Rattle.std.specs.List.{AllByRecursion, remove}
 use Rattle.std.specs.List.Sorted.{IsSearchInRange, IsBinarySearchResult, IsNonDecreasingBy}
 use Rattle.std.specs.Ordering.{nat_cmp, ordering_index}
 use Rattle.std.proofs.lemmas.Bool.{eqb-true, eq-eqb, ne_eqb}
@@ -94,6 +94,71 @@ module _ {X : Type 0} (number : X → ℕ) where
         | true ↦ λ e. absurd (cc)
         | false ↦ λ e. ap (λ ys. x ∷ ys) (map-absent n f xs e)
       ]) none
+
+  -- ---- the others
+
+  -- all but the element at the place have other numbers
+  pub others-before : (n : ℕ) (xs : List X) (i : ℕ) → IsRising number xs → IsAt number n xs i → AllByRecursion (λ x. eqb (number x) n ≡ false) (take i xs)
+  others-before n [] i rising at = absurd (omega (arith, at.within))
+  others-before n (x ∷ xs) zero rising at = tt
+  others-before n (x ∷ xs) (suc i) rising at =
+      (let less = below n x xs i rising at in
+      (ne_eqb (number x) n (λ e. omega (arith, less, e)), others-before n xs i rising.1 (at-tail n x xs i at)))
+
+  pub others-behind : (n : ℕ) (xs : List X) (i : ℕ) → IsRising number xs → IsAt number n xs i → AllByRecursion (λ x. eqb (number x) n ≡ false) (drop (suc i) xs)
+  others-behind n [] i rising at = tt
+  others-behind n (x ∷ xs) zero rising at =
+      all-implied (λ y. number x < number y) (λ y. eqb (number y) n ≡ false) (λ y less. (let is = at.there x in ne_eqb (number y) n (λ e. omega (arith, less, is, e)))) xs rising.0
+  others-behind n (x ∷ xs) (suc i) rising at = others-behind n xs i rising.1 (at-tail n x xs i at)
+
+  pub others-all : (n : ℕ) (xs : List X) → find (λ x. eqb (number x) n) xs ≡ None → AllByRecursion (λ x. eqb (number x) n ≡ false) xs
+  others-all n [] none = tt
+  others-all n (x ∷ xs) none =
+      (elim (eqb (number x) n) as (λ b. eqb (number x) n ≡ b → cond b (Some x) (find (λ y. eqb (number y) n) xs) ≡ None → (eqb (number x) n ≡ false) × AllByRecursion (λ y. eqb (number y) n ≡ false) xs) [
+        | true ↦ λ e some. absurd (cc)
+        | false ↦ λ e rest. (e, others-all n xs rest)
+      ]) refl none
+
+  -- ---- removing at the place
+
+  -- others stay
+  pub filter-others : (n : ℕ) (test : X → Bool) (xs : List X) → AllByRecursion (λ x. eqb (number x) n ≡ false) xs → filter (λ x. not (eqb (number x) n && test x)) xs ≡ xs
+  filter-others n test [] all = refl
+  filter-others n test (x ∷ xs) all =
+      ap (λ b. cond (not (b && test x)) (x ∷ filter (λ y. not (eqb (number y) n && test y)) xs) (filter (λ y. not (eqb (number y) n && test y)) xs)) all.0
+      ∙ ap (λ ys. x ∷ ys) (filter-others n test xs all.1)
+
+  pub removed-at : (n : ℕ) (test : X → Bool) (xs : List X) (i : ℕ) (d : X) → IsRising number xs → IsAt number n xs i → test (get_or xs i d) ≡ true → remove xs i ≡ filter (λ x. not (eqb (number x) n && test x)) xs
+  removed-at n test [] i d rising at leaves = absurd (omega (arith, at.within))
+  removed-at n test (x ∷ xs) zero d rising at leaves =
+      (let stays : X → Bool = λ y. not (eqb (number y) n && test y) in
+      sym (ap (λ b. cond (not (b && test x)) (x ∷ filter stays xs) (filter stays xs)) (eq-eqb (number x) n (at.there x))
+      ∙ ap (λ b. cond (not b) (x ∷ filter stays xs) (filter stays xs)) leaves
+      ∙ filter-others n test xs (others-behind n (x ∷ xs) zero rising at)))
+  removed-at n test (x ∷ xs) (suc i) d rising at leaves =
+      (let stays : X → Bool = λ y. not (eqb (number y) n && test y) in
+      let less = below n x xs i rising at in
+      ap (λ ys. x ∷ ys) (removed-at n test xs i d rising.1 (at-tail n x xs i at) leaves)
+      ∙ sym (ap (λ b. cond (not (b && test x)) (x ∷ filter stays xs) (filter stays xs)) (ne_eqb (number x) n (λ e. omega (arith, less, e)))))
+
+  pub stays-at : (n : ℕ) (test : X → Bool) (xs : List X) (i : ℕ) (d : X) → IsRising number xs → IsAt number n xs i → test (get_or xs i d) ≡ false → xs ≡ filter (λ x. not (eqb (number x) n && test x)) xs
+  stays-at n test [] i d rising at stays = refl
+  stays-at n test (x ∷ xs) zero d rising at stays =
+      (let keeps : X → Bool = λ y. not (eqb (number y) n && test y) in
+      sym (ap (λ b. cond (not (b && test x)) (x ∷ filter keeps xs) (filter keeps xs)) (eq-eqb (number x) n (at.there x))
+      ∙ ap (λ b. cond (not b) (x ∷ filter keeps xs) (filter keeps xs)) stays
+      ∙ ap (λ ys. x ∷ ys) (filter-others n test xs (others-behind n (x ∷ xs) zero rising at))))
+  stays-at n test (x ∷ xs) (suc i) d rising at stays =
+      (let keeps : X → Bool = λ y. not (eqb (number y) n && test y) in
+      let less = below n x xs i rising at in
+      ap (λ ys. x ∷ ys) (stays-at n test xs i d rising.1 (at-tail n x xs i at) stays)
+      ∙ sym (ap (λ b. cond (not (b && test x)) (x ∷ filter keeps xs) (filter keeps xs)) (ne_eqb (number x) n (λ e. omega (arith, less, e)))))
+
+  pub all-removed : (P : X → Type 0) (xs : List X) (i : ℕ) → AllByRecursion P xs → AllByRecursion P (remove xs i)
+  all-removed P [] zero all = tt
+  all-removed P [] (suc i) all = tt
+  all-removed P (x ∷ xs) zero all = all.1
+  all-removed P (x ∷ xs) (suc i) all = (all.0, all-removed P xs i all.1)
 
   -- ---- what is found among those that pass a test
 

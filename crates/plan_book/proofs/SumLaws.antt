@@ -1,7 +1,7 @@
 -- What rows come to as rows come in and go on.
-use Rattle.std.proofs.Common.{◌≡◌, ℕ, suc, ◌+◌, ◌*◌, ◌<◌, ◌≤◌, ◌^◌, ◌&&◌, Bool, true, false, cond, List, [], ◌∷◌, ◌++◌, map, length, sum_by, Some, sym, ◌∙◌, ap, subst, arith}
-use Rattle.std.specs.List.{AllByRecursion}
-use Rattle.std.proofs.lemmas.List.Sums.{sum_by-cons, sum_by-append, sum_by_push}
+use Rattle.std.proofs.Common.{◌≡◌, ℕ, suc, ◌+◌, ◌*◌, ◌<◌, ◌≤◌, ◌^◌, ◌&&◌, Bool, true, false, cond, List, [], ◌∷◌, ◌++◌, map, length, get_or, sum_by, Some, sym, ◌∙◌, ap, subst, arith}
+use Rattle.std.specs.List.{AllByRecursion, remove}
+use Rattle.std.proofs.lemmas.List.Sums.{sum_by-cons, sum_by-append, sum_by_push, sum_by-remove}
 use Rattle.drmaa_types.specs.States.{is_waiting, is_started}
 use Rattle.drmaa_types.specs.declared.identifiers.JobId.{JobId}
 use Rattle.drmaa_model.specs.declared.courses.Course.{Course}
@@ -14,8 +14,9 @@ use Rattle.drmaa_model.specs.Rows.{row_of, with_course}
 use Rattle.drmaa_model.specs.RowLaws.{all-implied, all-push, all_with_course, sum_with_course, sum-found}
 use Rattle.drmaa_model.specs.Size.{phase_room, room_of}
 use Rattle.plan_book.specs.declared.sums.Sums.{Sums}
-use Rattle.plan_book.specs.Owed.{owes, may_ask}
+use Rattle.plan_book.specs.Owed.{owes, may_ask, reports_due}
 use Rattle.plan_book.specs.Sums.{AreSums, AreFew, AreParts, with_job, with_others, without_job}
+use Rattle.plan_book.proofs.Searched.{all-removed}
 
 -- ---- the sums of few rows are small
 
@@ -41,6 +42,11 @@ owes-most true starts = omega arith
 owes-most false true = omega arith
 owes-most false false = omega arith
 
+due-most : (phase : Phase) → reports_due phase ≤ 2
+due-most Idle = omega arith
+due-most Launching = omega arith
+due-most Alive = omega arith
+
 asks-most : (asks : Bool) → cond {A = ℕ} asks 1 0 ≤ 1
 asks-most true = omega arith
 asks-most false = omega arith
@@ -51,11 +57,13 @@ sums-few rows sums few are =
     let changes = sum-most (λ (row : Row). owes row.course) 2 rows (all-are (λ row. owes row.course ≤ 2) (λ row. owes-most (is_waiting row.course.state) (is_started row.course.state)) rows) in
     let orders = sum-most (λ (row : Row). may_ask row.course) 1 rows (all-are (λ row. may_ask row.course ≤ 1) (λ row. asks-most (is_started row.course.state && is_unasked row.course.kill)) rows) in
     let slots = sum-most (λ (row : Row). row.course.held) 4294967296 rows (all-implied (λ row. row.course.held < 2 ^ 32) (λ row. row.course.held ≤ 4294967296) (λ row less. omega (arith, less)) rows are.small) in
+    let reports = sum-most (λ (row : Row). reports_due row.course.phase) 2 rows (all-are (λ row. reports_due row.course.phase ≤ 2) (λ row. due-most row.course.phase) rows) in
     record {
       promised = omega (arith, few, room, are.promised);
       owed = omega (arith, few, changes, are.owed);
       askable = omega (arith, few, orders, are.askable);
       held = omega (arith, few, slots, are.held);
+      reports = omega (arith, few, reports, are.reports);
     }
 
 -- ---- rows come in
@@ -66,6 +74,7 @@ sums-push rows row sums small are = record {
   owed = ap (λ n. n + owes row.course) are.owed ∙ sym (sum_by_push (λ (r : Row). owes r.course) rows row);
   askable = ap (λ n. n + may_ask row.course) are.askable ∙ sym (sum_by_push (λ (r : Row). may_ask r.course) rows row);
   held = ap (λ n. n + row.course.held) are.held ∙ sym (sum_by_push (λ (r : Row). r.course.held) rows row);
+  reports = ap (λ n. n + reports_due row.course.phase) are.reports ∙ sym (sum_by_push (λ (r : Row). reports_due r.course.phase) rows row);
   small = all-push (λ r. r.course.held < 2 ^ 32) rows row are.small small;
 }
 
@@ -79,6 +88,7 @@ sums-append rows more sums added are others = record {
   owed = omega (arith, are.owed, others.owed, sum_by-append (λ (r : Row). owes r.course) rows more);
   askable = omega (arith, are.askable, others.askable, sum_by-append (λ (r : Row). may_ask r.course) rows more);
   held = omega (arith, are.held, others.held, sum_by-append (λ (r : Row). r.course.held) rows more);
+  reports = omega (arith, are.reports, others.reports, sum_by-append (λ (r : Row). reports_due r.course.phase) rows more);
   small = all-append (λ r. r.course.held < 2 ^ 32) rows more are.small others.small;
 }
 
@@ -97,6 +107,7 @@ module _ (job : JobId) (course : Course) (rows : List Row) (row : Row) (sums : S
     owed = omega (arith, part owes, are.owed);
     askable = omega (arith, part may_ask, are.askable);
     held = omega (arith, part (λ c. c.held), are.held);
+    reports = omega (arith, part (λ c. reports_due c.phase), are.reports);
   }
 
   pub sums-change : course.held < 2 ^ 32 → AreSums (map (with_course job course) rows) (with_job (without_job row.course sums) course)
@@ -105,5 +116,34 @@ module _ (job : JobId) (course : Course) (rows : List Row) (row : Row) (sums : S
     owed = omega (arith, part owes, sum-then owes, are.owed);
     askable = omega (arith, part may_ask, sum-then may_ask, are.askable);
     held = omega (arith, part (λ c. c.held), sum-then (λ c. c.held), are.held);
+    reports = omega (arith, part (λ c. reports_due c.phase), sum-then (λ c. reports_due c.phase), are.reports);
     small = all_with_course job course (λ r. r.course.held < 2 ^ 32) rows row rising found are.small small;
   }
+
+-- ---- one job is forgotten
+
+module _ (rows : List Row) (place : ℕ) (row : Row) (sums : Sums) (within : place < length rows) (is : row ≡ get_or rows place row) (are : AreSums rows sums) where
+  sum-without : (f : Course → ℕ) → sum_by (λ (r : Row). f r.course) (remove rows place) + f row.course ≡ sum_by (λ (r : Row). f r.course) rows
+  sum-without f = omega (arith, sum_by-remove (λ (r : Row). f r.course) rows place row within, ap (λ (r : Row). f r.course) is)
+
+  pub removed-parts : AreParts row.course sums
+  removed-parts = record {
+    promised = omega (arith, sum-without room_of, are.promised);
+    owed = omega (arith, sum-without owes, are.owed);
+    askable = omega (arith, sum-without may_ask, are.askable);
+    held = omega (arith, sum-without (λ c. c.held), are.held);
+    reports = omega (arith, sum-without (λ c. reports_due c.phase), are.reports);
+  }
+
+  without : AreSums (remove rows place) (without_job row.course sums)
+  without = record {
+    promised = omega (arith, sum-without room_of, are.promised);
+    owed = omega (arith, sum-without owes, are.owed);
+    askable = omega (arith, sum-without may_ask, are.askable);
+    held = omega (arith, sum-without (λ c. c.held), are.held);
+    reports = omega (arith, sum-without (λ c. reports_due c.phase), are.reports);
+    small = all-removed number_of (λ r. r.course.held < 2 ^ 32) rows place are.small;
+  }
+
+  pub sums-removed : (left : List Row) (sums' : Sums) → left ≡ remove rows place → sums' ≡ without_job row.course sums → AreSums left sums'
+  sums-removed left sums' gone less = subst (λ (rs : List Row). AreSums rs sums') (sym gone) (subst (λ (s : Sums). AreSums (remove rows place) s) (sym less) without)

@@ -82,7 +82,7 @@ moves Release Failed t quiet e = absurd (cc)
 moves Terminate s t quiet e = absurd (quiet refl)
 
 -- a job that permits a call waits or is started
-lives : (what : Control) (s t : JobState) → after_control s what ≡ Some t → is_waiting s ≡ false → is_started s ≡ false → ⊥
+pub lives : (what : Control) (s t : JobState) → after_control s what ≡ Some t → is_waiting s ≡ false → is_started s ≡ false → ⊥
 lives Suspend Undetermined t e idle stopped = cc
 lives Suspend Queued t e idle stopped = cc
 lives Suspend QueuedHeld t e idle stopped = cc

@@ -1,7 +1,9 @@
 -- The text of the templates of rows as rows go on and leave.
-use Rattle.std.proofs.Common.{◌≡◌, ℕ, ◌+◌, ◌-◌, ◌≤◌, Bool, true, false, cond, not, List, map, filter, drop, length, Option, Some, refl, sym, ap, subst, arith}
+use Rattle.std.proofs.Common.{◌≡◌, ℕ, ◌+◌, ◌-◌, ◌<◌, ◌≤◌, Bool, true, false, cond, not, List, map, filter, drop, length, get_or, Option, Some, refl, sym, ap, subst, arith}
+use Rattle.std.specs.List.{remove}
 use Rattle.std.proofs.Math.ListN.{drop_of_length-le}
 use Rattle.std.proofs.lemmas.List.Filters.{sum_by-filter_both}
+use Rattle.std.proofs.lemmas.List.Sums.{sum_by-remove}
 use Rattle.job_template.specs.Texts.{text_length}
 use Rattle.drmaa_types.specs.declared.identifiers.JobId.{JobId}
 use Rattle.drmaa_types.specs.declared.states.Control.{Control}
@@ -45,6 +47,13 @@ text-step moment t what rows = text-map (control_step moment t what) (step-templ
 -- what leaves and what stays
 pub text-both : (leaves : Row → Bool) (rows : List Row) → kept_text (filter leaves rows) + kept_text (filter (λ row. not (leaves row)) rows) ≡ kept_text rows
 text-both leaves rows = sum_by-filter_both leaves (λ row. not (leaves row)) (λ row. refl) (λ (row : Row). text_length row.template) rows
+
+-- one leaves
+pub room-removed : (rows left : List Row) (place : ℕ) (row : Row) (room : Option ℕ) → place < length rows → row ≡ get_or rows place row → left ≡ remove rows place → IsRoomBeside (kept_text rows) room
+    → IsRoomBeside (kept_text left + text_length row.template) room
+room-removed rows left place row room within is gone beside =
+    same-room (kept_text rows) (kept_text left + text_length row.template) room
+    (omega (arith, ap kept_text gone, sum_by-remove (λ (r : Row). text_length r.template) rows place row within, ap (λ (r : Row). text_length r.template) is)) beside
 
 -- the room after all rows
 pub room-stays : (leaves : Row → Bool) (rows seen : List Row) (i text : ℕ) → seen ≡ rows → length seen ≤ i → text + kept_text (filter leaves seen) ≡ kept_text seen + kept_text (filter leaves (drop i seen))

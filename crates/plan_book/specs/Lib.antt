@@ -1,7 +1,9 @@
 pub mod Book
 pub mod FactLaws
 pub mod Facts
+pub mod Meant
 pub mod MeetLaws
+pub mod Open
 pub mod Owed
 pub mod Passes
 pub mod Places

@@ -2,6 +2,8 @@
 use Rattle.std.specs.Prelude.{ℕ, ◌&&◌, List, sum_by, if◌then◌else◌}
 use Rattle.drmaa_types.specs.States.{is_waiting, is_started}
 use Rattle.drmaa_model.specs.declared.courses.Course.{Course}
+use Rattle.drmaa_model.specs.declared.courses.Phase.{Phase}
+use Rattle.drmaa_model.specs.declared.courses.Phase.TheVariants.{Idle, Launching, Alive}
 use Rattle.drmaa_model.specs.declared.rows.Row.{Row}
 use Rattle.drmaa_model.specs.Courses.{is_unasked}
 
@@ -18,3 +20,12 @@ owed rows = sum_by (λ (row : Row). owes row.course) rows
 
 abbrev pub askable : List Row → ℕ
 askable rows = sum_by (λ (row : Row). may_ask row.course) rows
+
+-- the reports of a start and an end that the process of a job in this phase may still bring
+abbrev pub reports_due : Phase → ℕ
+reports_due Idle = 0
+reports_due Launching = 2
+reports_due Alive = 1
+
+abbrev pub reports_to_come : List Row → ℕ
+reports_to_come rows = sum_by (λ (row : Row). reports_due row.course.phase) rows

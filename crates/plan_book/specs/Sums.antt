@@ -1,12 +1,13 @@
 -- What rows come to, as it is kept beside them: our profile.
-use Rattle.std.specs.Prelude.{◌≡◌, ℕ, ◌+◌, ◌-◌, ◌<◌, ◌≤◌, ◌^◌, List, Option}
+use Rattle.std.specs.Prelude.{◌≡◌, ℕ, ◌+◌, ◌-◌, ◌<◌, ◌≤◌, ◌^◌, ℤ, List, Option}
 use Rattle.std.specs.List.{AllByRecursion}
 use Rattle.drmaa_model.specs.declared.courses.Course.{Course}
 use Rattle.drmaa_model.specs.declared.rows.Row.{Row}
 use Rattle.drmaa_model.specs.Order.{held}
 use Rattle.drmaa_model.specs.Size.{room_of, promised}
 use Rattle.drmaa_model.specs.Submitting.{kept_text}
-use Rattle.plan_book.specs.Owed.{owes, may_ask, owed, askable}
+use Rattle.plan_book.specs.Open.{AreOver, IsGreatest}
+use Rattle.plan_book.specs.Owed.{owes, may_ask, reports_due, owed, askable, reports_to_come}
 use Rattle.plan_book.specs.Texts.{IsRoomBeside}
 use Rattle.plan_book.specs.declared.sums.Sums.{Sums}
 
@@ -16,13 +17,16 @@ pub record AreSums (rows : List Row) (sums : Sums) : Type 0 where
   pub owed : sums.owed ≡ owed rows
   pub askable : sums.askable ≡ askable rows
   pub held : sums.held ≡ held rows
+  pub reports : sums.reports ≡ reports_to_come rows
   -- so that the sum of what they hold is small too
   pub small : AllByRecursion (λ (row : Row). row.course.held < 2 ^ 32) rows
 
 -- what is kept beside the rows is theirs
-pub record AreKept (rows : List Row) (sums : Sums) (room : Option ℕ) : Type 0 where
+pub record AreKept (rows : List Row) (sums : Sums) (room : Option ℕ) (front : ℕ) (most : ℤ) : Type 0 where
   pub totals : AreSums rows sums
   pub text : IsRoomBeside (kept_text rows) room
+  pub over : AreOver front rows
+  pub greatest : IsGreatest rows most
 
 -- the sums leave room for others
 pub record AreFew (sums : Sums) : Type 0 where
@@ -30,6 +34,7 @@ pub record AreFew (sums : Sums) : Type 0 where
   pub owed : sums.owed < 2 ^ 127
   pub askable : sums.askable < 2 ^ 127
   pub held : sums.held < 2 ^ 127
+  pub reports : sums.reports < 2 ^ 127
 
 -- what a job with this course adds is among them
 pub record AreParts (course : Course) (sums : Sums) : Type 0 where
@@ -37,6 +42,7 @@ pub record AreParts (course : Course) (sums : Sums) : Type 0 where
   pub owed : owes course ≤ sums.owed
   pub askable : may_ask course ≤ sums.askable
   pub held : course.held ≤ sums.held
+  pub reports : reports_due course.phase ≤ sums.reports
 
 -- with one job more
 abbrev pub with_job : Sums → Course → Sums
@@ -45,6 +51,7 @@ with_job sums course = record {
   owed = sums.owed + owes course;
   askable = sums.askable + may_ask course;
   held = sums.held + course.held;
+  reports = sums.reports + reports_due course.phase;
 }
 
 -- with other jobs
@@ -54,6 +61,7 @@ with_others sums others = record {
   owed = sums.owed + others.owed;
   askable = sums.askable + others.askable;
   held = sums.held + others.held;
+  reports = sums.reports + others.reports;
 }
 
 -- without a job that has this course
@@ -63,4 +71,5 @@ without_job course sums = record {
   owed = sums.owed - owes course;
   askable = sums.askable - may_ask course;
   held = sums.held - course.held;
+  reports = sums.reports - reports_due course.phase;
 }

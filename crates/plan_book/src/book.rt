@@ -1,5 +1,5 @@
 //! The plan as it is kept, and what is read of it.
-ghost use Rattle.std.specs.Prelude.{◌≡◌, ◌-◌, ◌≤◌, true, length, max, filter, SomeIff, OnOk, IfErr};
+ghost use Rattle.std.specs.Prelude.{◌≡◌, ◌-◌, ◌<◌, ◌≤◌, ◌^◌, true, length, max, filter, SomeIff, OnOk, IfErr};
 ghost use Rattle.std.specs.List.{AllByRecursion};
 ghost use Rattle.std.specs.Option.{option_copied, option_map};
 ghost use Rattle.drmaa_types.specs.Queues.{most_queues};
@@ -13,6 +13,8 @@ ghost use Rattle.drmaa_model.specs.Time.{advance_plan, is_accepted, rows_at, las
 ghost use Rattle.drmaa_model.specs.Load.{reservation_of};
 ghost use Rattle.plan_book.specs.Book.{plan_of, calendar_of, IsKept, spare, course_then};
 ghost use Rattle.plan_book.specs.Facts.{facts_of};
+ghost use Rattle.plan_book.specs.Open.{AreOpen, IsGreatest};
+ghost use Rattle.plan_book.specs.Owed.{reports_to_come};
 ghost use Rattle.plan_book.specs.Places.{AreInOrder};
 
 use crate::kept::Rows;
@@ -169,6 +171,20 @@ impl Book {
         self.rows.list()
     }
 
+    /// The kept jobs from the first on that is not over, in order of number. Before it none waits or is started.
+    pub fn open_rows(&self) -> &[Row]
+        ensures { AreOpen (plan_of self.now).rows result.now }
+    {
+        self.rows.open_rows()
+    }
+
+    /// A priority that no kept job's passes.
+    pub fn greatest_priority(&self) -> i32
+        ensures { IsGreatest (plan_of self.now).rows result }
+    {
+        self.rows.greatest_priority()
+    }
+
     /// The slots that all jobs hold.
     pub fn held(&self) -> u32
         requires kept { IsKept self.now }
@@ -176,6 +192,14 @@ impl Book {
     {
         let _total = self.total(); // which is not less
         self.rows.held()
+    }
+
+    /// The reports of starts and ends that the processes of all jobs may still bring.
+    pub fn reports_to_come(&self) -> u64
+        requires few { reports_to_come (plan_of self.now).rows < 2 ^ 64 }
+        ensures { result ≡ reports_to_come (plan_of self.now).rows }
+    {
+        self.rows.reports_to_come()
     }
 
     /// The room that the text of the templates of all kept jobs leaves of the most that they may have. None exactly where it passes

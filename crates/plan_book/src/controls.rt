@@ -12,6 +12,7 @@ ghost use Rattle.plan_book.specs.Sweeps.{acted, growth, asking, is_asking};
 
 use crate::book::Book;
 use crate::sweeps::{ask_controls, is_controlled, note_controls};
+use crate::targets::meant_rows;
 use crate::time::course_at;
 use drmaa_model::{Accepted, Row, Target};
 use drmaa_types::{Control, Limit, Moment, Refusal};
@@ -69,7 +70,7 @@ impl Book {
     {
         acted_then(
             &self.reservations,
-            self.rows.list(),
+            meant_rows(self.rows.list(), *target),
             self.moment_at(at),
             target,
             what,
@@ -107,14 +108,19 @@ impl Book {
         ensures quiet { IsQuiet self.old.alarm (plan_of self.old) → IsQuiet self.new.alarm (plan_of self.new) }
     {
         note_controls(
-            self.rows.list(),
+            meant_rows(self.rows.list(), *target),
             &mut self.changes,
             self.moment,
             entry,
             target,
             what,
         );
-        ask_controls(self.rows.list(), &mut self.orders, target, what);
+        ask_controls(
+            meant_rows(self.rows.list(), *target),
+            &mut self.orders,
+            target,
+            what,
+        );
         self.rows.control_rows(self.moment, target, what);
     }
 }
@@ -139,16 +145,16 @@ fn asking(what: Control, n: usize) -> usize
     }
 }
 
-/// On how many jobs the call will act, once time has come to this moment.
+/// On how many of these jobs the call will act, once time has come to this moment.
 fn acted_then(
     rs: &Vec<Accepted>,
-    rows: &Vec<Row>,
+    rows: &[Row],
     moment: Moment,
     target: &Target,
     what: Control,
 ) -> usize
     requires order { AreInOrder rs.now.items }
-    ensures { result ≡ length (filter (λ row. is_controlled target.now what (timed moment (filter (lasts moment) rs.now.items) row)) rows.now.items) }
+    ensures { result ≡ length (filter (λ row. is_controlled target.now what (timed moment (filter (lasts moment) rs.now.items) row)) rows.now) }
 {
     let mut acted = 0;
     for row in rows {

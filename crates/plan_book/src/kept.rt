@@ -1,8 +1,10 @@
-//! The rows of a book with what they come to. Where one job goes on or jobs come in, that is kept up; else it is added up anew. The
-//! room that the text of their templates leaves is kept up always.
+//! The rows of a book with what they come to. Where one job goes on or is forgotten or jobs come in, that is kept up; else it is added
+//! up anew. The room that the text of their templates leaves is kept up always, and so are how many at the front are over, and the
+//! greatest priority, but where several jobs are forgotten.
 ghost use Rattle.std.specs.Prelude.{◌≡◌, ◌+◌, ◌≤◌, ◌^◌, ◌<◌, [], ◌++◌, ◌&&◌, not, map, filter, length, vec_len, vec_capacity, OnOk};
-ghost use Rattle.std.specs.List.{AllByRecursion, flat_map};
+ghost use Rattle.std.specs.List.{AllByRecursion, flat_map, remove};
 ghost use Rattle.std.specs.Option.{option_copied};
+ghost use Rattle.drmaa_model.specs.declared.calls.Target.{Target};
 ghost use Rattle.drmaa_model.specs.declared.rows.Row.{Row};
 ghost use Rattle.drmaa_model.specs.Controlling.{control_step, is_done};
 ghost use Rattle.drmaa_model.specs.Effects.{left_by, is_forgotten};
@@ -13,14 +15,20 @@ ghost use Rattle.drmaa_model.specs.Size.{promised};
 ghost use Rattle.drmaa_model.specs.Submitting.{kept_text};
 ghost use Rattle.drmaa_model.specs.Targets.{is_meant};
 ghost use Rattle.drmaa_model.specs.TimeLaws.{timed};
-ghost use Rattle.plan_book.specs.Book.{owed, askable};
+ghost use Rattle.plan_book.specs.Open.{AreOpen, IsGreatest};
+ghost use Rattle.plan_book.specs.Owed.{owed, askable, reports_to_come};
 ghost use Rattle.plan_book.specs.Passes.{ends, kills_then};
 ghost use Rattle.plan_book.specs.Places.{AreInOrder};
 ghost use Rattle.plan_book.specs.Quiet.{IsLeftUntil};
 ghost use Rattle.plan_book.specs.Texts.{IsRoomBeside};
 
-use crate::sums::{Sums, going_on, sums_of, with_others};
-use crate::texts::{room_beside, room_with, room_without_done, room_without_forgotten, whole_room};
+use crate::open_jobs::{greatest_under, greatest_with, greatest_without, over_from, over_without};
+use crate::sums::{Sums, going_on, sums_of, with_others, without_job};
+use crate::sweeps::controlled_course;
+use crate::targets::is_done;
+use crate::texts::{
+    room_beside, room_with, room_without_done, room_without_forgotten, room_without_job, whole_room,
+};
 use crate::{arrivals, homes, passes, rows, sweeps};
 use drmaa_model::{Accepted, Course, Order, Row, Target};
 use drmaa_types::{Change, Control, End, JobId, Moment};
@@ -33,6 +41,10 @@ pub struct Rows {
     sums: Sums,
     /// The room that the text of their templates leaves of the most that all kept jobs may have. None where it passes that.
     room: Option<usize>,
+    /// So many jobs at the front are over.
+    over: usize,
+    /// No job's priority passes it.
+    greatest: i32,
 }
 
 impl Drop for Rows {
@@ -41,6 +53,8 @@ impl Drop for Rows {
             list: _,
             sums: _,
             room: _,
+            over: _,
+            greatest: _,
         } = self;
     }
 }
@@ -54,7 +68,7 @@ impl Model for Rows {
 
     ghost view = { λ r. r.list };
 
-    ghost invariant = { λ r. AreKept r.list.items r.sums r.room };
+    ghost invariant = { λ r. AreKept r.list.items r.sums r.room r.over r.greatest };
 }
 
 impl Rows {
@@ -68,6 +82,8 @@ impl Rows {
             list,
             sums,
             room: whole_room(),
+            over: 0,
+            greatest: i32::MIN,
         }
     }
 
@@ -76,6 +92,20 @@ impl Rows {
         ensures { result.now ≡ self.now }
     {
         &self.list
+    }
+
+    /// The rows from the first on that is not over. Before it none waits or is started.
+    pub fn open_rows(&self) -> &[Row]
+        ensures { AreOpen self.now.items result.now }
+    {
+        &self.list[self.over..]
+    }
+
+    /// A priority that no job's passes.
+    pub fn greatest_priority(&self) -> i32
+        ensures { IsGreatest self.now.items result }
+    {
+        self.greatest
     }
 
     /// The row of this job, if it is kept.
@@ -108,6 +138,14 @@ impl Rows {
         ensures { result ≡ askable self.now.items }
     {
         self.sums.askable as usize
+    }
+
+    /// The reports of starts and ends that the processes of all jobs may still bring.
+    pub fn reports_to_come(&self) -> u64
+        requires { reports_to_come self.now.items < 2 ^ 64 }
+        ensures { result ≡ reports_to_come self.now.items }
+    {
+        self.sums.reports as u64
     }
 
     /// The slots that all jobs hold.
@@ -145,6 +183,7 @@ impl Rows {
     {
         self.sums = with_others(&self.sums, &sums_of(&more));
         self.room = room_with(self.room, &more);
+        self.greatest = greatest_with(self.greatest, &more);
         arrivals::append_rows(&mut self.list, more);
     }
 
@@ -157,6 +196,7 @@ impl Rows {
             Ok(place) => {
                 self.sums = going_on(&self.sums, &self.list[place].course, course);
                 self.list[place].course = *course;
+                self.over = over_from(&self.list, self.over.min(place));
             }
             Err(_) => {}
         }
@@ -187,25 +227,89 @@ impl Rows {
     {
         let swept = passes::sweep_rows(rs, &mut self.list, changes, orders, moment, entry);
         self.sums = swept.sums;
+        self.over = over_from(&self.list, self.over);
         swept.soonest
     }
 
-    /// The jobs on which the call acts go on.
+    /// The jobs on which the call acts go on: one, whose row is found by halves, or the members of an array.
     pub(crate) fn control_rows(&mut self, moment: Moment, target: &Target, what: Control)
+        requires { IsRising number_of self.old.items }
+        ensures { self.new.items ≡ map (control_step moment target.now what) self.old.items }
+    {
+        match target {
+            Target::Job(job) => self.control_job(moment, *job, what),
+            Target::Array(_) => self.control_all(moment, target, what),
+        }
+    }
+
+    fn control_job(&mut self, moment: Moment, job: JobId, what: Control)
+        requires { IsRising number_of self.old.items }
+        ensures { self.new.items ≡ map (control_step moment (Target.Job job) what) self.old.items }
+    {
+        match self.row_of(job) {
+            Some(row) => {
+                let next = controlled_course(row, moment, &Target::Job(job), what);
+                self.put_course(job, &next);
+            }
+            None => {}
+        }
+    }
+
+    fn control_all(&mut self, moment: Moment, target: &Target, what: Control)
         ensures { self.new.items ≡ map (control_step moment target.now what) self.old.items }
     {
         sweeps::control_rows(&mut self.list, moment, target, what);
         self.sums = sums_of(&self.list);
+        self.over = over_from(&self.list, self.over);
     }
 
-    /// Forgets the ended ones of the jobs that are meant.
+    /// Forgets the ended ones of the jobs that are meant: of one, whose row is found by halves, or of the members of an array.
     pub(crate) fn drop_done(&mut self, target: &Target)
+        requires { IsRising number_of self.old.items }
+        ensures { self.new.items ≡ filter (λ (row : Row). not (is_meant target.now row && is_done row)) self.old.items }
+    {
+        match target {
+            Target::Job(job) => self.drop_done_job(*job),
+            Target::Array(_) => self.drop_done_all(target),
+        }
+    }
+
+    fn drop_done_job(&mut self, job: JobId)
+        requires { IsRising number_of self.old.items }
+        ensures { self.new.items ≡ filter (λ (row : Row). not (is_meant (Target.Job job) row && is_done row)) self.old.items }
+    {
+        match rows::place_of(&self.list, job) {
+            Ok(place) => {
+                if is_done(&self.list[place]) {
+                    self.drop_row(place);
+                }
+            }
+            Err(_) => {}
+        }
+    }
+
+    /// Forgets the job at this place.
+    fn drop_row(&mut self, place: usize)
+        requires { place < length self.old.items }
+        ensures { self.new.items ≡ remove self.old.items place }
+    {
+        let row = self.list.remove(place);
+        let known = room_without_job(self.room, &row);
+        self.sums = without_job(&self.sums, &row.course);
+        self.room = room_beside(known, &self.list);
+        self.over = over_without(self.over, place);
+        self.greatest = greatest_without(self.greatest, &row, &self.list);
+    }
+
+    fn drop_done_all(&mut self, target: &Target)
         ensures { self.new.items ≡ filter (λ (row : Row). not (is_meant target.now row && is_done row)) self.old.items }
     {
         let known = room_without_done(self.room, &self.list, target);
         arrivals::drop_done(&mut self.list, target);
         self.sums = sums_of(&self.list);
         self.room = room_beside(known, &self.list);
+        self.over = over_from(&self.list, 0);
+        self.greatest = greatest_under(&self.list, self.greatest);
     }
 
     /// Forgets the ended jobs of a home.
@@ -216,6 +320,8 @@ impl Rows {
         homes::drop_forgotten(&mut self.list, home);
         self.sums = sums_of(&self.list);
         self.room = room_beside(known, &self.list);
+        self.over = over_from(&self.list, 0);
+        self.greatest = greatest_under(&self.list, self.greatest);
     }
 
     /// The jobs of a home are left without one.

@@ -14,6 +14,7 @@ mod homes;
 mod kept;
 mod makes;
 mod moves;
+mod open_jobs;
 mod orders;
 mod passes;
 mod reservations;

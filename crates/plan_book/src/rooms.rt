@@ -1,7 +1,7 @@
 //! The room that is promised to a job: in the journal, and in the memory for what time and its reports will add.
 ghost use Rattle.std.specs.Prelude.{◌≡◌, ◌≤◌};
 ghost use Rattle.drmaa_model.specs.Size.{room_of};
-ghost use Rattle.plan_book.specs.Book.{owes, may_ask};
+ghost use Rattle.plan_book.specs.Owed.{owes, may_ask, reports_due};
 
 use crate::courses::is_unasked;
 use crate::states::{is_started, is_waiting};
@@ -42,4 +42,16 @@ pub fn may_ask(course: &Course) -> usize
         return 0;
     }
     if is_unasked(course.kill) { 1 } else { 0 }
+}
+
+/// The reports of a start and an end that the process of a job may still bring.
+pub fn reports_due(phase: Phase) -> u64
+    ensures value { result ≡ reports_due phase }
+    ensures few { result ≤ 2 }
+{
+    match phase {
+        Phase::Idle => 0,
+        Phase::Launching => 2,
+        Phase::Alive => 1,
+    }
 }

@@ -2,7 +2,7 @@
 ghost use Rattle.std.specs.Prelude.{◌≡◌, ◌<◌, ◌^◌, []};
 ghost use Rattle.plan_book.specs.Sums.{AreSums, AreFew, AreParts, with_job, with_others, without_job};
 
-use crate::rooms::{may_ask, owes, room_of};
+use crate::rooms::{may_ask, owes, reports_due, room_of};
 use drmaa_model::{Course, Row};
 
 /// What all rows come to. The sums have 128 bits, which no number of rows fills.
@@ -16,6 +16,8 @@ pub struct Sums {
     pub askable: u128,
     /// The slots that they hold.
     pub held: u128,
+    /// The reports of starts and ends that their processes may still bring.
+    pub reports: u128,
 }
 
 /// What no jobs come to.
@@ -27,6 +29,7 @@ pub fn no_sums() -> Sums
         owed: 0,
         askable: 0,
         held: 0,
+        reports: 0,
     }
 }
 
@@ -52,6 +55,7 @@ pub fn with_job(sums: &Sums, course: &Course) -> Sums
         owed: sums.owed + owes(course) as u128,
         askable: sums.askable + may_ask(course) as u128,
         held: sums.held + wide(course.held),
+        reports: sums.reports + u128::from(reports_due(course.phase)),
     }
 }
 
@@ -66,6 +70,7 @@ pub fn with_others(sums: &Sums, others: &Sums) -> Sums
         owed: sums.owed + others.owed,
         askable: sums.askable + others.askable,
         held: sums.held + others.held,
+        reports: sums.reports + others.reports,
     }
 }
 
@@ -80,7 +85,7 @@ pub fn going_on(sums: &Sums, before: &Course, course: &Course) -> Sums
 }
 
 /// What they come to without a job that has this course.
-fn without_job(sums: &Sums, course: &Course) -> Sums
+pub fn without_job(sums: &Sums, course: &Course) -> Sums
     requires few { AreFew sums.now }
     requires parts { AreParts course.now sums.now }
     ensures value { result ≡ without_job course.now sums.now }
@@ -91,6 +96,7 @@ fn without_job(sums: &Sums, course: &Course) -> Sums
         owed: sums.owed - owes(course) as u128,
         askable: sums.askable - may_ask(course) as u128,
         held: sums.held - wide(course.held),
+        reports: sums.reports - u128::from(reports_due(course.phase)),
     }
 }
 

@@ -19,7 +19,7 @@ pub fn is_controlled(target: &Target, row: &Row, course: &Course, what: Control)
 }
 
 /// A job's course after the call, which may act on it or not.
-fn controlled_course(row: &Row, moment: Moment, target: &Target, what: Control) -> Course
+pub fn controlled_course(row: &Row, moment: Moment, target: &Target, what: Control) -> Course
     ensures { result ≡ (control_step moment target.now what row.now).course }
 {
     if !is_meant(target, row) {
@@ -57,18 +57,18 @@ fn note_control(
     );
 }
 
-/// Notes the changes of the jobs on which the call acts.
+/// Notes the changes of those of these jobs on which the call acts.
 pub fn note_controls(
-    rows: &Vec<Row>,
+    rows: &[Row],
     changes: &mut Vec<Change>,
     moment: Moment,
     entry: u64,
     target: &Target,
     what: Control,
 )
-    requires { vec_len changes.old + length (flat_map (noted entry moment target.now what) rows.now.items) ≤ vec_capacity changes.old }
-    ensures items { changes.new.items ≡ changes.old.items ++ flat_map (noted entry moment target.now what) rows.now.items }
-    ensures len { vec_len changes.new ≡ vec_len changes.old + length (flat_map (noted entry moment target.now what) rows.now.items) }
+    requires { vec_len changes.old + length (flat_map (noted entry moment target.now what) rows.now) ≤ vec_capacity changes.old }
+    ensures items { changes.new.items ≡ changes.old.items ++ flat_map (noted entry moment target.now what) rows.now }
+    ensures len { vec_len changes.new ≡ vec_len changes.old + length (flat_map (noted entry moment target.now what) rows.now) }
     ensures capacity { vec_capacity changes.new ≡ vec_capacity changes.old }
 {
     for row in rows {
@@ -94,11 +94,11 @@ fn ask_control(row: &Row, orders: &mut Vec<Order>, target: &Target, what: Contro
     }
 }
 
-/// Adds the orders that the call asks for.
-pub fn ask_controls(rows: &Vec<Row>, orders: &mut Vec<Order>, target: &Target, what: Control)
-    requires { vec_len orders.old + length (flat_map (asked_orders target.now what) rows.now.items) ≤ vec_capacity orders.old }
-    ensures items { orders.new.items ≡ orders.old.items ++ flat_map (asked_orders target.now what) rows.now.items }
-    ensures len { vec_len orders.new ≡ vec_len orders.old + length (flat_map (asked_orders target.now what) rows.now.items) }
+/// Adds the orders that the call asks for to these jobs.
+pub fn ask_controls(rows: &[Row], orders: &mut Vec<Order>, target: &Target, what: Control)
+    requires { vec_len orders.old + length (flat_map (asked_orders target.now what) rows.now) ≤ vec_capacity orders.old }
+    ensures items { orders.new.items ≡ orders.old.items ++ flat_map (asked_orders target.now what) rows.now }
+    ensures len { vec_len orders.new ≡ vec_len orders.old + length (flat_map (asked_orders target.now what) rows.now) }
     ensures capacity { vec_capacity orders.new ≡ vec_capacity orders.old }
 {
     for row in rows {

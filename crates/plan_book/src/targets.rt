@@ -1,11 +1,15 @@
 //! The jobs that a call is for: one, or the members of an array.
 ghost use Rattle.std.specs.Prelude.{◌≡◌};
+ghost use Rattle.drmaa_model.specs.declared.calls.Target.{Target};
 ghost use Rattle.drmaa_model.specs.Controlling.{is_done};
+ghost use Rattle.drmaa_model.specs.Fit.{IsRising, number_of};
 ghost use Rattle.drmaa_model.specs.Load.{is_member};
 ghost use Rattle.drmaa_model.specs.Targets.{is_meant};
+ghost use Rattle.plan_book.specs.Meant.{HasAllMeant};
 
+use crate::rows::place_of;
 use drmaa_model::{Row, Target};
-use drmaa_types::ArrayId;
+use drmaa_types::{ArrayId, JobId};
 use job_states::has_terminated;
 
 /// Whether the row is that of the job, or of a member of the array.
@@ -24,6 +28,28 @@ fn is_member(array: ArrayId, row: &Row) -> bool
     match row.wants.array {
         Some(own) => own.0 == array.0,
         None => false,
+    }
+}
+
+/// Rows among which are all that are meant: that of the job alone, which is found by halves, or all rows.
+pub fn meant_rows(rows: &Vec<Row>, target: Target) -> &[Row]
+    requires rising { IsRising number_of rows.now.items }
+    ensures { HasAllMeant target rows.now.items result.now }
+{
+    match target {
+        Target::Job(job) => row_alone(rows, job),
+        Target::Array(_) => &rows[..],
+    }
+}
+
+/// The row of this job alone, or none where the job isn't kept.
+fn row_alone(rows: &Vec<Row>, job: JobId) -> &[Row]
+    requires rising { IsRising number_of rows.now.items }
+    ensures { HasAllMeant (Target.Job job) rows.now.items result.now }
+{
+    match place_of(rows, job) {
+        Ok(place) => &rows[place..place + 1],
+        Err(_) => &rows[..0],
     }
 }
 

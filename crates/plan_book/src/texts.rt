@@ -1,9 +1,10 @@
 //! The room that the text of the templates of the kept jobs leaves of the greatest that they may have. None of it takes memory.
 ghost use Rattle.std.specs.Prelude.{◌+◌, ◌-◌, ◌≤◌, ◌&&◌, ℕ, not, filter, Some, SomeIff, IfSome};
+ghost use Rattle.job_template.specs.Texts.{text_length};
 ghost use Rattle.drmaa_model.specs.declared.rows.Row.{Row};
 ghost use Rattle.drmaa_model.specs.Controlling.{is_done};
 ghost use Rattle.drmaa_model.specs.Effects.{is_forgotten};
-ghost use Rattle.drmaa_model.specs.Submitting.{kept_text};
+ghost use Rattle.drmaa_model.specs.Submitting.{kept_text, most_kept_text};
 ghost use Rattle.drmaa_model.specs.Targets.{is_meant};
 ghost use Rattle.plan_book.specs.Texts.{IsRoomBeside};
 
@@ -52,6 +53,15 @@ pub fn room_without_done(room: Option<usize>, rows: &Vec<Row>, target: &Target) 
             text = without_template(text, row.template.get())?;
         }
     }
+    Some(MOST_KEPT_TEXT - text)
+}
+
+/// The room once one job is forgotten, at whose template alone it looks. None where there was none: then it has to be counted anew.
+pub fn room_without_job(room: Option<usize>, row: &Row) -> Option<usize>
+    requires { IfSome room (λ room. room ≤ most_kept_text) }
+    ensures { (text : ℕ) → IsRoomBeside (text + text_length row.now.template) room → IfSome result (λ room. IsRoomBeside text (Some room)) }
+{
+    let text = without_template(MOST_KEPT_TEXT - room?, row.template.get())?;
     Some(MOST_KEPT_TEXT - text)
 }
 

@@ -2,6 +2,8 @@
 
 use drmaa_types::{IdList, ListOf, Refusal};
 use job_template::ReservationTemplate;
+use std::error::Error;
+use std::fmt;
 
 /// How far each occurrence is from the one before it, by a number from 1 to 1,000.
 #[derive(Clone, Copy, Debug, PartialEq, Eq)]
@@ -35,3 +37,28 @@ pub struct RecurFault {
     /// the end of the last of them.
     pub kept: IdList,
 }
+
+impl fmt::Debug for RecurFault {
+    fn fmt<W: fmt::Write>(&self, f: &mut fmt::Formatter<W>) -> fmt::Result {
+        let kept = self.kept.len();
+        write!(
+            f,
+            "RecurFault {{ refusal: {:?}, kept: {kept} }}",
+            self.refusal
+        )
+    }
+}
+
+/// Why the first request was not accepted that was not.
+impl fmt::Display for RecurFault {
+    ghost use Rattle.std.specs.Prelude.{Some};
+    ghost use Rattle.drmaa_types.specs.Said.{refusal_text};
+
+    ghost output = { λ why. Some (refusal_text why.refusal) };
+
+    fn fmt<W: fmt::Write>(&self, f: &mut fmt::Formatter<W>) -> fmt::Result {
+        write!(f, "{}", self.refusal)
+    }
+}
+
+impl Error for RecurFault {}

@@ -1,3 +1,4 @@
+pub mod Said
 pub mod StopLaws
 pub mod Stopping
 pub mod StoppingLaws

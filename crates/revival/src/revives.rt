@@ -21,6 +21,8 @@ use drmaa_model::Reply;
 use journal_check::{Replayed, replay_history};
 use journal_text::{Journal, a_writable_journal_keeps_its_calls};
 use std::alloc::Global;
+use std::error::Error;
+use std::fmt;
 
 /// Why no machine goes on from a journal.
 #[derive(Drop)]
@@ -35,6 +37,31 @@ pub enum ReviveFault {
         machine: Option<Reply>,
     },
 }
+
+impl fmt::Debug for ReviveFault {
+    fn fmt<W: fmt::Write>(&self, f: &mut fmt::Formatter<W>) -> fmt::Result {
+        match self {
+            ReviveFault::OutOfMemory => write!(f, "OutOfMemory"),
+            ReviveFault::NotLegal { entry, .. } => write!(f, "NotLegal {{ entry: {entry}, .. }}"),
+        }
+    }
+}
+
+impl fmt::Display for ReviveFault {
+    ghost use Rattle.std.specs.Prelude.{Some};
+    ghost use Rattle.revival.specs.Said.{fault_text};
+
+    ghost output = { λ why. Some (fault_text why) };
+
+    fn fmt<W: fmt::Write>(&self, f: &mut fmt::Formatter<W>) -> fmt::Result {
+        match self {
+            ReviveFault::OutOfMemory => write!(f, "out of memory"),
+            ReviveFault::NotLegal { entry, .. } => write!(f, "entry {entry} is not legal"),
+        }
+    }
+}
+
+impl Error for ReviveFault {}
 
 /// Replays a journal.
 fn replayed_journal(alloc: Global, journal: Journal) -> Replayed

@@ -12,7 +12,8 @@ use Rattle.drmaa_types.specs.declared.states.Note.{Note}
 use Rattle.drmaa_types.specs.declared.states.Note.TheVariants as note
 use Rattle.drmaa_model.specs.declared.entries.Entry.{Entry}
 use Rattle.text_codec.specs.Lexical.{quoted}
-use Rattle.text_words.specs.Words.{state_text, note_text}
+use Rattle.drmaa_types.specs.Said.{state_name}
+use Rattle.text_words.specs.Words.{note_text}
 use Rattle.run_views.specs.declared.runs.Ending.{Ending}
 use Rattle.run_views.specs.declared.submissions.Submission.{Submission}
 use Rattle.run_views.specs.declared.told.Told.{Told}
@@ -62,7 +63,7 @@ names_text job session name = decimal job ++ (codes "\t" ++ (name_text session +
 
 -- the state, with a tab behind it
 abbrev pub tabbed_state : JobState → List ℕ
-tabbed_state state = state_text state ++ codes "\t"
+tabbed_state state = state_name state ++ codes "\t"
 
 -- slots, the moment of submission, and the seconds that the job waited, each with a tab behind it
 abbrev pub times_text : Option ℕ → ℕ → ℕ → List ℕ
@@ -114,7 +115,7 @@ count_line word count = if count == 0 then [] else word ++ (codes " " ++ (decima
 
 -- the jobs that wait and that are started, by state
 abbrev pub kept_line : JobState → List JobInfo → List ℕ
-kept_line state infos = count_line (state_text state) (kept_in state infos)
+kept_line state infos = count_line (state_name state) (kept_in state infos)
 
 unfoldable pub waiting_lines : List JobInfo → List ℕ
 waiting_lines infos = kept_line Queued infos ++ (kept_line QueuedHeld infos ++ (kept_line Requeued infos ++ kept_line RequeuedHeld infos))
@@ -124,7 +125,7 @@ started_lines infos = kept_line Running infos ++ kept_line Suspended infos
 
 -- the jobs that have ended, with those that have been reaped; and how many have been
 abbrev pub ended_line : JobState → List Change → List ℕ
-ended_line state changes = count_line (state_text state) (come_to state changes)
+ended_line state changes = count_line (state_name state) (come_to state changes)
 
 unfoldable pub ended_lines : List JobInfo → List Change → List ℕ
 ended_lines infos changes = ended_line Done changes ++ (ended_line Failed changes ++ count_line (codes "reaped") (reaped infos changes))

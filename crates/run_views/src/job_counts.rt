@@ -8,7 +8,6 @@ use drmaa_model::Entry;
 use drmaa_types::{Change, JobInfo, JobState, Moment, Text};
 use itoa::Buffer;
 use std::alloc::{AllocError, Global};
-use text_words::spell_state;
 
 /// Writes a word and how many, where there are some.
 #[tactic(auto, unfolding(crate::specs::JobTexts::count_line))]
@@ -29,7 +28,7 @@ fn push_count(out: &mut String, word: &str, count: u128) -> Result<(), AllocErro
 fn push_kept(out: &mut String, infos: &[JobInfo], state: JobState) -> Result<(), AllocError>
     ensures { OnOk result (string_bytes out.new ≡ string_bytes out.old ++ texts.kept_line state infos.now) }
 {
-    push_count(out, spell_state(state), kept_in(infos, state) as u128)
+    push_count(out, state.name(), kept_in(infos, state) as u128)
 }
 
 /// Writes how many jobs wait, by state.
@@ -56,7 +55,7 @@ fn push_started(out: &mut String, infos: &[JobInfo]) -> Result<(), AllocError>
 fn push_come(out: &mut String, changes: &[Change], state: JobState) -> Result<(), AllocError>
     ensures { OnOk result (string_bytes out.new ≡ string_bytes out.old ++ texts.ended_line state changes.now) }
 {
-    push_count(out, spell_state(state), come_to(changes, state) as u128)
+    push_count(out, state.name(), come_to(changes, state) as u128)
 }
 
 /// Writes how many jobs have ended, and how many have been reaped.

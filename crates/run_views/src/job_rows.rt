@@ -6,7 +6,7 @@ ghost use Rattle.run_views.specs.JobTexts as texts;
 use drmaa_types::{Exit, JobInfo, JobState, Moment, Note, Text};
 use itoa::Buffer;
 use std::alloc::{AllocError, Global};
-use text_words::{PrintForm, spell_state};
+use text_words::PrintForm;
 
 /// Room for a name of usual length, in bytes.
 const ROOM: usize = 32;
@@ -128,7 +128,7 @@ pub(crate) fn push_names(
 pub(crate) fn push_state(out: &mut String, state: JobState) -> Result<(), AllocError>
     ensures { OnOk result (string_bytes out.new ≡ string_bytes out.old ++ texts.tabbed_state state) }
 {
-    out.push_str(spell_state(state))?;
+    out.push_str(state.name())?;
     out.push_str("\t")
 }
 

@@ -2,6 +2,7 @@ pub mod AfterLaws
 pub mod FactSteps
 pub mod FirstRows
 pub mod LaunchSteps
+pub mod OpenLaws
 pub mod PhaseSteps
 pub mod Priorities
 pub mod ReportSteps

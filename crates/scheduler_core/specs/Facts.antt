@@ -1,16 +1,15 @@
 -- What is told of a kept job, and which job comes next: our profile.
-use Rattle.std.specs.Prelude.{ℕ, Bool, false, ◌&&◌, max, nat_le, List, filter, find, sum_by, Option}
+use Rattle.std.specs.Prelude.{ℕ, Bool, false, ◌&&◌, max, nat_le, filter, find, Option}
 use Rattle.std.specs.Option.{option_map, option_map_or}
 use Rattle.drmaa_types.specs.declared.identifiers.ArrayId.{ArrayId}
 use Rattle.drmaa_types.specs.declared.identifiers.JobId.{JobId}
-use Rattle.drmaa_model.specs.declared.courses.Phase.{Phase}
-use Rattle.drmaa_model.specs.declared.courses.Phase.TheVariants.{Idle, Launching, Alive}
 use Rattle.drmaa_model.specs.declared.rows.Row.{Row}
 use Rattle.drmaa_model.specs.Homes.{is_same_home}
 use Rattle.drmaa_model.specs.Load.{is_member}
 use Rattle.drmaa_model.specs.Plan.{Plan}
 use Rattle.drmaa_model.specs.Rows.{row_of}
 use Rattle.drmaa_model.specs.Time.{lasts, lapses}
+pub use Rattle.plan_book.specs.Owed.{reports_due, reports_to_come}
 use Rattle.scheduler_core.specs.declared.facts.RowFacts.{RowFacts}
 
 abbrev pub row_facts : Row → RowFacts
@@ -50,13 +49,3 @@ is_own_member home array row = is_same_home home row.home && is_member array row
 -- time would end the job, which waits, when it comes to this moment
 abbrev pub lapses_at : ℕ → JobId → Plan → Bool
 lapses_at at job p = option_map_or (lapses (max p.moment at) (filter (lasts (max p.moment at)) p.reservations)) (row_of job p.rows) false
-
--- the reports that a job's process may still bring of its start and its end
-abbrev pub reports_due : Phase → ℕ
-reports_due Idle = 0
-reports_due Launching = 2
-reports_due Alive = 1
-
--- those that the processes of all jobs may still bring
-abbrev pub reports_to_come : List Row → ℕ
-reports_to_come rows = sum_by (λ (row : Row). reports_due row.course.phase) rows

@@ -28,7 +28,6 @@ ghost use Rattle.scheduler_core.specs.Facts.{row_facts, job_from, is_own_member,
 
 use crate::facts::{self, RowFacts};
 use crate::ready::is_settled;
-use crate::rows::reports_to_come;
 use crate::{events, launches, reports, running};
 use drmaa_model::{Accepted, Indices, Launch, Report, Row, Signal, Started, Submitted, Target};
 use drmaa_types::{
@@ -403,7 +402,7 @@ impl Core {
         ensures promised { result ≤ promised self.now.plan.rows }
     {
         let _weight = self.book.weight();
-        reports_to_come(self.book.rows())
+        self.book.reports_to_come()
     }
 
     /// Whether, once time has come to this moment, no job holds slots, no order stands and none is ready.

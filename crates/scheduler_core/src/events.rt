@@ -97,9 +97,9 @@ fn next_of_reservation(after: Moment, reservation: &Accepted) -> Option<Moment>
     )
 }
 
-// The next moment at which time may change something for any of the jobs.
-fn next_turn(after: Moment, rows: &Vec<Row>) -> Option<Moment>
-    ensures { result ≡ first_turn after rows.now.items }
+// The next moment at which time may change something for any of these jobs.
+fn next_turn(after: Moment, rows: &[Row]) -> Option<Moment>
+    ensures { result ≡ first_turn after rows.now }
 {
     let mut best = None;
     for row in rows {
@@ -119,12 +119,12 @@ fn next_bound(after: Moment, reservations: &Vec<Accepted>) -> Option<Moment>
     best
 }
 
-/// The next moment, after this one, at which time may change something.
+/// The next moment, after this one, at which time may change something. It looks at no job at the front that is over.
 pub fn next_event(book: &Book, after: Moment) -> Option<Moment>
     ensures { result ≡ next_event (plan_of book.now) after }
 {
     earlier(
-        next_turn(after, book.rows()),
+        next_turn(after, book.open_rows()),
         next_bound(after, book.reservations()),
     )
 }

@@ -11,7 +11,7 @@ ghost use Rattle.scheduler_core.specs.Launches.{seen, seen_row, may_launch, turn
 ghost use Rattle.scheduler_core.specs.Sums.{IsKnown};
 
 use crate::queues::{capped, has_room, left_in_queue};
-use crate::rows::{is_beaten, is_reached};
+use crate::rows::{has_priority, is_beaten, is_reached};
 use crate::sums::Known;
 use crate::times::course_then;
 use drmaa_model::{Accepted, Row, Wants};
@@ -22,7 +22,8 @@ use plan_book::states::is_queued;
 use reservation_requests::lasting_of;
 
 /// Of the jobs that may be launched once time has come to this moment the first by priority descending and number
-/// ascending.
+/// ascending. It goes over the jobs behind those at the front that are over, up to the first that it finds of a priority
+/// that no job's passes.
 pub fn first_ready_at<'a>(book: &'a Book, moment: Moment, used: u32) -> Option<&'a Row>
     requires kept { IsKept book.now }
     requires later { (plan_of book.now).moment ≤ moment }
@@ -33,9 +34,13 @@ pub fn first_ready_at<'a>(book: &'a Book, moment: Moment, used: u32) -> Option<&
     if used >= book.total() {
         return None;
     }
+    let greatest = book.greatest_priority();
     let mut best: Option<&Row> = None;
     let mut known = Known::new();
-    for row in book.rows() {
+    for row in book.open_rows() {
+        if has_priority(best, greatest) {
+            return best; // a later job of the same priority comes after it
+        }
         best = best_with(book, best, row, moment, used, &mut known);
     }
     best

@@ -1,34 +1,11 @@
 //! What is read of all rows. None of it takes memory.
-ghost use Rattle.std.specs.Prelude.{◌≡◌, ◌<◌, ◌^◌, IsTrue, IsFalse, Some, int_lt};
+ghost use Rattle.std.specs.Prelude.{◌≡◌, IsTrue, IsFalse, Some, false, int_lt, not};
 ghost use Rattle.std.specs.Option.{option_copied, option_map_or};
 ghost use Rattle.drmaa_model.specs.declared.rows.Row.{Row};
 ghost use Rattle.drmaa_model.specs.Order.{is_reached, better};
-ghost use Rattle.scheduler_core.specs.Facts.{reports_due, reports_to_come};
 
-use drmaa_model::{Phase, Row};
+use drmaa_model::Row;
 use drmaa_types::Moment;
-
-/// The reports of starts and ends that the processes of all jobs may still bring.
-pub fn reports_to_come(rows: &Vec<Row>) -> u64
-    requires { reports_to_come rows.now.items < 2 ^ 64 }
-    ensures { result ≡ reports_to_come rows.now.items }
-{
-    let mut sum = 0;
-    for row in rows {
-        sum += reports_due(row.course.phase);
-    }
-    sum
-}
-
-fn reports_due(phase: Phase) -> u64
-    ensures { result ≡ reports_due phase }
-{
-    match phase {
-        Phase::Idle => 0,
-        Phase::Launching => 2,
-        Phase::Alive => 1,
-    }
-}
 
 /// Whether the moment before which a job is not launched has come.
 pub fn is_reached(moment: Moment, start: Option<Moment>) -> bool
@@ -47,6 +24,16 @@ pub fn is_beaten(best: Option<&Row>, row: &Row) -> bool
 {
     match best {
         Some(first) => !is_lesser(first, row),
+        None => false,
+    }
+}
+
+/// Whether there is a best job so far, and its priority is at least this one.
+pub fn has_priority(best: Option<&Row>, least: i32) -> bool
+    ensures { result ≡ option_map_or (λ (first : Row). not (int_lt first.wants.priority least)) (option_copied best.entry) false }
+{
+    match best {
+        Some(first) => first.wants.priority >= least,
         None => false,
     }
 }

@@ -2,6 +2,8 @@
 #![tactic(auto)]
 
 #[cfg(test)]
+mod bells;
+#[cfg(test)]
 mod calls;
 #[cfg(test)]
 mod clocks;
@@ -21,6 +23,8 @@ mod infos;
 mod jobs;
 #[cfg(test)]
 mod machines;
+#[cfg(test)]
+mod one_clock;
 #[cfg(test)]
 mod rooms;
 #[cfg(test)]

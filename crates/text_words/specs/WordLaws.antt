@@ -22,13 +22,14 @@ use Rattle.text_words.specs.declared.arguments.TheConstants.{ARGUMENTS, LIMITS}
 use Rattle.text_words.specs.declared.attributes.TheConstants.{ATTRIBUTES}
 use Rattle.text_codec.specs.Formats.{IsFormat, first_spelled, valid_or}
 use Rattle.text_codec.specs.BaseLaws.{one_of_laws}
-use Rattle.text_words.specs.Words.{state_text, state_form, kind_text, kind_form, note_text, note_form, which_text, which_form, limit_text, is_told, limit_form, attribute_text, attribute_form, make_note, note_part}
+use Rattle.drmaa_types.specs.Said.{state_name, attribute_name}
+use Rattle.text_words.specs.Words.{state_form, kind_text, kind_form, note_text, note_form, which_text, which_form, limit_text, is_told, limit_form, attribute_form, make_note, note_part}
 
 pub state_laws : IsFormat state_form
 unfolding state_form
-state_laws = one_of_laws state_text STATES refl
+state_laws = one_of_laws state_name STATES refl
 
-pub state_stands : (x : JobState) → first_spelled state_text STATES (state_text x) ≡ Some x
+pub state_stands : (x : JobState) → first_spelled state_name STATES (state_name x) ≡ Some x
 state_stands state.Undetermined = refl
 state_stands state.Queued = refl
 state_stands state.QueuedHeld = refl
@@ -149,9 +150,9 @@ limit_stands (limit.Journal size) t = absurd (true_false (sym t))
 
 pub attribute_laws : IsFormat attribute_form
 unfolding attribute_form
-attribute_laws = one_of_laws attribute_text ATTRIBUTES refl
+attribute_laws = one_of_laws attribute_name ATTRIBUTES refl
 
-pub attribute_stands : (x : Attribute) → first_spelled attribute_text ATTRIBUTES (attribute_text x) ≡ Some x
+pub attribute_stands : (x : Attribute) → first_spelled attribute_name ATTRIBUTES (attribute_name x) ≡ Some x
 attribute_stands attribute.QueueName = refl
 attribute_stands attribute.JobCategory = refl
 attribute_stands attribute.Email = refl

@@ -1,7 +1,7 @@
 -- The words of scripts and journals: each value with its one spelling.
 use Rattle.std.specs.Prelude.{ℕ, Bool, true, false, List, [], Option, Some, None, codes}
+use Rattle.drmaa_types.specs.Said.{state_name, attribute_name}
 use Rattle.drmaa_types.specs.declared.states.JobState.{JobState}
-use Rattle.drmaa_types.specs.declared.states.JobState.TheVariants as state
 use Rattle.drmaa_types.specs.declared.states.SignalKind.{SignalKind}
 use Rattle.drmaa_types.specs.declared.states.SignalKind.TheVariants as kind
 use Rattle.drmaa_types.specs.declared.states.Note.{Note}
@@ -11,26 +11,14 @@ use Rattle.drmaa_types.specs.declared.refusals.Which.TheVariants as which
 use Rattle.drmaa_types.specs.declared.refusals.Limit.{Limit}
 use Rattle.drmaa_types.specs.declared.refusals.Limit.TheVariants as limit
 use Rattle.drmaa_types.specs.declared.refusals.Attribute.{Attribute}
-use Rattle.drmaa_types.specs.declared.refusals.Attribute.TheVariants as attribute
 use Rattle.text_words.specs.declared.states.TheConstants.{STATES, KINDS, NOTES}
 use Rattle.text_words.specs.declared.arguments.TheConstants.{ARGUMENTS, LIMITS}
 use Rattle.text_words.specs.declared.attributes.TheConstants.{ATTRIBUTES}
 use Rattle.text_codec.specs.Formats.{Format, one_of}
 
--- states of jobs: our profile
-abbrev pub state_text : JobState → List ℕ
-state_text state.Undetermined = codes "UNDETERMINED"
-state_text state.Queued = codes "QUEUED"
-state_text state.QueuedHeld = codes "QUEUED_HELD"
-state_text state.Running = codes "RUNNING"
-state_text state.Suspended = codes "SUSPENDED"
-state_text state.Requeued = codes "REQUEUED"
-state_text state.RequeuedHeld = codes "REQUEUED_HELD"
-state_text state.Done = codes "DONE"
-state_text state.Failed = codes "FAILED"
-
+-- states of jobs, by their names
 unfoldable pub state_form : Format JobState
-state_form = one_of state_text STATES
+state_form = one_of state_name STATES
 
 -- kinds of signal: our profile
 abbrev pub kind_text : SignalKind → List ℕ
@@ -130,27 +118,5 @@ unfoldable pub limit_form : Format Limit
 limit_form = one_of limit_text LIMITS
 
 -- attributes that this profile does not support: our profile
-abbrev pub attribute_text : Attribute → List ℕ
-attribute_text attribute.QueueName = codes "queueName"
-attribute_text attribute.JobCategory = codes "jobCategory"
-attribute_text attribute.Email = codes "email"
-attribute_text attribute.EmailOnStarted = codes "emailOnStarted"
-attribute_text attribute.EmailOnTerminated = codes "emailOnTerminated"
-attribute_text attribute.CandidateMachines = codes "candidateMachines"
-attribute_text attribute.MinPhysMemory = codes "minPhysMemory"
-attribute_text attribute.MachineOs = codes "machineOS"
-attribute_text attribute.MachineArch = codes "machineArch"
-attribute_text attribute.StageInFiles = codes "stageInFiles"
-attribute_text attribute.StageOutFiles = codes "stageOutFiles"
-attribute_text attribute.AccountingId = codes "accountingId"
-attribute_text attribute.UsersAcl = codes "usersACL"
-attribute_text attribute.CoreFileSize = codes "CORE_FILE_SIZE"
-attribute_text attribute.CpuTime = codes "CPU_TIME"
-attribute_text attribute.DataSize = codes "DATA_SIZE"
-attribute_text attribute.FileSize = codes "FILE_SIZE"
-attribute_text attribute.OpenFiles = codes "OPEN_FILES"
-attribute_text attribute.StackSize = codes "STACK_SIZE"
-attribute_text attribute.VirtualMemory = codes "VIRTUAL_MEMORY"
-
 unfoldable pub attribute_form : Format Attribute
-attribute_form = one_of attribute_text ATTRIBUTES
+attribute_form = one_of attribute_name ATTRIBUTES

@@ -3,6 +3,7 @@ ghost use Rattle.std.specs.Prelude.{◌≡◌, ◌++◌, Some, IfErr, OnOk};
 ghost use Rattle.drmaa_types.specs.declared.refusals.Attribute.{Attribute};
 ghost use Rattle.text_codec.specs.declared.unread.Unread.{Unread};
 ghost use Rattle.text_codec.specs.Formats.{Answers, first_spelled};
+ghost use Rattle.drmaa_types.specs.Said.{attribute_name};
 ghost use Rattle.text_words.specs.Words as words;
 ghost use Rattle.text_words.specs.WordLaws as laws;
 
@@ -35,48 +36,20 @@ pub const ATTRIBUTES: [Attribute; 20] = [
     Attribute::VirtualMemory,
 ];
 
-/// How an attribute is spelled.
-pub fn spell_attribute(attribute: Attribute) -> &'static str
-    ensures { result.now ≡ words.attribute_text attribute }
-{
-    match attribute {
-        Attribute::QueueName => "queueName",
-        Attribute::JobCategory => "jobCategory",
-        Attribute::Email => "email",
-        Attribute::EmailOnStarted => "emailOnStarted",
-        Attribute::EmailOnTerminated => "emailOnTerminated",
-        Attribute::CandidateMachines => "candidateMachines",
-        Attribute::MinPhysMemory => "minPhysMemory",
-        Attribute::MachineOs => "machineOS",
-        Attribute::MachineArch => "machineArch",
-        Attribute::StageInFiles => "stageInFiles",
-        Attribute::StageOutFiles => "stageOutFiles",
-        Attribute::AccountingId => "accountingId",
-        Attribute::UsersAcl => "usersACL",
-        Attribute::CoreFileSize => "CORE_FILE_SIZE",
-        Attribute::CpuTime => "CPU_TIME",
-        Attribute::DataSize => "DATA_SIZE",
-        Attribute::FileSize => "FILE_SIZE",
-        Attribute::OpenFiles => "OPEN_FILES",
-        Attribute::StackSize => "STACK_SIZE",
-        Attribute::VirtualMemory => "VIRTUAL_MEMORY",
-    }
-}
-
 /// The first attribute of the table that is spelled so.
 fn first_attribute(word: &[u8]) -> Option<Attribute>
-    ensures { result ≡ first_spelled words.attribute_text ATTRIBUTES word.now }
+    ensures { result ≡ first_spelled attribute_name ATTRIBUTES word.now }
 {
     ATTRIBUTES
         .iter()
         .copied()
-        .find(|attribute| spell_attribute(*attribute).as_bytes() == word)
+        .find(|attribute| attribute.name().as_bytes() == word)
 }
 
 /// The attribute that is spelled so. Each attribute has a word, and no two share one.
 pub fn attribute_of(word: &[u8]) -> Option<Attribute>
-    ensures first { result ≡ first_spelled words.attribute_text ATTRIBUTES word.now }
-    ensures only { (attribute : Attribute) → word.now ≡ words.attribute_text attribute → result ≡ Some attribute }
+    ensures first { result ≡ first_spelled attribute_name ATTRIBUTES word.now }
+    ensures only { (attribute : Attribute) → word.now ≡ attribute_name attribute → result ≡ Some attribute }
 {
     first_attribute(word)
 }
@@ -103,6 +76,6 @@ impl PrintForm for Attribute {
 
     #[tactic(auto, unfolding(crate::specs::Words::attribute_form), using(crate::specs::WordLaws::attribute_stands))]
     fn push(&self, out: &mut Vec<u8>) -> Result<(), AllocError> {
-        out.extend_from_slice(spell_attribute(*self).as_bytes())
+        out.extend_from_slice(self.name().as_bytes())
     }
 }

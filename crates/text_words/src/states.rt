@@ -6,6 +6,7 @@ ghost use Rattle.drmaa_types.specs.declared.states.Note.{Note};
 ghost use Rattle.text_codec.specs.declared.unread.Unread.{Unread};
 ghost use Rattle.text_codec.specs.Formats.{Answers, first_spelled, valid_or};
 ghost use Rattle.text_codec.specs.Fields.{spell_set};
+ghost use Rattle.drmaa_types.specs.Said.{state_name};
 ghost use Rattle.text_words.specs.Words as words;
 ghost use Rattle.text_words.specs.WordLaws as laws;
 
@@ -27,37 +28,20 @@ pub const STATES: [JobState; 9] = [
     JobState::Failed,
 ];
 
-/// How a state is spelled.
-pub fn spell_state(state: JobState) -> &'static str
-    ensures { result.now ≡ words.state_text state }
-{
-    match state {
-        JobState::Undetermined => "UNDETERMINED",
-        JobState::Queued => "QUEUED",
-        JobState::QueuedHeld => "QUEUED_HELD",
-        JobState::Running => "RUNNING",
-        JobState::Suspended => "SUSPENDED",
-        JobState::Requeued => "REQUEUED",
-        JobState::RequeuedHeld => "REQUEUED_HELD",
-        JobState::Done => "DONE",
-        JobState::Failed => "FAILED",
-    }
-}
-
 /// The first state of the table that is spelled so.
 fn first_state(word: &[u8]) -> Option<JobState>
-    ensures { result ≡ first_spelled words.state_text STATES word.now }
+    ensures { result ≡ first_spelled state_name STATES word.now }
 {
     STATES
         .iter()
         .copied()
-        .find(|state| spell_state(*state).as_bytes() == word)
+        .find(|state| state.name().as_bytes() == word)
 }
 
 /// The state that is spelled so. Each state has a word, and no two share one.
 pub fn state_of(word: &[u8]) -> Option<JobState>
-    ensures first { result ≡ first_spelled words.state_text STATES word.now }
-    ensures only { (state : JobState) → word.now ≡ words.state_text state → result ≡ Some state }
+    ensures first { result ≡ first_spelled state_name STATES word.now }
+    ensures only { (state : JobState) → word.now ≡ state_name state → result ≡ Some state }
 {
     first_state(word)
 }
@@ -84,7 +68,7 @@ impl PrintForm for JobState {
 
     #[tactic(auto, unfolding(crate::specs::Words::state_form), using(crate::specs::WordLaws::state_stands))]
     fn push(&self, out: &mut Vec<u8>) -> Result<(), AllocError> {
-        out.extend_from_slice(spell_state(*self).as_bytes())
+        out.extend_from_slice(self.name().as_bytes())
     }
 }
 

@@ -31,6 +31,9 @@ const SERVED: usize = 2;
 
 const LAST: u64 = u64::MAX - 1;
 
+/// How often a caller looks whether its turn has come before it rests until one is served.
+const LOOKS: u32 = 1_000;
+
 /// The words and the slot of one lock.
 pub struct Bench<V: Chronicle + Drop> {
     table: Table<Option<V>, View<V::Ask, V::Answer, V::Fixed>, Snapshot<V>, Order<V>, Global>,
@@ -167,19 +170,24 @@ impl<V: Chronicle + Drop> Bench<V> {
         unreachable!()
     }
 
-    /// Waits until this ticket has the turn.
+    /// Waits until this ticket has the turn. It looks a while before it rests, since a turn is mostly over sooner than a thread is woken.
     pub fn wait_turn<R: Wait>(&self, rt: &R, seat: &mut Place<V>, ticket: u64)
         requires table { seat.old.table_id ≡ self.now.table.shared.table_id }
         requires seat { (seat.old.me.0.kind ≡ Caller) × (seat.old.me.0.stage ≡ Waiting ticket) }
         ensures same { seat.new.table_id ≡ seat.old.table_id }
         ensures arrives { Arrives V.entries V.fixed V.legal ticket seat.old.me seat.new.me }
     {
+        let mut looks = 0;
         for _ in rt.forever() {
             let served = self.await_turn(seat, ticket);
             if served == ticket {
                 return;
             }
-            self.table.shared.park(rt, SERVED, low_half(served));
+            if looks < LOOKS {
+                looks += 1;
+            } else {
+                self.table.shared.park(rt, SERVED, low_half(served));
+            }
         }
         unreachable!()
     }

@@ -2,7 +2,6 @@
 ghost use Rattle.std.specs.Prelude.{◌≡◌, ◌≢◌, ◌⊎◌, ℕ, IfSome, Some, None};
 ghost use Rattle.std.specs.Io.KnownBytes.{IsAtEnd};
 ghost use Rattle.drmaa_types.specs.Counts.{Rose};
-ghost use Rattle.journal_commands.specs.Outcomes.{MadeEnds, end_of};
 ghost use Rattle.journal_commands.specs.Statuses.{IsQuiet, HasRead, HasWritten};
 ghost use Rattle.journal_commands.specs.Texts.{IsReadOut};
 ghost use Rattle.view_commands.specs.Views.{ViewEnds, ViewIsWhole, IsVerdictOf};
@@ -11,37 +10,11 @@ ghost use Rattle.view_commands.specs.Words.{asked};
 use crate::judging::{Judgement, judge};
 use crate::outcomes::Outcome;
 use crate::views::{View, view_of};
-use byte_streams::{Sink, Source, write_all};
+use byte_streams::{Sink, Source};
 use drmaa_types::TextList;
-use journal_commands::{Made, Output, Status, ended_as, read_journal};
+use journal_commands::{Status, read_journal, write_made};
 use run_views::Verdict;
 use std::alloc::Global;
-
-/// Writes what was made.
-fn write_made<W: Sink>(made: Made, sink: &mut W) -> Status
-    ensures ends { MadeEnds made result (W.written sink.old) (W.written sink.new) }
-    ensures finished { HasWritten result → W.finished sink.new }
-    ensures fault { result ≡ Status.WriteFault → Rose (W.faults sink.old) (W.faults sink.new) }
-    ensures untouched { IsQuiet result → sink.new ≡ sink.old }
-    ensures whole { (Rose (W.faults sink.old) (W.faults sink.new) → ⊥) → result ≡ end_of made }
-{
-    match made {
-        Made::Written(Output { text, full }) => match write_all(sink, text.as_str().as_bytes()) {
-            Ok(()) => ended_as(full),
-            Err(_) => Status::WriteFault,
-        },
-        Made::NotLegal {
-            entry,
-            given,
-            machine,
-        } => Status::NotLegal {
-            entry,
-            given,
-            machine,
-        },
-        Made::OutOfMemory => Status::Memory,
-    }
-}
 
 /// Shows a view of the journal that a source has.
 fn run_view<R: Source, W: Sink>(alloc: Global, view: View, source: &mut R, sink: &mut W) -> Outcome

@@ -11,7 +11,7 @@ use Rattle.drmaa_types.specs.declared.states.JobState.TheVariants.{QueuedHeld, R
 use Rattle.drmaa_model.specs.declared.rows.Row.{Row}
 use Rattle.drmaa_model.specs.Plan.{Plan}
 use Rattle.text_codec.specs.Lexical.{quoted}
-use Rattle.text_words.specs.Words.{state_text}
+use Rattle.drmaa_types.specs.Said.{state_name}
 use Rattle.wait_reasons.specs.declared.reasons.Reason.{Reason}
 use Rattle.wait_reasons.specs.declared.reasons.Reason.TheVariants.{NotQueued, StartsAt, ArrayFull, FewFree, Overfull, QueueFull, ReservationGone, ReservationOutside, ReservationFull}
 use Rattle.wait_reasons.specs.Reasons.{reasons}
@@ -27,7 +27,7 @@ two_numbers before n between m behind = before ++ (decimal n ++ (between ++ (dec
 
 -- the state of a job that is not queued: `held`, or which it is
 unfoldable pub standing_text : JobState → List ℕ
-standing_text state = if list_any (is_state state) (QueuedHeld ∷ RequeuedHeld ∷ []) then codes "held" else codes "is " ++ state_text state
+standing_text state = if list_any (is_state state) (QueuedHeld ∷ RequeuedHeld ∷ []) then codes "held" else codes "is " ++ state_name state
 
 -- a reservation behind a moment that it covers
 unfoldable pub covering_text : Option ReservationId → List ℕ

@@ -7,7 +7,7 @@ use crate::reasons::Reason;
 use drmaa_types::{JobState, Moment, QueueList, ReservationId, Text, queue_at};
 use itoa::Buffer;
 use std::alloc::{AllocError, Global};
-use text_words::{PrintForm, spell_state};
+use text_words::PrintForm;
 
 /// Room for a name of usual length, in bytes.
 const ROOM: usize = 32;
@@ -70,7 +70,7 @@ fn push_standing(out: &mut String, state: JobState) -> Result<(), AllocError>
         | JobState::Done
         | JobState::Failed => {
             out.push_str("is ")?;
-            out.push_str(spell_state(state))
+            out.push_str(state.name())
         }
     }
 }

@@ -11,6 +11,7 @@ use Rattle.script_commands.specs.Outcomes.{PlayIsWhole, IsScriptText, IsOfScript
 use Rattle.script_commands.specs.Registers.{HasPlayed, AreKept}
 use Rattle.script_commands.proofs.Kept.{kept_same}
 use Rattle.drmaa_script.specs.Endings.{IsWhole, MayEnd}
+use Rattle.drmaa_script.proofs.Possible.{check_ends, migrate_ends, json_ends}
 use Rattle.drmaa_script.proofs.commands.run_command.Goals as goal
 
 pub returns-in-Serial-clause-whole : goal.returns-in-Serial-clause-whole
@@ -71,13 +72,13 @@ pub returns-in-Threads-clause-possible : goal.returns-in-Threads-clause-possible
 returns-in-Threads-clause-possible g c = subst (λ (k : Command). MayEnd k c.run_threads.result.status) (sym c.in-Threads.is) c.run_threads.ensures.possible
 
 pub returns-in-Check-clause-possible : goal.returns-in-Check-clause-possible
-returns-in-Check-clause-possible g c = subst (λ (k : Command). MayEnd k c.run_deaf.result.status) (sym c.in-Check.is) c.run_deaf.ensures.words
+returns-in-Check-clause-possible g c = subst (λ (k : Command). MayEnd k c.run_deaf.result.status) (sym c.in-Check.is) (check_ends c.run_deaf.result.status c.run_deaf.ensures.came)
 
 pub returns-in-Migrate-clause-possible : goal.returns-in-Migrate-clause-possible
-returns-in-Migrate-clause-possible g c = subst (λ (k : Command). MayEnd k c.run_deaf-in-Migrate.result.status) (sym c.in-Migrate.is) c.run_deaf-in-Migrate.ensures.words
+returns-in-Migrate-clause-possible g c = subst (λ (k : Command). MayEnd k c.run_deaf-in-Migrate.result.status) (sym c.in-Migrate.is) (migrate_ends c.run_deaf-in-Migrate.result.status c.run_deaf-in-Migrate.ensures.came)
 
 pub returns-in-Json-clause-possible : goal.returns-in-Json-clause-possible
-returns-in-Json-clause-possible g c = subst (λ (k : Command). MayEnd k c.run_deaf-in-Json.result.status) (sym c.in-Json.is) c.run_deaf-in-Json.ensures.words
+returns-in-Json-clause-possible g c = subst (λ (k : Command). MayEnd k c.run_deaf-in-Json.result.status) (sym c.in-Json.is) (json_ends c.run_deaf-in-Json.result.status c.run_deaf-in-Json.ensures.came)
 
 pub returns-in-Forecast-clause-possible : goal.returns-in-Forecast-clause-possible
 returns-in-Forecast-clause-possible g c = subst (λ (k : Command). MayEnd k c.run_deaf-in-Forecast.result.status) (sym c.in-Forecast.is) c.run_deaf-in-Forecast.ensures.words

@@ -8,7 +8,7 @@ use Rattle.journal_commands.specs.declared.status.Status.TheVariants.{Text, Read
 use Rattle.journal_commands.specs.Outcomes.{JournalIsWhole}
 use Rattle.journal_commands.specs.StatusLaws.{unread_words, unread_reads, unread_written, unread_writes, unread_refused}
 use Rattle.journal_commands.specs.Texts.{IsJournalText}
-use Rattle.journal_commands.proofs.Ends.{made_ends, made_no_fault, decided, unread_journal}
+use Rattle.journal_commands.proofs.Ends.{made_ends, made_came, made_no_fault, decided, unread_journal, unread_came}
 use Rattle.journal_commands.proofs.Somes.{some_both, some_all}
 use Rattle.journal_commands.proofs.running.run_journal.Goals as goal
 
@@ -19,6 +19,10 @@ pub returns-in-Ok-clause-ends : goal.returns-in-Ok-clause-ends
 returns-in-Ok-clause-ends g c =
     IfSome_then (g.R.Source.left c.args.source.now) c.in-Ok.ensures.found (λ bytes spelled.
     made_ends (g.C.JournalCommand.Writes c.args.command) (g.C.JournalCommand.Refuses c.args.command) bytes c.in-Ok.journal spelled _ _ c.make.result c.write_made.result c.make.ensures.makes c.write_made.ensures.ends)
+
+pub returns-in-Ok-clause-came : goal.returns-in-Ok-clause-came
+returns-in-Ok-clause-came g c =
+    made_came (g.C.JournalCommand.Writes c.args.command) (g.C.JournalCommand.Refuses c.args.command) c.in-Ok.journal _ _ c.make.result c.write_made.result c.make.ensures.makes c.write_made.ensures.ends
 
 pub returns-in-Ok-clause-words : goal.returns-in-Ok-clause-words
 returns-in-Ok-clause-words g c = (made_no_fault c.make.result c.write_made.result _ _ c.write_made.ensures.ends).1
@@ -46,6 +50,9 @@ returns-in-Err-clause-ends g c =
     let left = g.R.Source.left c.args.source.now in
     IfSome_then left (some_all left (λ n. ◌≡◌ {A = Result Journal Status} (Err c.in-Err.status) (Err (Text n))) (λ n bytes. IsFirstBad journals.Spells 268_435_456 bytes n) c.in-Err.ensures.line) (λ bytes line.
     unread_journal (g.C.JournalCommand.Writes c.args.command) (g.C.JournalCommand.Refuses c.args.command) bytes c.in-Err.status _ _ c.in-Err.ensures.causes (λ n e. line n (err_is c.in-Err.status (Text n) e)))
+
+pub returns-in-Err-clause-came : goal.returns-in-Err-clause-came
+returns-in-Err-clause-came g c = unread_came (g.C.JournalCommand.Writes c.args.command) (g.C.JournalCommand.Refuses c.args.command) c.in-Err.status c.in-Err.ensures.causes
 
 pub returns-in-Err-clause-words : goal.returns-in-Err-clause-words
 returns-in-Err-clause-words g c = λ e. unread_words c.in-Err.status c.in-Err.ensures.causes e

@@ -11,37 +11,37 @@ use Rattle.lint_command.proofs.running.run_lint.Goals as goal
 pub returns-in-Ok-clause-ends : goal.returns-in-Ok-clause-ends
 returns-in-Ok-clause-ends g c =
     IfSome_then (g.R.Source.left c.args.source.now) c.in-Ok.ensures.written (λ bytes linted.
-    run_ends bytes c.in-Ok.text c.as_bytes.result.now c.plain.result.status c.write_text.result _ _ (c.as_bytes.ensures.value ∙ c.as_str.ensures.value) c.plain.ensures.status linted
-    c.write_text.ensures.ends)
+    run_ends bytes c.in-Ok.text c.as_bytes.result.now c.plain.result.status c.write_output.result _ _ (c.as_bytes.ensures.value ∙ c.as_str.ensures.value) c.plain.ensures.status linted
+    c.write_output.ensures.ends)
 
 pub returns-in-Ok-clause-advice : goal.returns-in-Ok-clause-advice
 returns-in-Ok-clause-advice g c =
-    run_advised c.as_bytes.result.now c.plain.result.status c.write_text.result _ _ c.plain.result.advice c.plain.ensures.status c.write_text.ensures.ends c.plain.ensures.advice
+    run_advised c.as_bytes.result.now c.plain.result.status c.write_output.result _ _ c.plain.result.advice c.plain.ensures.status c.write_output.ensures.ends c.plain.ensures.advice
 
 pub returns-in-Ok-clause-read_whole : goal.returns-in-Ok-clause-read_whole
 returns-in-Ok-clause-read_whole g c = λ h. c.in-Ok.ensures.end
 
 pub returns-in-Ok-clause-read_out : goal.returns-in-Ok-clause-read_out
 returns-in-Ok-clause-read_out g c = λ n e.
-    no_line_written c.as_bytes.result.now c.plain.result.status c.write_text.result _ _ n _ c.plain.ensures.status c.write_text.ensures.ends e
+    no_line_written c.as_bytes.result.now c.plain.result.status c.write_output.result _ _ n _ c.plain.ensures.status c.write_output.ensures.ends e
 
 pub returns-in-Ok-clause-finished : goal.returns-in-Ok-clause-finished
-returns-in-Ok-clause-finished g c = λ h. c.write_text.ensures.finished (subst HasWritten c.plain.ensures.status h)
+returns-in-Ok-clause-finished g c = λ h. c.write_output.ensures.finished (subst HasWritten c.plain.ensures.status h)
 
 pub returns-in-Ok-clause-read_fault : goal.returns-in-Ok-clause-read_fault
 returns-in-Ok-clause-read_fault g c = λ e.
-    no_read_fault c.as_bytes.result.now c.plain.result.status c.write_text.result _ _ _ c.plain.ensures.status c.write_text.ensures.ends e
+    no_read_fault c.as_bytes.result.now c.plain.result.status c.write_output.result _ _ _ c.plain.ensures.status c.write_output.ensures.ends e
 
 pub returns-in-Ok-clause-write_fault : goal.returns-in-Ok-clause-write_fault
-returns-in-Ok-clause-write_fault g c = λ e. c.write_text.ensures.fault (sym c.plain.ensures.status ∙ e)
+returns-in-Ok-clause-write_fault g c = λ e. c.write_output.ensures.fault (sym c.plain.ensures.status ∙ e)
 
 pub returns-in-Ok-clause-untouched : goal.returns-in-Ok-clause-untouched
-returns-in-Ok-clause-untouched g c = λ q. c.write_text.ensures.untouched (subst IsQuiet c.plain.ensures.status q)
+returns-in-Ok-clause-untouched g c = λ q. c.write_output.ensures.untouched (subst IsQuiet c.plain.ensures.status q)
 
 pub returns-in-Ok-clause-whole : goal.returns-in-Ok-clause-whole
 returns-in-Ok-clause-whole g c = λ reads writes.
     IfSome_then (g.R.Source.left c.args.source.now) c.in-Ok.ensures.written (λ bytes linted.
-    written_whole bytes c.in-Ok.text c.plain.result.status linted (c.plain.ensures.status ∙ c.write_text.ensures.whole writes))
+    written_whole bytes c.in-Ok.text c.plain.result.status linted (c.plain.ensures.status ∙ c.write_output.ensures.whole writes))
 
 pub returns-in-Err-clause-ends : goal.returns-in-Err-clause-ends
 returns-in-Err-clause-ends g c =

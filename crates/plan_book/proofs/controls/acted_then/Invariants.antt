@@ -6,6 +6,6 @@ use Rattle.plan_book.proofs.controls.acted_then.Given as goal
 
 abbrev pub invariant-loop-row : goal.invariant-loop-row
 invariant-loop-row l = record {
-  value : l.acted ≡ length (filter (λ row. is_controlled l.target l.what (timed l.moment (filter (lasts l.moment) l.rs.items) row)) (take l.row-index l.row-items));
+  value : l.acted ≡ length (filter (λ row. is_controlled l.target l.what (timed l.moment (filter (lasts l.moment) l.rs.items) row)) (take l.row-index l.rows));
   few : l.acted ≤ l.row-index;
 }

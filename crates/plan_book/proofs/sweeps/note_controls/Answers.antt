@@ -11,7 +11,7 @@ use Rattle.plan_book.proofs.sweeps.note_controls.Goals as goal
 pub note_control-requires : goal.note_control-requires
 note_control-requires c =
     let f = noted c.args.entry c.args.moment c.args.target.now c.args.what in
-    let xs = c.deref-row-items.result.now in
+    let xs = c.args.rows.now in
     let i = c.loop-row.row-index in
     let next = flat-more f xs i c.row-item.result c.loop-row-test.true c.row-item.is in
     omega (arith, c.loop-row.invariant.room, ap length next, length-append (f c.row-item.result) (flat_map f (drop (i + 1) xs)))
@@ -19,7 +19,7 @@ note_control-requires c =
 pub loop-row-preserved : goal.loop-row-preserved
 loop-row-preserved c =
     let f = noted c.args.entry c.args.moment c.args.target.now c.args.what in
-    let xs = c.deref-row-items.result.now in
+    let xs = c.args.rows.now in
     let i = c.loop-row.row-index in
     let rest = flat_map f (drop (i + 1) xs) in
     let next = flat-more f xs i c.row-item.result c.loop-row-test.true c.row-item.is in
@@ -35,7 +35,6 @@ loop-row-preserved c =
 pub returns-clause-items : goal.returns-clause-items
 returns-clause-items c =
     let f = noted c.args.entry c.args.moment c.args.target.now c.args.what in
-    let xs = c.deref-row-items.result.now in
+    let xs = c.args.rows.now in
     let none : drop c.loop-row.row-index xs ≡ [] = drop_of_length-le xs c.loop-row-test.false in
     sym (append-nil c.loop-row.changes.items) ∙ ap (λ (ys : List Row). c.loop-row.changes.items ++ flat_map f ys) (sym none) ∙ c.loop-row.invariant.items
-    ∙ ap (λ (ys : List Row). c.args.changes.now.items ++ flat_map f ys) c.deref-row-items.ensures.value

@@ -8,5 +8,5 @@ loop-row-init c = sym (after-none c.args.after)
 
 pub loop-row-preserved : goal.loop-row-preserved
 loop-row-preserved c =
-    seen-more c.args.after turns_at c.deref-row-items.result.now c.loop-row.row-index c.row-item.result c.loop-row.best c.next_of_row.result c.earlier-best.result
+    seen-more c.args.after turns_at c.args.rows.now c.loop-row.row-index c.row-item.result c.loop-row.best c.next_of_row.result c.earlier-best.result
     (omega arith) c.row-item.is c.loop-row.invariant c.next_of_row.ensures c.earlier-best.ensures

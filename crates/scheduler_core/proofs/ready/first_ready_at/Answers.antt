@@ -1,5 +1,7 @@
-use Rattle.std.proofs.Common.{◌≡◌, suc, ◌+◌, ◌<◌, ◌∷◌, Bool, true, false, Option, List, drop, map, filter, length, refl, sym, ◌∙◌, ap, arith, drop-cons}
-use Rattle.std.specs.Option.{option_copied, option_map}
+use Rattle.std.proofs.Common.{◌≡◌, suc, ◌+◌, ◌<◌, ◌∷◌, Bool, true, false, not, Option, List, drop, map, filter, length, refl, sym, ◌∙◌, ap, subst, to_z, of_z, w32, rules, arith, drop-cons}
+use Rattle.std.specs.Prelude.{ℤ, int_lt}
+use Rattle.std.proofs.lemmas.Int.{to_z-of_z}
+use Rattle.std.specs.Option.{option_copied, option_map, option_map_or}
 use Rattle.drmaa_model.specs.declared.rows.Row.{Row}
 use Rattle.drmaa_model.specs.Order.{first_in_order}
 use Rattle.drmaa_model.specs.Time.{lasts}
@@ -7,6 +9,7 @@ use Rattle.drmaa_model.specs.TimeLaws.{timed-wants}
 use Rattle.plan_book.specs.Book.{plan_of}
 use Rattle.scheduler_core.specs.Launches.{seen_row, may_launch}
 use Rattle.scheduler_core.proofs.LaunchSteps.{chosen, passed, none-free}
+use Rattle.scheduler_core.proofs.OpenLaws.{none-better, open-launches, over-of}
 use Rattle.scheduler_core.proofs.Priorities.{first_of}
 use Rattle.scheduler_core.proofs.ready.first_ready_at.Goals as goal
 
@@ -23,7 +26,7 @@ loop-row-preserved c =
     let p = plan_of c.args.book.now in
     let at = seen_row c.args.moment p in
     let test = may_launch c.args.moment p in
-    let xs = c.deref-row-items.result.now in
+    let xs = c.open_rows-row-items.result.now in
     let i = c.loop-row.row-index in
     let row = c.row-item.result in
     let best = option_copied c.loop-row.best in
@@ -40,3 +43,24 @@ loop-row-preserved c =
       ]) refl,
       c.best_with-best.ensures.known,
     )
+
+-- no job that is left has a greater priority
+pub returns-then-has_priority : goal.returns-then-has_priority
+returns-then-has_priority c =
+    let p = plan_of c.args.book.now in
+    let xs = c.open_rows-row-items.result.now in
+    let greatest = c.greatest_priority-greatest.result in
+    let same : to_z w32 (of_z w32 greatest) ≡ greatest = to_z-of_z w32 greatest (search rules) in
+    let high : option_map_or (λ (first : Row). not (int_lt first.wants.priority greatest)) (option_copied c.loop-row.best) false ≡ true =
+    subst (λ (least : ℤ). option_map_or (λ (first : Row). not (int_lt first.wants.priority least)) (option_copied c.loop-row.best) false ≡ true) same
+    (sym c.has_priority.ensures ∙ c.if-has_priority.true) in
+    none-better (seen_row c.args.moment p) (timed-wants c.args.moment (filter (lasts c.args.moment) p.reservations)) (may_launch c.args.moment p) (option_copied c.loop-row.best) greatest
+    high p.rows xs c.loop-row.row-index c.greatest_priority-greatest.ensures c.open_rows-row-items.ensures
+    ∙ c.loop-row.invariant.0 ∙ open-launches c.args.moment p xs c.open_rows-row-items.ensures
+
+pub returns : goal.returns
+returns c =
+    let p = plan_of c.args.book.now in
+    let xs = c.open_rows-row-items.result.now in
+    over-of (seen_row c.args.moment p) (may_launch c.args.moment p) (option_copied c.loop-row.best) xs c.loop-row.row-index c.loop-row-test.false
+    ∙ c.loop-row.invariant.0 ∙ open-launches c.args.moment p xs c.open_rows-row-items.ensures

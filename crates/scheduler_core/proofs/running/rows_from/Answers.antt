@@ -1,4 +1,4 @@
-use Rattle.std.proofs.Common.{◌≡◌, rules, of_calls, ℕ, ◌-◌, ◌<◌, ◌≤◌, nat_lt, true, false, List, length, take, drop, find, sym, ap, ◌∙◌, subst, arith}
+use Rattle.std.proofs.Common.{◌≡◌, rules, of_calls, ℕ, ◌-◌, nat_lt, List, length, take, drop, find, sym, ap, ◌∙◌, subst, arith}
 use Rattle.std.proofs.lemmas.Fn.{always_returns_same}
 use Rattle.std.proofs.lemmas.List.{length-drop}
 use Rattle.std.proofs.lemmas.List.Sorted.{IsPartitionedBy-ltb}

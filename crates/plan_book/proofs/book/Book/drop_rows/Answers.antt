@@ -41,6 +41,11 @@ fit c = advance-fit c.args.entry c.args.at (plan_of c.args.self.now) c.requires.
 fit-then : (c : After-drop_done) → IsFit (plan_of c.advance.new.self)
 fit-then c = subst IsFit (sym c.advance.ensures.plan) (fit c)
 
+pub drop_done-requires : goal.drop_done-requires
+drop_done-requires c =
+    (let then : IsFit (plan_of c.advance.new.self) = subst IsFit (sym c.advance.ensures.plan) (advance-fit c.args.entry c.args.at (plan_of c.args.self.now) c.requires.kept.fit) in
+    then.jobs.rising)
+
 pub returns-clause-meets : goal.returns-clause-meets
 returns-clause-meets c =
     let p = plan_of c.args.self.now in

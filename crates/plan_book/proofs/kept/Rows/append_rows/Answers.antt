@@ -1,10 +1,12 @@
-use Rattle.std.proofs.Common.{◌+◌, ◌++◌, ◌∙◌, List, ap, sym, subst, arith}
+use Rattle.std.proofs.Common.{rules, FitsSigned, ◌+◌, ◌++◌, ◌∙◌, List, ap, sym, subst, arith, to_z-of_z, w32}
 use Rattle.std.proofs.lemmas.List.Sums.{sum_by-append}
 use Rattle.job_template.specs.Texts.{text_length}
 use Rattle.drmaa_model.specs.declared.rows.Row.{Row}
 use Rattle.drmaa_model.specs.Submitting.{kept_text}
 use Rattle.plan_book.specs.declared.sums.Sums.{Sums}
+use Rattle.plan_book.specs.Open.{AreOver, IsGreatest}
 use Rattle.plan_book.specs.Sums.{AreSums}
+use Rattle.plan_book.proofs.OpenLaws.{over-append}
 use Rattle.plan_book.proofs.SumLaws.{sums-few, sums-append}
 use Rattle.plan_book.proofs.TextLaws.{same-room}
 use Rattle.plan_book.proofs.kept.Rows.append_rows.Goals as goal
@@ -23,10 +25,16 @@ pub invariant_of-self : goal.invariant_of-self
 invariant_of-self c =
     let xs = c.self.inside.list.items in
     let more = c.args.more.items in
+    let fits : FitsSigned w32 c.self.inside.greatest = search rules in
+    let now_fits : FitsSigned w32 c.greatest_with-self-inside.result = search rules in
     record {
       totals = subst (λ (rows : List Row). AreSums rows c.with_others-self-inside.result) (sym c.append_rows.ensures)
           (subst (λ (sums : Sums). AreSums (xs ++ more) sums) (sym c.with_others-self-inside.ensures)
           (sums-append xs more c.self.inside.sums c.sums_of.result c.self.invariant.totals c.sums_of.ensures));
+      over = subst (AreOver c.self.inside.over) (sym c.append_rows.ensures) (over-append xs more c.self.inside.over c.self.invariant.over);
+      greatest = subst (IsGreatest c.append_rows.new.rows.items) (sym (to_z-of_z now_fits))
+          (subst (λ (rows : List Row). IsGreatest rows c.greatest_with-self-inside.result) (sym c.append_rows.ensures)
+          (c.greatest_with-self-inside.ensures xs (subst (IsGreatest xs) (sym (to_z-of_z fits)) c.self.invariant.greatest)));
       text = same-room (kept_text xs + kept_text more) (kept_text c.append_rows.new.rows.items) c.room_with-self-inside.result
           (ap kept_text c.append_rows.ensures ∙ sum_by-append (λ (row : Row). text_length row.template) xs more) (c.room_with-self-inside.ensures (kept_text xs) c.self.invariant.text);
     }

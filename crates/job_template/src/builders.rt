@@ -1,0 +1,302 @@
+//! A job's template that is made step by step, from its command on.
+//!
+//! Each step sets one attribute of GFD.231's JobTemplate and keeps the others. A step that needs memory takes it from
+//! where the template has its own; where there is none it is an `Err`, and the template is let go.
+ghost use Rattle.std.specs.Prelude.{◌≡◌, ◌++◌, ◌∷◌, [], map, Some, true, IfOk};
+ghost use Rattle.job_template.specs.Blanks.{blank_template, wallclock};
+
+use crate::additions::{text_beside, text_of, with_last, with_texts};
+use crate::wants::WALLCLOCK_TIME;
+use crate::{JobTemplate, LimitList, Pair, ResourceLimit};
+use drmaa_types::{ListOf, Moment, ReservationId, Text};
+use std::alloc::{AllocError, Global};
+
+impl JobTemplate {
+    /// A template of which nothing is set; its command is the empty text, which is refused of a job. It takes no memory.
+    pub fn blank(alloc: Global) -> JobTemplate
+        ensures { result ≡ blank_template }
+    {
+        JobTemplate {
+            remote_command: Text::from_string(String::new(alloc)),
+            args: ListOf::new(alloc),
+            submit_as_hold: false,
+            rerunnable: false,
+            job_environment: ListOf::new(alloc),
+            working_directory: None,
+            job_name: None,
+            input_path: None,
+            output_path: None,
+            error_path: None,
+            join_files: false,
+            reservation_id: None,
+            queue_name: None,
+            min_slots: None,
+            max_slots: None,
+            priority: None,
+            start_time: None,
+            deadline_time: None,
+            resource_limits: ListOf::new(alloc),
+            others: ListOf::new(alloc),
+        }
+    }
+
+    /// A template that runs this program (`remoteCommand`), with every other attribute unset.
+    ///
+    /// # Errors
+    /// Want of memory.
+    pub fn command(alloc: Global, command: &str) -> Result<JobTemplate, AllocError>
+        ensures { IfOk result (λ t. t ≡ record blank_template { remote_command = command.now }) }
+    {
+        let remote_command = text_of(alloc, command)?;
+        Ok(JobTemplate {
+            remote_command,
+            ..JobTemplate::blank(alloc)
+        })
+    }
+
+    /// Adds one argument behind those that it has (`args`).
+    ///
+    /// # Errors
+    /// Want of memory.
+    pub fn arg(self, word: &str) -> Result<JobTemplate, AllocError>
+        ensures { IfOk result (λ t. t ≡ record self { args = self.args ++ word.now ∷ [] }) }
+    {
+        let (template, text) = self.with_text(word)?;
+        Ok(JobTemplate {
+            args: with_last(template.args, text)?,
+            ..template
+        })
+    }
+
+    /// Adds arguments, in order, behind those that it has (`args`).
+    ///
+    /// # Errors
+    /// Want of memory.
+    pub fn args(self, words: &[&str]) -> Result<JobTemplate, AllocError>
+        ensures { IfOk result (λ t. t ≡ record self { args = self.args ++ map (λ word. word.now) words.now }) }
+    {
+        Ok(JobTemplate {
+            args: with_texts(self.args, words)?,
+            ..self
+        })
+    }
+
+    /// Adds an environment variable and its value behind those that it has (`jobEnvironment`). A variable that stands
+    /// there twice is refused of a job.
+    ///
+    /// # Errors
+    /// Want of memory.
+    pub fn env(self, name: &str, value: &str) -> Result<JobTemplate, AllocError>
+        ensures { IfOk result (λ t. t ≡ record self { job_environment = self.job_environment ++ (record { name = name.now; value = value.now }) ∷ [] }) }
+    {
+        let (template, name) = self.with_text(name)?;
+        let (template, value) = template.with_text(value)?;
+        Ok(JobTemplate {
+            job_environment: with_last(template.job_environment, Pair { name, value })?,
+            ..template
+        })
+    }
+
+    /// Sets the job's name (`jobName`).
+    ///
+    /// # Errors
+    /// Want of memory.
+    pub fn name(self, name: &str) -> Result<JobTemplate, AllocError>
+        ensures { IfOk result (λ t. t ≡ record self { job_name = Some name.now }) }
+    {
+        let (template, text) = self.with_text(name)?;
+        Ok(JobTemplate {
+            job_name: Some(text),
+            ..template
+        })
+    }
+
+    /// Sets the directory that the job runs in (`workingDirectory`).
+    ///
+    /// # Errors
+    /// Want of memory.
+    pub fn folder(self, path: &str) -> Result<JobTemplate, AllocError>
+        ensures { IfOk result (λ t. t ≡ record self { working_directory = Some path.now }) }
+    {
+        let (template, text) = self.with_text(path)?;
+        Ok(JobTemplate {
+            working_directory: Some(text),
+            ..template
+        })
+    }
+
+    /// Sets the file that its input is read from (`inputPath`).
+    ///
+    /// # Errors
+    /// Want of memory.
+    pub fn input(self, path: &str) -> Result<JobTemplate, AllocError>
+        ensures { IfOk result (λ t. t ≡ record self { input_path = Some path.now }) }
+    {
+        let (template, text) = self.with_text(path)?;
+        Ok(JobTemplate {
+            input_path: Some(text),
+            ..template
+        })
+    }
+
+    /// Sets the file that its output goes to (`outputPath`).
+    ///
+    /// # Errors
+    /// Want of memory.
+    pub fn output(self, path: &str) -> Result<JobTemplate, AllocError>
+        ensures { IfOk result (λ t. t ≡ record self { output_path = Some path.now }) }
+    {
+        let (template, text) = self.with_text(path)?;
+        Ok(JobTemplate {
+            output_path: Some(text),
+            ..template
+        })
+    }
+
+    /// Sets the file that its errors go to (`errorPath`); it is not used where they go to the output's file.
+    ///
+    /// # Errors
+    /// Want of memory.
+    pub fn errors(self, path: &str) -> Result<JobTemplate, AllocError>
+        ensures { IfOk result (λ t. t ≡ record self { error_path = Some path.now }) }
+    {
+        let (template, text) = self.with_text(path)?;
+        Ok(JobTemplate {
+            error_path: Some(text),
+            ..template
+        })
+    }
+
+    /// Names the queue that it is of (`queueName`).
+    ///
+    /// # Errors
+    /// Want of memory.
+    pub fn queue(self, name: &str) -> Result<JobTemplate, AllocError>
+        ensures { IfOk result (λ t. t ≡ record self { queue_name = Some name.now }) }
+    {
+        let (template, text) = self.with_text(name)?;
+        Ok(JobTemplate {
+            queue_name: Some(text),
+            ..template
+        })
+    }
+
+    /// Limits how many seconds a launch of it may last (`resourceLimits`, `WALLCLOCK_TIME`). A limit of 0 seconds, or a
+    /// second limit, is refused of a job.
+    ///
+    /// # Errors
+    /// Want of memory.
+    pub fn limit(self, seconds: u64) -> Result<JobTemplate, AllocError>
+        ensures { IfOk result (λ t. t ≡ record self { resource_limits = self.resource_limits ++ wallclock seconds ∷ [] }) }
+    {
+        Ok(JobTemplate {
+            resource_limits: with_wallclock(self.resource_limits, seconds)?,
+            ..self
+        })
+    }
+
+    /// Its errors go to the output's file (`joinFiles`).
+    pub fn joined(self) -> JobTemplate
+        ensures { result ≡ record self { join_files = true } }
+    {
+        JobTemplate {
+            join_files: true,
+            ..self
+        }
+    }
+
+    /// It is submitted as QUEUED_HELD (`submitAsHold`).
+    pub fn hold(self) -> JobTemplate
+        ensures { result ≡ record self { submit_as_hold = true } }
+    {
+        JobTemplate {
+            submit_as_hold: true,
+            ..self
+        }
+    }
+
+    /// It is queued again after exit code 99, and after a failed start of its first or second launch, where no kill was
+    /// asked (`rerunnable`).
+    pub fn rerunnable(self) -> JobTemplate
+        ensures { result ≡ record self { rerunnable = true } }
+    {
+        JobTemplate {
+            rerunnable: true,
+            ..self
+        }
+    }
+
+    /// Sets the least number of slots that it can run on and the greatest that it can use (`minSlots`, `maxSlots`).
+    pub fn slots(self, min: u32, max: u32) -> JobTemplate
+        ensures { result ≡ record self { min_slots = Some min; max_slots = Some max } }
+    {
+        JobTemplate {
+            min_slots: Some(min),
+            max_slots: Some(max),
+            ..self
+        }
+    }
+
+    /// Sets its priority (`priority`): the greater is launched first.
+    pub fn with_priority(self, priority: i32) -> JobTemplate
+        ensures { result ≡ record self { priority = Some priority } }
+    {
+        JobTemplate {
+            priority: Some(priority),
+            ..self
+        }
+    }
+
+    /// It runs in this reservation (`reservationId`).
+    pub fn reserved(self, reservation: ReservationId) -> JobTemplate
+        ensures { result ≡ record self { reservation_id = Some reservation } }
+    {
+        JobTemplate {
+            reservation_id: Some(reservation),
+            ..self
+        }
+    }
+
+    /// It is not launched before this moment (`startTime`).
+    pub fn starting(self, moment: Moment) -> JobTemplate
+        ensures { result ≡ record self { start_time = Some moment } }
+    {
+        JobTemplate {
+            start_time: Some(moment),
+            ..self
+        }
+    }
+
+    /// It has failed where it isn't launched before this moment, and is killed where it runs then (`deadlineTime`).
+    pub fn deadline(self, moment: Moment) -> JobTemplate
+        ensures { result ≡ record self { deadline_time = Some moment } }
+    {
+        JobTemplate {
+            deadline_time: Some(moment),
+            ..self
+        }
+    }
+
+    /// The template as it was, and the text of these characters.
+    fn with_text(self, characters: &str) -> Result<(JobTemplate, Text), AllocError>
+        ensures { IfOk result (λ made. (made.0 ≡ self) × (made.1 ≡ characters.now)) }
+    {
+        let (args, text) = text_beside(self.args, characters)?;
+        Ok((JobTemplate { args, ..self }, text))
+    }
+}
+
+/// Limits, and behind them that of how many seconds a launch may last.
+fn with_wallclock(limits: LimitList, seconds: u64) -> Result<LimitList, AllocError>
+    ensures { IfOk result (λ longer. longer ≡ limits ++ wallclock seconds ∷ []) }
+{
+    with_limit(limits, WALLCLOCK_TIME, seconds)
+}
+
+/// Limits, and behind them the one of this name and value.
+fn with_limit(limits: LimitList, name: &str, value: u64) -> Result<LimitList, AllocError>
+    ensures { IfOk result (λ longer. longer ≡ limits ++ (record { name = name.now; value = value }) ∷ []) }
+{
+    let (limits, name) = text_beside(limits, name)?;
+    with_last(limits, ResourceLimit { name, value })
+}

@@ -1,0 +1,94 @@
+//! A reservation's template that is made step by step, from how long it lasts on.
+//!
+//! Each step sets one attribute of GFD.231's ReservationTemplate and keeps the others.
+ghost use Rattle.std.specs.Prelude.{◌≡◌, Some, IfOk};
+ghost use Rattle.job_template.specs.Blanks.{blank_reservation};
+
+use crate::additions::text_beside;
+use crate::{ReservationTemplate, Start};
+use drmaa_types::{ListOf, Moment};
+use std::alloc::{AllocError, Global};
+
+impl ReservationTemplate {
+    /// A template of which nothing is set; it takes no memory.
+    pub fn blank(alloc: Global) -> ReservationTemplate
+        ensures { result ≡ blank_reservation }
+    {
+        ReservationTemplate {
+            reservation_name: None,
+            start_time: None,
+            end_time: None,
+            duration: None,
+            min_slots: None,
+            max_slots: None,
+            others: ListOf::new(alloc),
+        }
+    }
+
+    /// A template of a reservation that lasts so many seconds (`duration`), with every other attribute unset. So it begins
+    /// now, unless a step says when it begins or ends. It takes no memory.
+    pub fn lasting(alloc: Global, seconds: u64) -> ReservationTemplate
+        ensures { result ≡ record blank_reservation { duration = Some seconds } }
+    {
+        ReservationTemplate {
+            duration: Some(seconds),
+            ..ReservationTemplate::blank(alloc)
+        }
+    }
+
+    /// Sets its name (`reservationName`). The memory is from where the template has its own.
+    ///
+    /// # Errors
+    /// Want of memory; the template is then let go.
+    pub fn name(self, name: &str) -> Result<ReservationTemplate, AllocError>
+        ensures { IfOk result (λ t. t ≡ record self { reservation_name = Some name.now }) }
+    {
+        let (others, text) = text_beside(self.others, name)?;
+        Ok(ReservationTemplate {
+            reservation_name: Some(text),
+            others,
+            ..self
+        })
+    }
+
+    /// It begins at this moment (`startTime`); with an end and a duration, at this moment or later.
+    pub fn from(self, moment: Moment) -> ReservationTemplate
+        ensures { result ≡ record self { start_time = Some (Start.At moment) } }
+    {
+        ReservationTemplate {
+            start_time: Some(Start::At(moment)),
+            ..self
+        }
+    }
+
+    /// It begins at the moment at which it is requested (`startTime` NOW); with an end and a duration, then or later.
+    pub fn from_now(self) -> ReservationTemplate
+        ensures { result ≡ record self { start_time = Some Start.Now } }
+    {
+        ReservationTemplate {
+            start_time: Some(Start::Now),
+            ..self
+        }
+    }
+
+    /// It ends at this moment (`endTime`); with a start and a duration, at this moment or earlier.
+    pub fn until(self, moment: Moment) -> ReservationTemplate
+        ensures { result ≡ record self { end_time = Some moment } }
+    {
+        ReservationTemplate {
+            end_time: Some(moment),
+            ..self
+        }
+    }
+
+    /// Sets the least number of slots that is of use and the greatest that is wanted (`minSlots`, `maxSlots`).
+    pub fn slots(self, min: u32, max: u32) -> ReservationTemplate
+        ensures { result ≡ record self { min_slots = Some min; max_slots = Some max } }
+    {
+        ReservationTemplate {
+            min_slots: Some(min),
+            max_slots: Some(max),
+            ..self
+        }
+    }
+}

@@ -1,0 +1,21 @@
+use Rattle.std.proofs.Common.{◌∙◌, List, ap, subst, sym}
+use Rattle.drmaa_model.specs.declared.rows.Row.{Row}
+use Rattle.drmaa_model.specs.Submitting.{kept_text}
+use Rattle.plan_book.specs.Open.{AreOver, IsGreatest}
+use Rattle.plan_book.proofs.OpenLaws.{over-step, greatest-step}
+use Rattle.plan_book.proofs.TextLaws.{same-room, text-step}
+use Rattle.plan_book.proofs.kept.Rows.control_all.Goals as goal
+
+pub over_from-self-inside-requires : goal.over_from-self-inside-requires
+over_from-self-inside-requires c =
+    subst (AreOver c.self.inside.over) (sym c.control_rows.ensures) (over-step c.args.moment c.args.target.now c.args.what c.self.inside.list.items c.self.inside.over c.self.invariant.over)
+
+pub invariant_of-self : goal.invariant_of-self
+invariant_of-self c =
+    let was = c.self.inside.list.items in
+    record {
+      totals = c.sums_of-self-inside.ensures;
+      over = c.over_from-self-inside.ensures.over;
+      greatest = subst (λ (rows : List Row). IsGreatest rows c.self.inside.greatest) (sym c.control_rows.ensures) (greatest-step c.args.moment c.args.target.now c.args.what was c.self.inside.greatest c.self.invariant.greatest);
+      text = same-room (kept_text was) (kept_text c.control_rows.new.rows.items) c.self.inside.room (ap kept_text c.control_rows.ensures ∙ text-step c.args.moment c.args.target.now c.args.what was) c.self.invariant.text;
+    }

@@ -1,0 +1,82 @@
+//! The jobs at the front that are over, and the greatest priority of the jobs. None of it takes memory.
+ghost use Rattle.std.specs.Prelude.{◌≡◌, ◌<◌, ◌≤◌, ◌++◌, false, List, length, slice_index_or};
+ghost use Rattle.std.specs.Int.{int_max};
+ghost use Rattle.std.specs.List.{remove};
+ghost use Rattle.drmaa_model.specs.declared.rows.Row.{Row};
+ghost use Rattle.plan_book.specs.Open.{AreOver, IsGreatest, is_over};
+
+use crate::states::{is_started, is_waiting};
+use drmaa_model::Row;
+
+/// Whether the job neither waits nor is started, and has no planned end.
+fn is_over(row: &Row) -> bool
+    ensures { result ≡ is_over row.now }
+{
+    let course = &row.course;
+    !is_waiting(course.state) && !is_started(course.state) && course.planned.is_none()
+}
+
+/// How many jobs at the front are over, where the first `from` are.
+pub fn over_from(rows: &Vec<Row>, from: usize) -> usize
+    requires { AreOver from rows.now.items }
+    ensures over { AreOver result rows.now.items }
+    ensures more { from ≤ result }
+    ensures all { (row : Row) → result < length rows.now.items → is_over (slice_index_or rows.now.items result row) ≡ false }
+{
+    let mut over = from;
+    while over < rows.len() && is_over(&rows[over]) {
+        over += 1;
+    }
+    over
+}
+
+/// How many jobs at the front are over, where that many were, once the job at this place is forgotten.
+pub fn over_without(over: usize, place: usize) -> usize
+    ensures { (rows : List Row) → place < length rows → AreOver over rows → AreOver result (remove rows place) }
+{
+    if place < over { over - 1 } else { over }
+}
+
+/// A priority that no job's passes, where none passes this one, once a job is forgotten. It looks at the jobs where that one had it.
+pub fn greatest_without(greatest: i32, gone: &Row, rows: &Vec<Row>) -> i32
+    requires { IsGreatest rows.now.items greatest }
+    ensures { IsGreatest rows.now.items result }
+{
+    if gone.wants.priority < greatest {
+        return greatest;
+    }
+    greatest_under(rows, greatest)
+}
+
+/// A priority that no job's passes, where none passes this one. It goes over the jobs up to the first that has it.
+pub fn greatest_under(rows: &Vec<Row>, most: i32) -> i32
+    requires { IsGreatest rows.now.items most }
+    ensures { IsGreatest rows.now.items result }
+{
+    let mut greatest = i32::MIN;
+    for row in rows {
+        if row.wants.priority >= most {
+            return most;
+        }
+        greatest = greater_of(greatest, row);
+    }
+    greatest
+}
+
+/// The greater of a priority that other jobs' don't pass, and those of more jobs.
+pub fn greatest_with(greatest: i32, more: &Vec<Row>) -> i32
+    ensures { (rows : List Row) → IsGreatest rows greatest → IsGreatest (rows ++ more.now.items) result }
+{
+    let mut greatest = greatest;
+    for row in more {
+        greatest = greater_of(greatest, row);
+    }
+    greatest
+}
+
+/// The greater of a priority and the job's.
+fn greater_of(priority: i32, row: &Row) -> i32
+    ensures { result ≡ int_max priority row.now.wants.priority }
+{
+    priority.max(row.wants.priority)
+}
