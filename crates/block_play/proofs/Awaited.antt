@@ -1,5 +1,5 @@
 -- What a wait says of the play of its line.
-use Rattle.std.proofs.Common.{◌≡◌, ◌⊎◌, inl, inr, ℕ, ◌≤◌, Bool, true, false, List, [], ◌∷◌, Option, Some, None, refl, sym, ap, ◌∙◌, subst, arith}
+use Rattle.std.proofs.Common.{◌≡◌, ◌⊎◌, inl, inr, ℕ, ◌≤◌, Bool, true, false, List, [], ◌∷◌, ◌++◌, Option, Some, None, refl, sym, ap, ◌∙◌, subst, arith}
 use Rattle.std.specs.Prelude.{length, nat_lt, ◌==◌}
 use Rattle.drmaa_types.specs.declared.identifiers.JobId.{JobId}
 use Rattle.drmaa_types.specs.declared.identifiers.SessionId.{SessionId}
@@ -37,11 +37,11 @@ use Rattle.call_history.specs.Calls.{entry_by}
 use Rattle.call_history.specs.Clients.{Seat, mine_of, number_of as number_of_client, Makes}
 use Rattle.call_history.specs.Clocks.{Dial}
 use Rattle.call_history.specs.Refused.{refusal_of}
-use Rattle.wait_calls.specs.Waited.{Climb, IsWaited, Reaches, Refuses, readings_of}
+use Rattle.wait_calls.specs.Waited.{Climb, Gives, IsWaited, Reaches, Refuses, readings_of}
 use Rattle.wait_calls.specs.Waited.Refuses.{by_entry, by_fault}
 use Rattle.block_play.specs.declared.stops.Stopped.{Stopped}
 use Rattle.block_play.specs.declared.stops.Stopped.TheVariants as stopped
-use Rattle.block_play.specs.Played.{PlayedLine, StopsLine}
+use Rattle.block_play.specs.Played.{PlayedLine, StopsLine, taken_by}
 use Rattle.block_play.specs.Played.PlaysLine.{asks_once}
 use Rattle.block_play.specs.Played.StopsLine.{unmade, unkept}
 use Rattle.block_play.specs.Waits.{wait_line, stop_of}
@@ -55,6 +55,12 @@ line-asks s names begun reached.Terminated session timeout jobs = refl
 line-binds : (kind : WaitKind) (session : Ref) (timeout : Timeout) (jobs : List Ref) (told : Reply) (names : List (List ℕ × Given)) → names ≡ names_after (wait_line kind session timeout jobs) told names
 line-binds reached.Started session timeout jobs told names = refl
 line-binds reached.Terminated session timeout jobs told names = refl
+
+-- what a wait takes of its client's clock
+wait-reads : (kind : WaitKind) (session : Ref) (timeout : Timeout) (jobs : List Ref) (begun at : ℕ) (looks : List ℕ) (early late : Option (List ℕ))
+    → Gives early (begun ∷ (looks ++ at ∷ [])) late → Gives early (taken_by (wait_line kind session timeout jobs) begun looks at) late
+wait-reads reached.Started session timeout jobs begun at looks early late gave = gave
+wait-reads reached.Terminated session timeout jobs begun at looks early late gave = gave
 
 climbed : (from to : ℕ) (rs : List ℕ) → Climb from rs to → from ≤ to
 climbed from to [] c = c
@@ -185,21 +191,31 @@ module _ (s : Script) (names : List (List ℕ × Given)) (kind : WaitKind) (sess
     stops-by : (config : Config) (early late : Dial) (old new : Seat) (before : ℕ) (why : Refusal) (st : Stopped) → before ≤ early.least → stop_of why ≡ Some st
         → (w : IsWaited config early old (λ begun. call.Wait (record { 0 = n }) js kind begun timeout) (Refuses config old why new) late new)
         → Refuses config old why new (call.Wait (record { 0 = n }) js kind w.begun timeout) w.last
-        → StopsLine config s names (wait_line kind session timeout jobs) before old new st
+        → StopsLine config s names (wait_line kind session timeout jobs) before old new early.given late.given st
     stops-by config early late old new before why st first stops w (by_fault fault.OutOfMemory is more none) =
         let memory : st ≡ stopped.Memory = (let same : why ≡ OutOfMemory = cc in stops-short why st same stops) in
-        subst (λ (x : Stopped). StopsLine config s names (wait_line kind session timeout jobs) before old new x) (sym memory) (unmade more.mine tt)
+        subst (λ (x : Stopped). StopsLine config s names (wait_line kind session timeout jobs) before old new early.given late.given x) (sym memory) (unmade more.mine tt)
     stops-by config early late old new before why st first stops w (by_fault fault.NotYet is more none) = absurd cc
     stops-by config early late old new before why st first stops w (by_fault fault.Nothing is more none) = absurd cc
     stops-by config early late old new before why st first stops w (by_fault (fault.Journal size) is more none) =
         let full : st ≡ stopped.Full size = (let same : why ≡ OutOfResource (limit.Journal size) = cc in stops-full why st size same stops) in
-        subst (λ (x : Stopped). StopsLine config s names (wait_line kind session timeout jobs) before old new x) (sym full)
-        (unmade more.mine (record { begun = w.begun; call = call.Wait (record { 0 = n }) js kind w.begun timeout; at = w.last; asked = asked w.begun; none = none }))
+        subst (λ (x : Stopped). StopsLine config s names (wait_line kind session timeout jobs) before old new early.given late.given x) (sym full)
+        (unmade more.mine (record {
+          begun = w.begun;
+          call = call.Wait (record { 0 = n }) js kind w.begun timeout;
+          at = w.last;
+          asked = asked w.begun;
+          none = none;
+          looks = readings_of w.looks;
+          read = wait-reads kind session timeout jobs w.begun w.last (readings_of w.looks) early.given late.given w.gave;
+          behind = (let a = w.least in let b = climbed w.begun w.last (readings_of w.looks) w.order in omega (arith, first, a, b));
+          in_time = λ waits. ((let a = w.least in omega (arith, first, a)), climbed w.begun w.last (readings_of w.looks) w.order);
+        }))
     stops-by config early late old new before why st first stops w (by_entry made is) =
-        subst (λ (x : Stopped). StopsLine config s names (wait_line kind session timeout jobs) before old new x) (sym (entry-stops _ w.last n js kind w.begun timeout why st stops is))
+        subst (λ (x : Stopped). StopsLine config s names (wait_line kind session timeout jobs) before old new early.given late.given x) (sym (entry-stops _ w.last n js kind w.begun timeout why st stops is))
         (unkept names late.least (refused-entry config early late old new before why first w made) refl)
 
     pub refused-stops : (config : Config) (early late : Dial) (old new : Seat) (before : ℕ) (why : Refusal) (st : Stopped) → before ≤ early.least → stop_of why ≡ Some st
         → IsWaited config early old (λ begun. call.Wait (record { 0 = n }) js kind begun timeout) (Refuses config old why new) late new
-        → StopsLine config s names (wait_line kind session timeout jobs) before old new st
+        → StopsLine config s names (wait_line kind session timeout jobs) before old new early.given late.given st
     refused-stops config early late old new before why st first stops w = stops-by config early late old new before why st first stops w w.decided

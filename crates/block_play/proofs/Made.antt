@@ -1,6 +1,7 @@
 -- What one call says of the play of a line.
-use Rattle.std.proofs.Common.{◌≡◌, ℕ, ◌≤◌, List, [], ◌∷◌, Option, Some, None, false, refl, sym, ap, ◌∙◌, subst, append-nil, arith}
-use Rattle.std.specs.Prelude.{Result, Ok, Err, IfOk, IfErr}
+use Rattle.std.proofs.Common.{◌≡◌, ℕ, ◌≤◌, Bool, List, [], ◌∷◌, ◌++◌, Option, Some, None, false, refl, sym, ap, ◌∙◌, subst, append-nil, arith}
+use Rattle.std.specs.Prelude.{Result, Ok, Err, IfOk, IfErr, cond}
+use Rattle.drmaa_types.specs.Readings.{Reads}
 use Rattle.drmaa_model.specs.declared.calls.Call.{Call}
 use Rattle.drmaa_model.specs.declared.configs.Config.{Config}
 use Rattle.drmaa_model.specs.declared.entries.Entry.{Entry}
@@ -23,10 +24,11 @@ use Rattle.call_history.specs.Calls.{entry_by, IsServed, IsUnserved}
 use Rattle.call_history.specs.ClientLaws.{begins-itself}
 use Rattle.call_history.specs.Clients.{Seat, seen_of, mine_of, number_of, KnowsItsOwn, IsStillAt, StaysAt}
 use Rattle.call_history.specs.Clocks.{Dial}
+use Rattle.wait_calls.specs.Waited.{Gives}
 use Rattle.block_play.specs.declared.stops.Stopped.{Stopped}
 use Rattle.block_play.specs.declared.stops.Stopped.TheVariants as stopped
 use Rattle.script_text.specs.Follows.{lines_of}
-use Rattle.block_play.specs.Played.{PlayedLine, PlayedLines, StopsLine, LeftByLine, stop_for, with_names}
+use Rattle.block_play.specs.Played.{PlayedLine, PlayedLines, StopsLine, LeftByLine, stop_for, taken_by, with_names}
 use Rattle.block_play.specs.Played.PlaysLine.{asks_nothing, asks_once}
 use Rattle.block_play.specs.Played.StopsLine.{unmade, unkept}
 
@@ -40,6 +42,17 @@ still-at shared after old new same free number begins own legal = record { share
 
 pub still-stays : (shared after : Named Config) (old new : Seat) → StaysAt shared old after new → BeginsWith (seen_of new) (seen_of old) → IsStillAt shared old after new
 still-stays shared after old new s begins = record { shared_is = s.shared_is; client = s.client; number = s.number; begins = begins; own = λ o. s.own; legal = λ l. s.legal }
+
+-- one reading, as what a clock gave
+gives-one : (early : Option (List ℕ)) (at : ℕ) (late : Option (List ℕ)) → Reads early at late → Gives early (at ∷ []) late
+gives-one early at None told = tt
+gives-one None at (Some late) told = told
+gives-one (Some early) at (Some late) told = told
+
+-- what a call takes that does not wait
+reads-one : (l : Line) (at : ℕ) (early late : Option (List ℕ)) → is_wait l ≡ false → Reads early at late → Gives early (taken_by l 0 [] at) late
+reads-one l at early late quick told =
+    subst (λ (b : Bool). Gives early (cond b (0 ∷ ([] ++ at ∷ [])) (at ∷ [])) late) (sym quick) (gives-one early at late told)
 
 module _ (s : Script) (names : List (List ℕ × Given)) (l : Line) (before : ℕ) where
   -- a line that asks nothing
@@ -62,27 +75,38 @@ module _ (s : Script) (names : List (List ℕ × Given)) (l : Line) (before : �
 
   -- a call that was served, whose reply found no memory
   pub stopped-once : (config : Config) (early late : Dial) (old new : Seat) (c : Call) (reply : Reply) → is_wait l ≡ false → asks s names no_attempt 0 l ≡ Some c
-      → IsServed early old c reply late new → StopsLine config s names l before old new stopped.Memory
+      → IsServed early old c reply late new → StopsLine config s names l before old new early.given late.given stopped.Memory
   stopped-once config early late old new c reply quick asked served =
       unkept (names_after l reply names) late.least (played-once early late old new c reply (names_after l reply names) quick asked served refl) refl
 
   -- a call that made no entry
-  pub stopped-full : (config : Config) (early late : Dial) (old new : Seat) (c : Call) (size : ℕ) → asks s names no_attempt 0 l ≡ Some c
-      → IsUnserved config early old c (fault.Journal size) late new → StopsLine config s names l before old new (stopped.Full size)
-  stopped-full config early late old new c size asked none = unmade none.more.mine (record { begun = 0; call = c; at = none.at; asked = asked; none = none.reason })
+  pub stopped-full : (config : Config) (early late : Dial) (old new : Seat) (c : Call) (size : ℕ) → is_wait l ≡ false → before ≤ early.least → asks s names no_attempt 0 l ≡ Some c
+      → IsUnserved config early old c (fault.Journal size) late new → StopsLine config s names l before old new early.given late.given (stopped.Full size)
+  stopped-full config early late old new c size quick first asked none = unmade none.more.mine (record {
+    begun = 0;
+    call = c;
+    at = none.at;
+    asked = asked;
+    none = none.reason;
+    looks = [];
+    read = reads-one l none.at early.given late.given quick none.read.told;
+    behind = (let least = none.read.least in omega (arith, first, least));
+    in_time = λ waits. absurd cc;
+  })
 
-  pub stopped-short : (config : Config) (early late : Dial) (old new : Seat) (c : Call) (why : NoEntry) → IsUnserved config early old c why late new → StopsLine config s names l before old new stopped.Memory
+  pub stopped-short : (config : Config) (early late : Dial) (old new : Seat) (c : Call) (why : NoEntry) → IsUnserved config early old c why late new
+      → StopsLine config s names l before old new early.given late.given stopped.Memory
   stopped-short config early late old new c why none = unmade none.more.mine tt
 
-  pub stopped-for : (config : Config) (early late : Dial) (old new : Seat) (c : Call) (why : NoEntry) → asks s names no_attempt 0 l ≡ Some c → IsUnserved config early old c why late new
-      → StopsLine config s names l before old new (stop_for why)
-  stopped-for config early late old new c fault.OutOfMemory asked none = stopped-short config early late old new c fault.OutOfMemory none
-  stopped-for config early late old new c fault.NotYet asked none = stopped-short config early late old new c fault.NotYet none
-  stopped-for config early late old new c fault.Nothing asked none = stopped-short config early late old new c fault.Nothing none
-  stopped-for config early late old new c (fault.Journal size) asked none = stopped-full config early late old new c size asked none
+  pub stopped-for : (config : Config) (early late : Dial) (old new : Seat) (c : Call) (why : NoEntry) → is_wait l ≡ false → before ≤ early.least → asks s names no_attempt 0 l ≡ Some c
+      → IsUnserved config early old c why late new → StopsLine config s names l before old new early.given late.given (stop_for why)
+  stopped-for config early late old new c fault.OutOfMemory quick first asked none = stopped-short config early late old new c fault.OutOfMemory none
+  stopped-for config early late old new c fault.NotYet quick first asked none = stopped-short config early late old new c fault.NotYet none
+  stopped-for config early late old new c fault.Nothing quick first asked none = stopped-short config early late old new c fault.Nothing none
+  stopped-for config early late old new c (fault.Journal size) quick first asked none = stopped-full config early late old new c size quick first asked none
 
-  pub stopped-still : (config : Config) (seat : Seat) → StopsLine config s names l before seat seat stopped.Memory
-  stopped-still config seat = unmade refl tt
+  pub stopped-still : (config : Config) (seat : Seat) (given : Option (List ℕ)) → StopsLine config s names l before seat seat given given stopped.Memory
+  stopped-still config seat given = unmade refl tt
 
 -- what a line asks of its client, who knows of no launch
 pub asked-of : (s : Script) (given names : List (List ℕ × Given)) (attempts : List (ℕ × ℕ)) (begun : ℕ) (l : Line) (o : Option Call) → given ≡ names → attempts ≡ [] → begun ≡ 0

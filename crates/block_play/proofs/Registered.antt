@@ -72,14 +72,14 @@ module _ (s : Script) (names : List (List ℕ × Given)) (before : ℕ) (config 
   refuses-line why is (by_fault f told none) = absurd (full-callbacks f (told ∙ ap Some is))
 
   -- the journal would be too large
-  pub fills-line : (why : Refusal) (size : ℕ) → why ≡ OutOfResource (limit.Journal size) → IsUnregistered config early old why late new → StopsLine config s names line.Register before old new (stopped.Full size)
-  fills-line why size is (by_entry full served most) = absurd (other-limit size (sym full ∙ is))
-  fills-line why size is (by_fault f told none) =
-      stopped-full s names line.Register before config early late old new call.Register size refl
+  pub fills-line : (why : Refusal) (size : ℕ) → before ≤ early.least → why ≡ OutOfResource (limit.Journal size) → IsUnregistered config early old why late new → StopsLine config s names line.Register before old new early.given late.given (stopped.Full size)
+  fills-line why size first is (by_entry full served most) = absurd (other-limit size (sym full ∙ is))
+  fills-line why size first is (by_fault f told none) =
+      stopped-full s names line.Register before config early late old new call.Register size refl first refl
       (subst (λ (x : NoEntry). IsUnserved config early old call.Register x late new) (full-journal f size (told ∙ ap Some is)) none)
 
   -- memory ran out
-  pub lacks-line : (why : Refusal) → IsUnregistered config early old why late new → StopsLine config s names line.Register before old new stopped.Memory
+  pub lacks-line : (why : Refusal) → IsUnregistered config early old why late new → StopsLine config s names line.Register before old new early.given late.given stopped.Memory
   lacks-line why (by_entry full served most) = unkept names late.least (played-once s names line.Register before early late old new call.Register (reply.Refused why) names refl refl served refl) refl
   lacks-line why (by_fault f told none) = stopped-short s names line.Register before config early late old new call.Register f none
 
@@ -153,19 +153,19 @@ module _ {B : Type 0} {counted : B → ℕ} {told : B → Option (List Notificat
   line-on shared hub s names after before least l old new other note begins p =
       others-on shared hub old new p.added note begins p.mine (plays-has hub.ears.places s names after before p.then l p.added other p.plays)
 
-  stop-on : (shared : Named Config) (hub : Following B) (config : Config) (s : Script) (names : List (List ℕ × Given)) (before : ℕ) (l : Line) (old new : Seat) (why : Stopped) → is_register l ≡ false → IsNoteOf shared hub.note
-      → BeginsWith (seen_of new) (seen_of old) → StopsLine config s names l before old new why → RegistersOn counted told shared hub old hub new
-  stop-on shared hub config s names before l old new why other note begins (unmade same cause) =
+  stop-on : (shared : Named Config) (hub : Following B) (config : Config) (s : Script) (names : List (List ℕ × Given)) (before : ℕ) (l : Line) (old new : Seat) (had has : Option (List ℕ)) (why : Stopped) → is_register l ≡ false → IsNoteOf shared hub.note
+      → BeginsWith (seen_of new) (seen_of old) → StopsLine config s names l before old new had has why → RegistersOn counted told shared hub old hub new
+  stop-on shared hub config s names before l old new had has why other note begins (unmade same cause) =
       others-on shared hub old new [] note begins (same ∙ sym (append-nil (mine_of old))) tt
-  stop-on shared hub config s names before l old new why other note begins (unkept after least p memory) = line-on shared hub s names after before least l old new other note begins p
+  stop-on shared hub config s names before l old new had has why other note begins (unkept after least p memory) = line-on shared hub s names after before least l old new other note begins p
 
   -- a line that registers nothing leaves the hub as it was
-  pub other-line : (shared : Named Config) (hub : Following B) (config : Config) (s : Script) (names : List (List ℕ × Given)) (early late : ℕ) (l : Line) (old new : Seat) (r : Result (List (List ℕ × Given)) Stopped)
+  pub other-line : (shared : Named Config) (hub : Following B) (config : Config) (s : Script) (names : List (List ℕ × Given)) (early late : ℕ) (had has : Option (List ℕ)) (l : Line) (old new : Seat) (r : Result (List (List ℕ × Given)) Stopped)
       → is_register l ≡ false → IsNoteOf shared hub.note → BeginsWith (seen_of new) (seen_of old)
       → IfOk r (λ after. (before : ℕ) → before ≤ early → PlayedLine s names l before (mine_of old) (mine_of new) after late)
-      → IfErr r (λ why. (before : ℕ) → before ≤ early → StopsLine config s names l before old new why) → RegistersOn counted told shared hub old hub new
-  other-line shared hub config s names early late l old new (Ok after) other note begins ok err = line-on shared hub s names after 0 late l old new other note begins (ok 0 (omega arith))
-  other-line shared hub config s names early late l old new (Err why) other note begins ok err = stop-on shared hub config s names 0 l old new why other note begins (err 0 (omega arith))
+      → IfErr r (λ why. (before : ℕ) → before ≤ early → StopsLine config s names l before old new had has why) → RegistersOn counted told shared hub old hub new
+  other-line shared hub config s names early late had has l old new (Ok after) other note begins ok err = line-on shared hub s names after 0 late l old new other note begins (ok 0 (omega arith))
+  other-line shared hub config s names early late had has l old new (Err why) other note begins ok err = stop-on shared hub config s names 0 l old new had has why other note begins (err 0 (omega arith))
 
   -- what the hub's register came to
   pub register-on : (shared : Named Config) (early late : Dial) (old new : Following B) (client after : Seat) (r : Result ℕ Refusal) → shared.fixed.journal < 2 ^ 64 → KnowsItsOwn client

@@ -1,5 +1,5 @@
 -- Lines that are played, one after the other.
-use Rattle.std.proofs.Common.{◌≡◌, ℕ, ◌+◌, ◌<◌, ◌≤◌, zero, suc, List, [], ◌∷◌, ◌++◌, take, drop, length, refl, sym, ap, ◌∙◌, subst, append_assoc, append-nil, arith}
+use Rattle.std.proofs.Common.{◌≡◌, ℕ, ◌+◌, ◌<◌, ◌≤◌, zero, suc, List, [], ◌∷◌, ◌++◌, take, drop, length, Option, refl, sym, ap, ◌∙◌, subst, append_assoc, append-nil, arith}
 use Rattle.std.proofs.Common.{get_or}
 use Rattle.std.proofs.Math.Seq.{take-suc}
 use Rattle.drmaa_model.specs.declared.configs.Config.{Config}
@@ -10,6 +10,7 @@ use Rattle.script_text.specs.declared.scripts.Script.{Script}
 use Rattle.script_asks.specs.declared.given.Given.{Given}
 use Rattle.call_history.specs.ClientLaws.{begins-both}
 use Rattle.call_history.specs.Clients.{Seat, seen_of, mine_of, IsStillAt}
+use Rattle.call_history.specs.Timed.{IsTimed}
 use Rattle.block_play.specs.declared.stops.Stopped.{Stopped}
 use Rattle.block_play.specs.declared.stops.Stopped.TheVariants as stopped
 use Rattle.block_play.specs.Played.{PlayedLine, PlayedLines, StopsLine, StopsLines, StopsBefore, IsCause}
@@ -48,45 +49,53 @@ played-more s names mid after ls l old now new early late p line =
       behind = q.behind;
     }
 
-before-rest : (config : Config) (s : Script) (names : List (List ℕ × Given)) (l : Line) (rest : List Line) (history : List Entry) (why : Stopped) → IsCause config s names l history why → StopsBefore config s names (l ∷ rest) history why
-before-rest config s names l rest history stopped.Memory cause = tt
-before-rest config s names l rest history (stopped.Full size) cause = cause
+before-rest : (config : Config) (s : Script) (names : List (List ℕ × Given)) (before : ℕ) (l : Line) (rest : List Line) (history : List Entry) (early late : Option (List ℕ)) (why : Stopped)
+    → IsCause config s names before l history early late why → StopsBefore config s names before (l ∷ rest) history early late why
+before-rest config s names before l rest history early late stopped.Memory cause = tt
+before-rest config s names before l rest history early late (stopped.Full size) cause = cause
 
-short-of : (config : Config) (s : Script) (names : List (List ℕ × Given)) (rest : List Line) (history : List Entry) (why : Stopped) → why ≡ stopped.Memory → StopsBefore config s names rest history why
-short-of config s names rest history why is = subst (λ (w : Stopped). StopsBefore config s names rest history w) (sym is) tt
+short-of : (config : Config) (s : Script) (names : List (List ℕ × Given)) (before : ℕ) (rest : List Line) (history : List Entry) (early late : Option (List ℕ)) (why : Stopped) → why ≡ stopped.Memory
+    → StopsBefore config s names before rest history early late why
+short-of config s names before rest history early late why is = subst (λ (w : Stopped). StopsBefore config s names before rest history early late w) (sym is) tt
 
-stops-at : (config : Config) (s : Script) (names mid : List (List ℕ × Given)) (all front rest : List Line) (l : Line) (old now new : Seat) (least : ℕ) (why : Stopped) → all ≡ front ++ l ∷ rest
-    → (p : PlayedLines s names front 0 (mine_of old) (mine_of now) mid least) → StopsLine config s mid l p.then now new why → StopsLines config s names all 0 old new why
-stops-at config s names mid all front rest l old now new least why is p (unmade same cause) = record {
-  front = front;
-  back = l ∷ rest;
-  lines = is;
-  after = mid;
-  least = least;
-  played = subst (λ (es : List Entry). PlayedLines s names front 0 (mine_of old) es mid least) (sym same) p;
-  cause = before-rest config s mid l rest (seen_of new) why cause;
-}
-stops-at config s names mid all front rest l old now new least why is p (unkept after late line memory) = record {
-  front = front ++ l ∷ [];
-  back = rest;
-  lines = is ∙ sym (append_assoc front (l ∷ []) rest);
-  after = after;
-  least = late;
-  played = record {
-    added = p.added ++ line.added;
-    then = line.then;
-    mine = line.mine ∙ (ap (λ (es : List Entry). es ++ line.added) p.mine ∙ append_assoc (mine_of old) p.added line.added);
-    plays = plays-more s names mid after 0 p.then line.then front l p.added line.added p.plays line.plays;
-    behind = line.behind;
-  };
-  cause = short-of config s after rest (seen_of new) why memory;
-}
+module _ (s : Script) (names mid : List (List ℕ × Given)) (all front rest : List Line) (l : Line) (old now new : Seat) (early there late : Option (List ℕ)) (least : ℕ) (why : Stopped) where
+  stops-at : (config : Config) → all ≡ front ++ l ∷ rest → (IsTimed (mine_of old) early → IsTimed (mine_of now) there) → (IsTimed (mine_of now) there → IsTimed (mine_of new) late)
+      → (p : PlayedLines s names front 0 (mine_of old) (mine_of now) mid least) → StopsLine config s mid l p.then now new there late why → StopsLines config s names all 0 old new early late why
+  stops-at config is timed more p (unmade same cause) = record {
+    front = front;
+    back = l ∷ rest;
+    lines = is;
+    after = mid;
+    least = least;
+    played = record { added = p.added; then = p.then; mine = same ∙ p.mine; plays = p.plays; behind = p.behind };
+    told = there;
+    timed = λ t. subst (λ (es : List Entry). IsTimed es there) (sym same) (timed t);
+    cause = before-rest config s mid p.then l rest (seen_of new) there late why cause;
+  }
+  stops-at config is timed more p (unkept after late_least line memory) = record {
+    front = front ++ l ∷ [];
+    back = rest;
+    lines = is ∙ sym (append_assoc front (l ∷ []) rest);
+    after = after;
+    least = late_least;
+    played = record {
+      added = p.added ++ line.added;
+      then = line.then;
+      mine = line.mine ∙ (ap (λ (es : List Entry). es ++ line.added) p.mine ∙ append_assoc (mine_of old) p.added line.added);
+      plays = plays-more s names mid after 0 p.then line.then front l p.added line.added p.plays line.plays;
+      behind = line.behind;
+    };
+    told = late;
+    timed = λ t. more (timed t);
+    cause = short-of config s after line.then rest (seen_of new) late late why memory;
+  }
 
--- the play of a block stops where one of its lines does
-pub stops-lines : (shared next : Named Config) (s : Script) (names mid : List (List ℕ × Given)) (all front rest : List Line) (l : Line) (old now new : Seat) (least : ℕ) (why : Stopped) → next ≡ shared → all ≡ front ++ l ∷ rest
-    → PlayedLines s names front 0 (mine_of old) (mine_of now) mid least → ((before : ℕ) → before ≤ least → StopsLine next.fixed s mid l before now new why) → StopsLines shared.fixed s names all 0 old new why
-stops-lines shared next s names mid all front rest l old now new least why same is p line =
-    stops-at shared.fixed s names mid all front rest l old now new least why is p (subst (λ (n : Named Config). StopsLine n.fixed s mid l p.then now new why) same (line p.then p.behind))
+  -- the play of a block stops where one of its lines does
+  pub stops-lines : (shared next : Named Config) → next ≡ shared → all ≡ front ++ l ∷ rest → (IsTimed (mine_of old) early → IsTimed (mine_of now) there) → (IsTimed (mine_of now) there → IsTimed (mine_of new) late)
+      → PlayedLines s names front 0 (mine_of old) (mine_of now) mid least → ((before : ℕ) → before ≤ least → StopsLine next.fixed s mid l before now new there late why)
+      → StopsLines shared.fixed s names all 0 old new early late why
+  stops-lines shared next same is timed more p line =
+      stops-at shared.fixed is timed more p (subst (λ (n : Named Config). StopsLine n.fixed s mid l p.then now new there late why) same (line p.then p.behind))
 
 -- ---- places
 

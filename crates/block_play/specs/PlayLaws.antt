@@ -9,7 +9,7 @@ use Rattle.script_text.specs.declared.scripts.Script.{Script}
 use Rattle.script_asks.specs.declared.given.Given.{Given}
 use Rattle.script_asks.specs.Plays.{Plays, PlaysPart, names_told, behind_first, names_by}
 use Rattle.script_asks.specs.Replies.{names_after}
-use Rattle.block_play.specs.Played.{PlaysLine, PlaysLines}
+use Rattle.block_play.specs.Played.{PlaysLine, PlaysLines, last_moment}
 use Rattle.block_play.specs.Played.PlaysLine.{asks_nothing, asks_once}
 
 -- one line more
@@ -53,6 +53,16 @@ plays-names s names after before then (l ∷ ls) es (first, rest, mid, at, is, a
     ap (λ (o : Option Call). choose o (λ d. names_by s (names_told l es names) ls (behind_first es)) (names_by s names ls es)) asked
     ∙ (ap (λ (x : List Entry). names_by s (names_told l x names) ls (behind_first x)) here
     ∙ (ap (λ (n : List (List ℕ × Given)). names_by s n ls rest) (sym same) ∙ plays-names s mid after at then ls rest tail))
+
+-- the moment behind lines is that of their last entry
+pub plays-then : (s : Script) (names after : List (List ℕ × Given)) (before then : ℕ) (ls : List Line) (es : List Entry) → PlaysLines s names before ls es after then → last_moment before es ≡ then
+plays-then s names after before then [] es (none, same, time) = ap (λ (x : List Entry). last_moment before x) none ∙ sym time
+plays-then s names after before then (l ∷ ls) es (first, rest, mid, at, is, asks_nothing un none same time, tail) =
+    let here : es ≡ rest = is ∙ ap (λ (x : List Entry). x ++ rest) none in
+    ap (λ (x : List Entry). last_moment before x) here ∙ (ap (λ (k : ℕ). last_moment k rest) (sym time) ∙ plays-then s mid after at then ls rest tail)
+plays-then s names after before then (l ∷ ls) es (first, rest, mid, at, is, asks_once e c asked one of_line same time, tail) =
+    let here : es ≡ e ∷ rest = is ∙ ap (λ (x : List Entry). x ++ rest) one in
+    ap (λ (x : List Entry). last_moment before x) here ∙ (ap (λ (k : ℕ). last_moment k rest) (sym time) ∙ plays-then s mid after at then ls rest tail)
 
 take-front : (front back : List Line) → take (length front) (front ++ back) ≡ front
 take-front [] back = refl

@@ -1,5 +1,5 @@
 -- What a client's play of a block has come to: our profile.
-use Rattle.std.specs.Prelude.{◌≡◌, ℕ, ◌≤◌, List, [], ◌∷◌, ◌++◌, Option, Some, None, Result, Ok, Err, IfOk, IfErr}
+use Rattle.std.specs.Prelude.{◌≡◌, ℕ, ◌≤◌, true, List, [], ◌∷◌, ◌++◌, Option, Some, None, Result, Ok, Err, IfOk, IfErr, cond}
 use Rattle.drmaa_model.specs.declared.calls.Call.{Call}
 use Rattle.drmaa_model.specs.declared.configs.Config.{Config}
 use Rattle.drmaa_model.specs.declared.entries.Entry.{Entry}
@@ -10,6 +10,7 @@ use Rattle.drmaa_model.specs.KeptCalls.{kept}
 use Rattle.drmaa_machine.specs.Chronicles.{MakesNone}
 use Rattle.script_lines.specs.declared.lines.Line.{Line}
 use Rattle.script_text.specs.declared.scripts.Script.{Script}
+use Rattle.script_text.specs.Follows.{is_wait}
 use Rattle.script_asks.specs.declared.given.Given.{Given}
 use Rattle.script_asks.specs.Asks.{asks}
 use Rattle.script_asks.specs.Plays.{no_attempt, IsAsked}
@@ -17,6 +18,7 @@ use Rattle.script_asks.specs.Replies.{names_after}
 use Rattle.call_history.specs.declared.desks.Desk.{Desk}
 use Rattle.call_history.specs.Clients.{Seat, seen_of, mine_of, IsStillAt}
 use Rattle.call_history.specs.Timed.{IsTimed}
+use Rattle.wait_calls.specs.Waited.{Gives}
 use Rattle.block_play.specs.declared.stops.Stopped.{Stopped}
 use Rattle.block_play.specs.declared.stops.Stopped.TheVariants as stopped
 
@@ -40,23 +42,40 @@ pub record PlayedLine (s : Script) (names : List (List ℕ × Given)) (l : Line)
   pub plays : PlaysLine s names before l added after then
   pub behind : then ≤ least
 
--- What a line asks makes no entry after this history, since the journal would have this size.
-pub record IsFullFor (config : Config) (s : Script) (names : List (List ℕ × Given)) (l : Line) (history : List Entry) (size : ℕ) : Type 0 where
+-- the moment of the last of these entries, or this one where there is none
+abbrev pub last_moment : ℕ → List Entry → ℕ
+last_moment before [] = before
+last_moment before (e ∷ es) = last_moment e.at es
+
+-- the readings of its client's clock that a line's call takes: a wait that of its beginning, further ones, and that at which it was
+-- answered; another call this one alone
+abbrev pub taken_by : Line → ℕ → List ℕ → ℕ → List ℕ
+taken_by l begun looks at = cond (is_wait l) (begun ∷ (looks ++ at ∷ [])) (at ∷ [])
+
+-- What a line asks, behind an entry of this moment, makes no entry after this history, since the journal would have this size. Its
+-- readings are all that the client's clock gave in this call, where it tells them: the machine answered at the last one, and a wait
+-- began at the first.
+pub record IsFullFor (config : Config) (s : Script) (names : List (List ℕ × Given)) (before : ℕ) (l : Line) (history : List Entry) (early late : Option (List ℕ)) (size : ℕ) : Type 0 where
   pub begun : ℕ
   pub call : Call
   pub at : ℕ
   pub asked : asks s names no_attempt begun l ≡ Some call
   pub none : MakesNone (replay config history) at (kept call) (fault.Journal size)
+  pub looks : List ℕ
+  pub read : Gives early (taken_by l begun looks at) late
+  pub behind : before ≤ at
+  pub in_time : is_wait l ≡ true → (before ≤ begun) × (begun ≤ at)
 
 -- why a line made no entry
-abbrev pub IsCause : Config → Script → List (List ℕ × Given) → Line → List Entry → Stopped → Type 0
-IsCause config s names l history stopped.Memory = Unit {0}
-IsCause config s names l history (stopped.Full size) = IsFullFor config s names l history size
+abbrev pub IsCause : Config → Script → List (List ℕ × Given) → ℕ → Line → List Entry → Option (List ℕ) → Option (List ℕ) → Stopped → Type 0
+IsCause config s names before l history early late stopped.Memory = Unit {0}
+IsCause config s names before l history early late (stopped.Full size) = IsFullFor config s names before l history early late size
 
--- The play stopped at a line: it made no entry, for this cause; or it was played, and memory ran out for what its reply gives.
-pub data StopsLine (config : Config) (s : Script) (names : List (List ℕ × Given)) (l : Line) (before : ℕ) (old new : Seat) (why : Stopped) : Type 0 where
-  unmade : mine_of new ≡ mine_of old → IsCause config s names l (seen_of new) why → StopsLine config s names l before old new why
-  unkept : (after : List (List ℕ × Given)) (least : ℕ) → PlayedLine s names l before (mine_of old) (mine_of new) after least → why ≡ stopped.Memory → StopsLine config s names l before old new why
+-- The play stopped at a line, in which the clock went on from what it had told: it made no entry, for this cause; or it was played, and
+-- memory ran out for what its reply gives.
+pub data StopsLine (config : Config) (s : Script) (names : List (List ℕ × Given)) (l : Line) (before : ℕ) (old new : Seat) (early late : Option (List ℕ)) (why : Stopped) : Type 0 where
+  unmade : mine_of new ≡ mine_of old → IsCause config s names before l (seen_of new) early late why → StopsLine config s names l before old new early late why
+  unkept : (after : List (List ℕ × Given)) (least : ℕ) → PlayedLine s names l before (mine_of old) (mine_of new) after least → why ≡ stopped.Memory → StopsLine config s names l before old new early late why
 
 -- why a client stops where its call made no entry
 abbrev pub stop_for : NoEntry → Stopped
@@ -71,7 +90,7 @@ pub record LeftByLine {C : Type 0} (given : C → Option (List ℕ)) (least : C 
   pub desk : IsStillAt old.shared.now old.client new.shared.now new.client
   pub timed : IsTimed (mine_of old.client) (given old.clock) → IsTimed (mine_of new.client) (given new.clock)
   pub ok : IfOk end (λ after. (before : ℕ) → before ≤ least old.clock → PlayedLine s names l before (mine_of old.client) (mine_of new.client) after (least new.clock))
-  pub err : IfErr end (λ why. (before : ℕ) → before ≤ least old.clock → StopsLine old.shared.now.fixed s names l before old.client new.client why)
+  pub err : IfErr end (λ why. (before : ℕ) → before ≤ least old.clock → StopsLine old.shared.now.fixed s names l before old.client new.client (given old.clock) (given new.clock) why)
 
 -- an end behind which the names are these
 abbrev pub with_names : {A : Type 0} → List (List ℕ × Given) → Result A Stopped → Result (List (List ℕ × Given)) Stopped
@@ -87,17 +106,20 @@ pub record PlayedLines (s : Script) (names : List (List ℕ × Given)) (ls : Lis
   pub behind : then ≤ least
 
 -- the next line of those that are left made no entry, for this cause
-abbrev pub StopsBefore : Config → Script → List (List ℕ × Given) → List Line → List Entry → Stopped → Type 0
-StopsBefore config s names ls history stopped.Memory = Unit {0}
-StopsBefore config s names [] history (stopped.Full size) = ⊥
-StopsBefore config s names (l ∷ ls) history (stopped.Full size) = IsFullFor config s names l history size
+abbrev pub StopsBefore : Config → Script → List (List ℕ × Given) → ℕ → List Line → List Entry → Option (List ℕ) → Option (List ℕ) → Stopped → Type 0
+StopsBefore config s names before ls history early late stopped.Memory = Unit {0}
+StopsBefore config s names before [] history early late (stopped.Full size) = ⊥
+StopsBefore config s names before (l ∷ ls) history early late (stopped.Full size) = IsFullFor config s names before l history early late size
 
--- The play stopped behind the first of these lines, before the others.
-pub record StopsLines (config : Config) (s : Script) (names : List (List ℕ × Given)) (ls : List Line) (before : ℕ) (old new : Seat) (why : Stopped) : Type 0 where
+-- The play stopped behind the first of these lines, before the others. The clock went on from what it had told; behind the first lines it
+-- had told the moments of the client's entries, if it had before.
+pub record StopsLines (config : Config) (s : Script) (names : List (List ℕ × Given)) (ls : List Line) (before : ℕ) (old new : Seat) (early late : Option (List ℕ)) (why : Stopped) : Type 0 where
   pub front : List Line
   pub back : List Line
   pub lines : ls ≡ front ++ back
   pub after : List (List ℕ × Given)
   pub least : ℕ
   pub played : PlayedLines s names front before (mine_of old) (mine_of new) after least
-  pub cause : StopsBefore config s after back (seen_of new) why
+  pub told : Option (List ℕ)
+  pub timed : IsTimed (mine_of old) early → IsTimed (mine_of new) told
+  pub cause : StopsBefore config s after played.then back (seen_of new) told late why

@@ -38,7 +38,7 @@ pub fn play_block<R: Wait + Pause, C: Clock>(
     ensures desk { IsStillAt desk.old.shared.now desk.old.client desk.new.shared.now desk.new.client }
     ensures timed { IsTimed (mine_of desk.old.client) (C.given desk.old.clock) → IsTimed (mine_of desk.new.client) (C.given desk.new.clock) }
     ensures ok { IfOk result (λ after. PlayedLines script.now names lines.now 0 (mine_of desk.old.client) (mine_of desk.new.client) after (C.least desk.new.clock)) }
-    ensures err { IfErr result (λ why. StopsLines desk.old.shared.now.fixed script.now names lines.now 0 desk.old.client desk.new.client why) }
+    ensures err { IfErr result (λ why. StopsLines desk.old.shared.now.fixed script.now names lines.now 0 desk.old.client desk.new.client (C.given desk.old.clock) (C.given desk.new.clock) why) }
 {
     let mut names = names;
     for line in lines {
@@ -67,7 +67,7 @@ fn play_first_lines<R: Wait + Pause, C: Clock, B: Callback>(
     ensures desk { IsStillAt desk.old.shared.now desk.old.client desk.new.shared.now desk.new.client }
     ensures timed { IsTimed (mine_of desk.old.client) (C.given desk.old.clock) → IsTimed (mine_of desk.new.client) (C.given desk.new.clock) }
     ensures ok { IfOk result (λ after. PlayedLines script.now [] lines.now 0 (mine_of desk.old.client) (mine_of desk.new.client) after (C.least desk.new.clock)) }
-    ensures err { IfErr result (λ why. StopsLines desk.old.shared.now.fixed script.now [] lines.now 0 desk.old.client desk.new.client why) }
+    ensures err { IfErr result (λ why. StopsLines desk.old.shared.now.fixed script.now [] lines.now 0 desk.old.client desk.new.client (C.given desk.old.clock) (C.given desk.new.clock) why) }
     ensures hub { RegistersOn B.counted B.told desk.old.shared.now hub.old desk.old.client hub.new desk.new.client }
 {
     let mut names = Names::new(alloc);
@@ -100,7 +100,7 @@ pub fn play_setup<R: Wait + Pause, C: Clock, B: Callback>(
     ensures desk { IsStillAt desk.old.shared.now desk.old.client desk.new.shared.now desk.new.client }
     ensures timed { IsTimed (mine_of desk.old.client) (C.given desk.old.clock) → IsTimed (mine_of desk.new.client) (C.given desk.new.clock) }
     ensures ok { IfOk result (λ after. PlayedLines script.now [] (lines_of script.now.setup) 0 (mine_of desk.old.client) (mine_of desk.new.client) after (C.least desk.new.clock)) }
-    ensures err { IfErr result (λ why. StopsLines desk.old.shared.now.fixed script.now [] (lines_of script.now.setup) 0 desk.old.client desk.new.client why) }
+    ensures err { IfErr result (λ why. StopsLines desk.old.shared.now.fixed script.now [] (lines_of script.now.setup) 0 desk.old.client desk.new.client (C.given desk.old.clock) (C.given desk.new.clock) why) }
     ensures hub { RegistersOn B.counted B.told desk.old.shared.now hub.old desk.old.client hub.new desk.new.client }
 {
     match &script.setup {

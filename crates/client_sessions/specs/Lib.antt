@@ -1,4 +1,6 @@
+pub mod AllWaits
 pub mod Indices
+pub mod Lists
 pub mod Machines
 pub mod Templates
 pub mod Tries

@@ -1,14 +1,19 @@
 //! Arrays of jobs: a call acts on each kept job whose state permits it, in order of number.
-ghost use Rattle.std.specs.Prelude.{IfOk, IfErr};
+ghost use Rattle.std.specs.Prelude.{◌≡◌, ℕ, List, IfOk, IfErr};
 ghost use Rattle.turn_lock.specs.Tokens.{IsFree};
 ghost use Rattle.call_history.specs.Clients.{StaysAt};
 ghost use Rattle.call_history.specs.Clocks.{dial};
 ghost use Rattle.call_history.specs.Calls.{IsServed};
 ghost use Rattle.call_history.specs.Refused.{IsRefused};
+ghost use Rattle.client_sessions.specs.Lists.{jobs_of, IsUnlisted};
 
+use crate::job_sessions::JobSession;
+use crate::jobs::Job;
+use crate::lists::jobs_of;
 use call_history::{Call, Desk, Reply};
 use drmaa_model::Target;
-use drmaa_types::{ArrayId, Clock, Control, JobId, Refusal, SessionId};
+use drmaa_types::{ArrayId, Clock, Control, JobId, ListOf, Refusal, SessionId};
+use std::alloc::Global;
 use std::sync::Wait;
 
 /// An array of jobs that were submitted together (GFD.231, JobArray).
@@ -134,6 +139,33 @@ impl JobArray {
         let session = self.session;
         let target = Target::Array(self.array);
         desk.ask_for::<R, ()>(rt, Call::Reap { session, target })
+    }
+
+    /// The kept jobs of the array, by rising number (GFD.231, JobArray::jobs). Each is asked for through the array's session.
+    ///
+    /// # Errors
+    ///
+    /// `InvalidSession` where its session is no open job session, `InvalidArgument(Array)` where no kept job of it is in
+    /// that session; with no entry, `OutOfMemory` or `OutOfResource(Journal)`; and `OutOfMemory` where there is none for
+    /// the list, when the entry has been made.
+    pub fn jobs<R: Wait, C: Clock>(
+        self,
+        alloc: Global,
+        rt: &R,
+        desk: &mut Desk<C>,
+    ) -> Result<ListOf<Job>, Refusal>
+        requires { IsFree desk.old.shared.now desk.old.client }
+        ensures desk { StaysAt desk.old.shared.now desk.old.client desk.new.shared.now desk.new.client }
+        ensures ok { IfOk result (λ jobs. (numbers : List ℕ) × (jobs ≡ jobs_of self.session numbers) × IsServed (dial (C.given desk.old.clock) (C.least desk.old.clock)) desk.old.client
+            (Call.GetJobArray self.session self.array) (Reply.Jobs numbers) (dial (C.given desk.new.clock) (C.least desk.new.clock)) desk.new.client) }
+        ensures err { IfErr result (λ why. IsUnlisted desk.old.shared.now.fixed (dial (C.given desk.old.clock) (C.least desk.old.clock)) desk.old.client
+            (Call.GetJobArray self.session self.array) (λ numbers. Reply.Jobs numbers) why (dial (C.given desk.new.clock) (C.least desk.new.clock)) desk.new.client) }
+    {
+        let session = self.session;
+        match (JobSession { session }).get_job_array(rt, desk, self.array) {
+            Ok(numbers) => jobs_of(alloc, session, &numbers),
+            Err(why) => Err(why),
+        }
     }
 
     /// Controls the jobs of the array whose state permits it.

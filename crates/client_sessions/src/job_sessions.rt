@@ -1,18 +1,21 @@
 //! Job sessions: they submit jobs, and tell which there are.
-ghost use Rattle.std.specs.Prelude.{◌≡◌, IfOk, IfErr};
+ghost use Rattle.std.specs.Prelude.{◌≡◌, ℕ, List, IfOk, IfErr};
 ghost use Rattle.turn_lock.specs.Tokens.{IsFree};
 ghost use Rattle.call_history.specs.Clients.{StaysAt};
 ghost use Rattle.call_history.specs.Clocks.{dial};
 ghost use Rattle.call_history.specs.Calls.{IsServed};
 ghost use Rattle.call_history.specs.Refused.{IsRefused};
 ghost use Rattle.client_sessions.specs.Indices.{bulk_indices};
+ghost use Rattle.client_sessions.specs.Lists.{jobs_of, IsUnlisted};
 
 use crate::arrays::JobArray;
 use crate::jobs::Job;
+use crate::lists::jobs_of;
 use call_history::{Call, Desk, JobNumbers, Reply, SubmittedArray};
 use drmaa_model::Indices;
-use drmaa_types::{ArrayId, Clock, IdList, JobFilter, JobId, Refusal, SessionId};
+use drmaa_types::{ArrayId, Clock, IdList, JobFilter, JobId, ListOf, Refusal, SessionId};
 use job_template::JobTemplate;
+use std::alloc::Global;
 use std::sync::Wait;
 
 /// An open job session: jobs are submitted in it (GFD.231, JobSession).
@@ -117,6 +120,32 @@ impl JobSession {
         let session = self.session;
         let told = desk.ask_for_jobs(rt, session, filter)?;
         Ok(told.numbers)
+    }
+
+    /// The session's kept jobs that the filter lets through, by rising number (GFD.231, JobSession::getJobs). Each is asked for
+    /// through this session.
+    ///
+    /// # Errors
+    ///
+    /// As `get_jobs`; and `OutOfMemory` where there is none for the list, when the entry has been made.
+    pub fn jobs<R: Wait, C: Clock>(
+        self,
+        alloc: Global,
+        rt: &R,
+        desk: &mut Desk<C>,
+        filter: JobFilter,
+    ) -> Result<ListOf<Job>, Refusal>
+        requires { IsFree desk.old.shared.now desk.old.client }
+        ensures desk { StaysAt desk.old.shared.now desk.old.client desk.new.shared.now desk.new.client }
+        ensures ok { IfOk result (λ jobs. (numbers : List ℕ) × (jobs ≡ jobs_of self.session numbers) × IsServed (dial (C.given desk.old.clock) (C.least desk.old.clock)) desk.old.client
+            (Call.GetJobs self.session filter) (Reply.Jobs numbers) (dial (C.given desk.new.clock) (C.least desk.new.clock)) desk.new.client) }
+        ensures err { IfErr result (λ why. IsUnlisted desk.old.shared.now.fixed (dial (C.given desk.old.clock) (C.least desk.old.clock)) desk.old.client
+            (Call.GetJobs self.session filter) (λ numbers. Reply.Jobs numbers) why (dial (C.given desk.new.clock) (C.least desk.new.clock)) desk.new.client) }
+    {
+        match self.get_jobs(rt, desk, filter) {
+            Ok(numbers) => jobs_of(alloc, self.session, &numbers),
+            Err(why) => Err(why),
+        }
     }
 
     /// The numbers of an array's kept jobs, rising (GFD.231, JobSession::getJobArray).

@@ -1,16 +1,19 @@
 //! What a client of a shared machine calls: typed sessions, jobs, arrays and reservations. Each call is one entry of the
-//! machine's history.
+//! machine's history, and a wait for all of several jobs is one for each.
 #![tactic(auto)]
 
+mod all_waits;
 mod arrays;
 mod job_sessions;
 mod jobs;
+mod lists;
 mod machines;
 mod managers;
 mod reservation_sessions;
 mod reservations;
 mod templates;
 mod tries;
+mod versions;
 mod waits;
 
 pub use arrays::JobArray;
@@ -23,3 +26,4 @@ pub use monitor_session::MonitoringSession;
 pub use reservation_sessions::ReservationSession;
 pub use reservations::Reservation;
 pub use templates::{plain_command, plain_job};
+pub use versions::Version;

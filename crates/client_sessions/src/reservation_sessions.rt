@@ -1,14 +1,21 @@
 //! Reservation sessions: they ask for slots ahead, and tell which reservations there are.
-ghost use Rattle.std.specs.Prelude.{IfOk, IfErr};
+ghost use Rattle.std.specs.Prelude.{◌≡◌, ℕ, List, IfOk, IfErr};
+ghost use Rattle.drmaa_types.specs.declared.infos.Reserved.{Reserved};
 ghost use Rattle.turn_lock.specs.Tokens.{IsFree};
 ghost use Rattle.call_history.specs.Clients.{StaysAt};
 ghost use Rattle.call_history.specs.Clocks.{dial};
 ghost use Rattle.call_history.specs.Calls.{IsServed};
 ghost use Rattle.call_history.specs.Refused.{IsRefused};
+ghost use Rattle.client_sessions.specs.Lists.{reservations_of, IsUnlisted};
 
+use crate::lists::reservations_of;
+use crate::reservations::Reservation;
 use call_history::{Call, Desk, Reply, ReservationNumbers};
-use drmaa_types::{Clock, IdList, Refusal, ReservationId, ReservationInfo, Reserved, SessionId};
+use drmaa_types::{
+    Clock, IdList, ListOf, Refusal, ReservationId, ReservationInfo, Reserved, SessionId,
+};
 use job_template::ReservationTemplate;
+use std::alloc::Global;
 use std::sync::Wait;
 
 /// An open reservation session: reservations are requested in it (GFD.231, ReservationSession).
@@ -43,6 +50,33 @@ impl ReservationSession {
     {
         let session = self.session;
         desk.ask_to_reserve(rt, session, template)
+    }
+
+    /// Asks for slots ahead (GFD.231, ReservationSession::requestReservation). The reservation is asked for through this session;
+    /// its `get_info` tells the slots and the time that were given.
+    ///
+    /// # Errors
+    ///
+    /// As `request_reservation`.
+    pub fn reserve<R: Wait, C: Clock>(
+        self,
+        rt: &R,
+        desk: &mut Desk<C>,
+        template: ReservationTemplate,
+    ) -> Result<Reservation, Refusal>
+        requires { IsFree desk.old.shared.now desk.old.client }
+        ensures desk { StaysAt desk.old.shared.now desk.old.client desk.new.shared.now desk.new.client }
+        ensures ok { IfOk result (λ made. (told : Reserved) × (told.reservation ≡ made.reservation) × IsServed (dial (C.given desk.old.clock) (C.least desk.old.clock)) desk.old.client
+            (Call.RequestReservation self.session template) (Reply.Reserved told) (dial (C.given desk.new.clock) (C.least desk.new.clock)) desk.new.client) }
+        ensures session { IfOk result (λ made. made.session ≡ self.session) }
+        ensures err { IfErr result (λ why. IsRefused desk.old.shared.now.fixed (dial (C.given desk.old.clock) (C.least desk.old.clock)) desk.old.client
+            (Call.RequestReservation self.session template) why (dial (C.given desk.new.clock) (C.least desk.new.clock)) desk.new.client) }
+    {
+        let told = self.request_reservation(rt, desk, template)?;
+        Ok(Reservation {
+            session: self.session,
+            reservation: told.reservation,
+        })
     }
 
     /// What is known of an accepted reservation of the session (GFD.231, ReservationSession::getReservation).
@@ -95,5 +129,30 @@ impl ReservationSession {
         let session = self.session;
         let told = desk.ask_for::<R, ReservationNumbers>(rt, Call::GetReservations { session })?;
         Ok(told.numbers)
+    }
+
+    /// The session's accepted reservations, by rising number (GFD.231, ReservationSession::getReservations). Each is asked for
+    /// through this session.
+    ///
+    /// # Errors
+    ///
+    /// As `get_reservations`; and `OutOfMemory` where there is none for the list, when the entry has been made.
+    pub fn reservations<R: Wait, C: Clock>(
+        self,
+        alloc: Global,
+        rt: &R,
+        desk: &mut Desk<C>,
+    ) -> Result<ListOf<Reservation>, Refusal>
+        requires { IsFree desk.old.shared.now desk.old.client }
+        ensures desk { StaysAt desk.old.shared.now desk.old.client desk.new.shared.now desk.new.client }
+        ensures ok { IfOk result (λ listed. (numbers : List ℕ) × (listed ≡ reservations_of self.session numbers) × IsServed (dial (C.given desk.old.clock) (C.least desk.old.clock)) desk.old.client
+            (Call.GetReservations self.session) (Reply.Reservations numbers) (dial (C.given desk.new.clock) (C.least desk.new.clock)) desk.new.client) }
+        ensures err { IfErr result (λ why. IsUnlisted desk.old.shared.now.fixed (dial (C.given desk.old.clock) (C.least desk.old.clock)) desk.old.client
+            (Call.GetReservations self.session) (λ numbers. Reply.Reservations numbers) why (dial (C.given desk.new.clock) (C.least desk.new.clock)) desk.new.client) }
+    {
+        match self.get_reservations(rt, desk) {
+            Ok(numbers) => reservations_of(alloc, self.session, &numbers),
+            Err(why) => Err(why),
+        }
     }
 }

@@ -4,7 +4,7 @@ ghost use Rattle.drmaa_types.specs.declared.refusals.Refusal.{Refusal};
 ghost use Rattle.drmaa_types.specs.declared.states.WaitKind.{WaitKind};
 ghost use Rattle.drmaa_model.specs.declared.calls.Call.{Call};
 ghost use Rattle.turn_lock.specs.Tokens.{IsFree};
-ghost use Rattle.call_history.specs.Clients.{StaysAt};
+ghost use Rattle.call_history.specs.Clients.{StaysAt, IsStillAt};
 ghost use Rattle.call_history.specs.Clocks.{dial};
 ghost use Rattle.wait_calls.specs.Waited.{IsWaited, Reaches, Refuses};
 
@@ -134,7 +134,7 @@ impl Job {
     }
 
     /// Waits until the job has reached a state.
-    fn wait_alone<R: Wait + Pause, C: Clock>(
+    pub(crate) fn wait_alone<R: Wait + Pause, C: Clock>(
         self,
         alloc: Global,
         rt: &R,
@@ -143,6 +143,7 @@ impl Job {
         timeout: Timeout,
     ) -> Result<(), Refusal>
         requires { IsFree desk.old.shared.now desk.old.client }
+        ensures still { IsStillAt desk.old.shared.now desk.old.client desk.new.shared.now desk.new.client }
         ensures desk { OnOk result (StaysAt desk.old.shared.now desk.old.client desk.new.shared.now desk.new.client) }
         ensures ok { IfOk result (λ _. IsWaited desk.old.shared.now.fixed (dial (C.given desk.old.clock) (C.least desk.old.clock)) desk.old.client
             (λ begun. Call.Wait self.session (self.job.0 ∷ []) kind begun timeout) (Reaches desk.old.shared.now.fixed desk.old.client self.job desk.new.client)

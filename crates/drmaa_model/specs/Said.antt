@@ -7,5 +7,5 @@ use Rattle.drmaa_model.specs.declared.faults.NoEntry.TheVariants.{OutOfMemory, N
 abbrev pub fault_text : NoEntry → List ℕ
 fault_text OutOfMemory = codes "out of memory"
 fault_text NotYet = codes "no listed job has reached the state yet"
-fault_text Nothing = codes "there is no job to launch and no signal to send"
+fault_text Nothing = codes "there is no job to launch, or no signal to send"
 fault_text (Journal size) = codes "the journal would have the size " ++ decimal size

@@ -37,7 +37,7 @@ impl fmt::Display for NoEntry {
         match self {
             NoEntry::OutOfMemory => write!(f, "out of memory"),
             NoEntry::NotYet => write!(f, "no listed job has reached the state yet"),
-            NoEntry::Nothing => write!(f, "there is no job to launch and no signal to send"),
+            NoEntry::Nothing => write!(f, "there is no job to launch, or no signal to send"),
             NoEntry::Journal { size } => write!(f, "the journal would have the size {size}"),
         }
     }

@@ -32,7 +32,7 @@ wrong_argument which.Array = codes "there is no such array of jobs"
 wrong_argument which.Reservation = codes "there is no such reservation"
 wrong_argument which.Jobs = codes "no job is listed"
 wrong_argument which.Indices = codes "the indices of the array are not in form"
-wrong_argument which.MaxParallel = codes "no member of the array may run beside another"
+wrong_argument which.MaxParallel = codes "no member of the array may run"
 wrong_argument which.RemoteCommand = codes "the command is not in form"
 wrong_argument which.Args = codes "an argument is not in form"
 wrong_argument which.JobEnvironment = codes "the environment is not in form"
@@ -41,27 +41,27 @@ wrong_argument which.JobName = codes "the job's name is not in form"
 wrong_argument which.InputPath = codes "the input's path is not in form"
 wrong_argument which.OutputPath = codes "the output's path is not in form"
 wrong_argument which.ErrorPath = codes "the errors' path is not in form"
-wrong_argument which.MinSlots = codes "the least number of slots cannot be had"
-wrong_argument which.MaxSlots = codes "the greatest number of slots is below the least or above the machine's"
-wrong_argument which.DeadlineTime = codes "the deadline is over or not after the start"
+wrong_argument which.MinSlots = codes "the least number of slots is 0, or more than there can be"
+wrong_argument which.MaxSlots = codes "the greatest number of slots is below the least"
+wrong_argument which.DeadlineTime = codes "the deadline is not after now, or not after the start"
 wrong_argument which.ResourceLimits = codes "a limit is 0, unknown or set twice"
 wrong_argument which.ReservationName = codes "the reservation's name is not in form"
 wrong_argument which.QueueName = codes "there is no such queue"
-wrong_argument which.StartTime = codes "the start cannot be met"
+wrong_argument which.StartTime = codes "the start is missing, or would be before now"
 wrong_argument which.EndTime = codes "the end is not after the start"
-wrong_argument which.Duration = codes "the duration is missing, 0 or does not fit start and end"
+wrong_argument which.Duration = codes "the duration is missing, 0 or too long"
 
 -- a limit that is reached
 abbrev pub limit_reached : Limit → List ℕ
 limit_reached limit.Sessions = codes "there are too many sessions"
 limit_reached limit.OpenSessions = codes "too many sessions are open"
-limit_reached limit.Jobs = codes "too many jobs are kept"
+limit_reached limit.Jobs = codes "too many jobs would be kept"
 limit_reached limit.Reservations = codes "there are too many reservations"
 limit_reached limit.Callbacks = codes "too many callbacks are registered"
 limit_reached limit.WaitList = codes "too many jobs are listed"
 limit_reached limit.BulkMembers = codes "the array has too many members"
 limit_reached limit.TemplateText = codes "the template has too much text"
-limit_reached limit.KeptText = codes "the templates of all kept jobs have too much text"
+limit_reached limit.KeptText = codes "the templates of all kept jobs would have too much text"
 limit_reached (limit.Journal size) = codes "the journal would have the size " ++ decimal size
 
 -- the name of an attribute
@@ -108,11 +108,11 @@ denied_at (Some moment) = codes "the reservation does not fit at moment " ++ dec
 -- why a call was refused
 abbrev pub reason : Refusal → List ℕ
 reason (refusal.DeniedByDrms moment) = denied_at moment
-reason (refusal.TryLater served drawn) = codes "another caller has the turn"
+reason (refusal.TryLater served drawn) = codes "another client has the turn"
 reason refusal.Timeout = codes "the wait's time is over"
 reason (refusal.InvalidArgument w) = wrong_argument w
-reason refusal.InvalidSession = codes "the session is not open"
-reason (refusal.InvalidState s) = codes "the state " ++ state_name s ++ codes " does not permit it"
+reason refusal.InvalidSession = codes "there is no such open session"
+reason (refusal.InvalidState s) = codes "the job, in state " ++ state_name s ++ codes ", does not permit it"
 reason (refusal.OutOfResource l) = limit_reached l
 reason refusal.OutOfMemory = codes "out of memory"
 reason (refusal.UnsupportedAttribute a) = codes "the attribute " ++ attribute_name a ++ codes " is not supported"

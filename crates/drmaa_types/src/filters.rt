@@ -1,5 +1,6 @@
 //! Which jobs a filter lets through.
-ghost use Rattle.std.specs.Prelude.{◌≡◌, nat_le, Some};
+ghost use Rattle.std.specs.Prelude.{◌≡◌, nat_le, true, Some};
+ghost use Rattle.drmaa_types.specs.declared.infos.JobInfo.{JobInfo};
 ghost use Rattle.std.specs.Str.{bytes_eq};
 ghost use Rattle.std.specs.Option.{option_and_then};
 ghost use Rattle.drmaa_types.specs.States.{is_state, state_number};
@@ -27,6 +28,11 @@ pub struct JobFilter {
     /// Ended at or after this moment.
     pub finished: Option<Moment>,
 }
+
+/// The filter that sets nothing lets every job through.
+pub fn all_lets_every_job_through()
+    ensures { (info : JobInfo) → filter.matches filter.all info ≡ true }
+{}
 
 impl JobFilter {
     /// The filter that lets every job through.

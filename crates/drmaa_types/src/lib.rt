@@ -23,7 +23,7 @@ pub use boxed::Boxed;
 pub use capabilities::{Capability, supports};
 pub use changes::{Change, ChangeBatch, Failed, Notification};
 pub use chronicles::{Chronicle, ChronicleEntry};
-pub use filters::JobFilter;
+pub use filters::{JobFilter, all_lets_every_job_through};
 pub use identifiers::{ArrayId, CallerId, JobId, ReservationId, SessionId};
 pub use infos::{InfoList, JobInfo, MachineInfo, ReservationInfo, ReservationList, Reserved};
 pub use lists::{AttributeList, Bytes, IdList, ListOf, MomentList, PlaceList, TextList};

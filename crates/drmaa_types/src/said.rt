@@ -70,7 +70,7 @@ impl Which {
             Which::Reservation => "there is no such reservation",
             Which::Jobs => "no job is listed",
             Which::Indices => "the indices of the array are not in form",
-            Which::MaxParallel => "no member of the array may run beside another",
+            Which::MaxParallel => "no member of the array may run",
             Which::RemoteCommand => "the command is not in form",
             Which::Args => "an argument is not in form",
             Which::JobEnvironment => "the environment is not in form",
@@ -79,17 +79,15 @@ impl Which {
             Which::InputPath => "the input's path is not in form",
             Which::OutputPath => "the output's path is not in form",
             Which::ErrorPath => "the errors' path is not in form",
-            Which::MinSlots => "the least number of slots cannot be had",
-            Which::MaxSlots => {
-                "the greatest number of slots is below the least or above the machine's"
-            }
-            Which::DeadlineTime => "the deadline is over or not after the start",
+            Which::MinSlots => "the least number of slots is 0, or more than there can be",
+            Which::MaxSlots => "the greatest number of slots is below the least",
+            Which::DeadlineTime => "the deadline is not after now, or not after the start",
             Which::ResourceLimits => "a limit is 0, unknown or set twice",
             Which::ReservationName => "the reservation's name is not in form",
             Which::QueueName => "there is no such queue",
-            Which::StartTime => "the start cannot be met",
+            Which::StartTime => "the start is missing, or would be before now",
             Which::EndTime => "the end is not after the start",
-            Which::Duration => "the duration is missing, 0 or does not fit start and end",
+            Which::Duration => "the duration is missing, 0 or too long",
         }
     }
 }
@@ -136,13 +134,13 @@ impl fmt::Display for Limit {
         match self {
             Limit::Sessions => write!(f, "there are too many sessions"),
             Limit::OpenSessions => write!(f, "too many sessions are open"),
-            Limit::Jobs => write!(f, "too many jobs are kept"),
+            Limit::Jobs => write!(f, "too many jobs would be kept"),
             Limit::Reservations => write!(f, "there are too many reservations"),
             Limit::Callbacks => write!(f, "too many callbacks are registered"),
             Limit::WaitList => write!(f, "too many jobs are listed"),
             Limit::BulkMembers => write!(f, "the array has too many members"),
             Limit::TemplateText => write!(f, "the template has too much text"),
-            Limit::KeptText => write!(f, "the templates of all kept jobs have too much text"),
+            Limit::KeptText => write!(f, "the templates of all kept jobs would have too much text"),
             Limit::Journal { size } => write!(f, "the journal would have the size {size}"),
         }
     }
@@ -164,11 +162,14 @@ impl fmt::Display for Reason {
             Refusal::DeniedByDrms(Some(moment)) => {
                 write!(f, "the reservation does not fit at moment {moment}")
             }
-            Refusal::TryLater { .. } => write!(f, "another caller has the turn"),
+            Refusal::TryLater { .. } => write!(f, "another client has the turn"),
             Refusal::Timeout => write!(f, "the wait's time is over"),
             Refusal::InvalidArgument(which) => write!(f, "{}", which.said()),
-            Refusal::InvalidSession => write!(f, "the session is not open"),
-            Refusal::InvalidState(state) => write!(f, "the state {state} does not permit it"),
+            Refusal::InvalidSession => write!(f, "there is no such open session"),
+            Refusal::InvalidState(state) => write!(
+                f,
+                "the job, in state {state}, does not permit it"
+            ),
             Refusal::OutOfResource(limit) => write!(f, "{limit}"),
             Refusal::OutOfMemory => write!(f, "out of memory"),
             Refusal::UnsupportedAttribute(attribute) => {

@@ -1,6 +1,6 @@
 //! A job's template that is made step by step, from its command on.
 //!
-//! Each step sets one attribute of GFD.231's JobTemplate and keeps the others. A step that needs memory takes it from
+//! Each step sets one attribute of GFD.231's JobTemplate, or adds to one (`slots` sets two), and keeps the others. A step that needs memory takes it from
 //! where the template has its own; where there is none it is an `Err`, and the template is let go.
 ghost use Rattle.std.specs.Prelude.{◌≡◌, ◌++◌, ◌∷◌, [], map, Some, true, IfOk};
 ghost use Rattle.job_template.specs.Blanks.{blank_template, wallclock};
@@ -115,7 +115,7 @@ impl JobTemplate {
     ///
     /// # Errors
     /// Want of memory.
-    pub fn folder(self, path: &str) -> Result<JobTemplate, AllocError>
+    pub fn directory(self, path: &str) -> Result<JobTemplate, AllocError>
         ensures { IfOk result (λ t. t ≡ record self { working_directory = Some path.now }) }
     {
         let (template, text) = self.with_text(path)?;
@@ -157,7 +157,7 @@ impl JobTemplate {
     ///
     /// # Errors
     /// Want of memory.
-    pub fn errors(self, path: &str) -> Result<JobTemplate, AllocError>
+    pub fn error(self, path: &str) -> Result<JobTemplate, AllocError>
         ensures { IfOk result (λ t. t ≡ record self { error_path = Some path.now }) }
     {
         let (template, text) = self.with_text(path)?;

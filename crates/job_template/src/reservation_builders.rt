@@ -1,6 +1,6 @@
 //! A reservation's template that is made step by step, from how long it lasts on.
 //!
-//! Each step sets one attribute of GFD.231's ReservationTemplate and keeps the others.
+//! Each step sets one attribute of GFD.231's ReservationTemplate (`slots` sets two) and keeps the others.
 ghost use Rattle.std.specs.Prelude.{◌≡◌, Some, IfOk};
 ghost use Rattle.job_template.specs.Blanks.{blank_reservation};
 

@@ -21,7 +21,7 @@ use Rattle.drmaa_model.specs.RowLaws.{all-filter, all-implied, all-map, all-push
 use Rattle.drmaa_model.specs.Rows.{is_of, with_course}
 use Rattle.drmaa_model.specs.Time.{lapsed, called_in}
 use Rattle.drmaa_model.specs.TimeLaws.{timed, lapsed-cases, called-cases, lapsed-wants, called-wants}
-use Rattle.plan_book.specs.Open.{is_over, AreOver, AreOpen, IsGreatest}
+use Rattle.plan_book.specs.Open.{is_over, AreOver, AreOpen, IsPriorityBound}
 use Rattle.plan_book.proofs.Searched.{all-removed}
 use Rattle.plan_book.proofs.SweepLaws.{lives}
 
@@ -167,38 +167,38 @@ max-second x y =
       | false ↦ λ e. int_lt-self y
     ]) refl
 
-greatest-up : (rows : List Row) (less more : ℤ) → int_lt more less ≡ false → IsGreatest rows less → IsGreatest rows more
+greatest-up : (rows : List Row) (less more : ℤ) → int_lt more less ≡ false → IsPriorityBound rows less → IsPriorityBound rows more
 greatest-up rows less more up all = all-implied (λ (row : Row). int_lt less row.wants.priority ≡ false) (λ (row : Row). int_lt more row.wants.priority ≡ false) (λ row h. int_lt-not more less row.wants.priority up h) rows all
 
-pub greatest-push : (rows : List Row) (row : Row) (was : ℤ) → IsGreatest rows was → IsGreatest (rows ++ row ∷ []) (int_max was row.wants.priority)
+pub greatest-push : (rows : List Row) (row : Row) (was : ℤ) → IsPriorityBound rows was → IsPriorityBound (rows ++ row ∷ []) (int_max was row.wants.priority)
 greatest-push rows row was all =
     let now = int_max was row.wants.priority in
     all-push (λ (r : Row). int_lt now r.wants.priority ≡ false) rows row (greatest-up rows was now (max-first was row.wants.priority) all) (max-second was row.wants.priority)
 
 -- jobs that want the same
-pub greatest-map : (f : Row → Row) → ((row : Row) → (f row).wants ≡ row.wants) → (rows : List Row) (greatest : ℤ) → IsGreatest rows greatest → IsGreatest (map f rows) greatest
+pub greatest-map : (f : Row → Row) → ((row : Row) → (f row).wants ≡ row.wants) → (rows : List Row) (greatest : ℤ) → IsPriorityBound rows greatest → IsPriorityBound (map f rows) greatest
 greatest-map f same rows greatest all =
     all-map (λ (row : Row). int_lt greatest row.wants.priority ≡ false) f rows
     (all-implied (λ (row : Row). int_lt greatest row.wants.priority ≡ false) (λ (row : Row). int_lt greatest (f row).wants.priority ≡ false)
     (λ row h. ap (λ (w : Wants). int_lt greatest w.priority) (same row) ∙ h) rows all)
 
-pub greatest-timed : (moment : ℕ) (rs : List Accepted) (rows : List Row) (greatest : ℤ) → IsGreatest rows greatest → IsGreatest (map (timed moment rs) rows) greatest
+pub greatest-timed : (moment : ℕ) (rs : List Accepted) (rows : List Row) (greatest : ℤ) → IsPriorityBound rows greatest → IsPriorityBound (map (timed moment rs) rows) greatest
 greatest-timed moment rs rows greatest all = greatest-map (timed moment rs) (λ row. called-wants moment rs (lapsed moment rs row) ∙ lapsed-wants moment rs row) rows greatest all
 
-pub greatest-step : (moment : ℕ) (t : Target) (what : Control) (rows : List Row) (greatest : ℤ) → IsGreatest rows greatest → IsGreatest (map (control_step moment t what) rows) greatest
+pub greatest-step : (moment : ℕ) (t : Target) (what : Control) (rows : List Row) (greatest : ℤ) → IsPriorityBound rows greatest → IsPriorityBound (map (control_step moment t what) rows) greatest
 greatest-step moment t what rows greatest all = greatest-map (control_step moment t what) (control-wants moment t what) rows greatest all
 
 with-wants : (job : JobId) (course : Course) (row : Row) → (with_course job course row).wants ≡ row.wants
 with-wants job course row =
     elim (is_of job row) as (λ b. (let r : Row = cond b (record row { course = course }) row in r).wants ≡ row.wants) [ true ↦ refl | false ↦ refl ]
 
-pub greatest-course : (job : JobId) (course : Course) (rows : List Row) (greatest : ℤ) → IsGreatest rows greatest → IsGreatest (map (with_course job course) rows) greatest
+pub greatest-course : (job : JobId) (course : Course) (rows : List Row) (greatest : ℤ) → IsPriorityBound rows greatest → IsPriorityBound (map (with_course job course) rows) greatest
 greatest-course job course rows greatest all = greatest-map (with_course job course) (with-wants job course) rows greatest all
 
 -- jobs that leave
-pub greatest-filter : (test : Row → Bool) (rows : List Row) (greatest : ℤ) → IsGreatest rows greatest → IsGreatest (filter test rows) greatest
+pub greatest-filter : (test : Row → Bool) (rows : List Row) (greatest : ℤ) → IsPriorityBound rows greatest → IsPriorityBound (filter test rows) greatest
 greatest-filter test rows greatest all = all-filter (λ (row : Row). int_lt greatest row.wants.priority ≡ false) test rows all
 
-pub greatest-removed : (rows left : List Row) (place : ℕ) (greatest : ℤ) → left ≡ remove rows place → IsGreatest rows greatest → IsGreatest left greatest
+pub greatest-removed : (rows left : List Row) (place : ℕ) (greatest : ℤ) → left ≡ remove rows place → IsPriorityBound rows greatest → IsPriorityBound left greatest
 greatest-removed rows left place greatest gone all =
-    subst (λ (rs : List Row). IsGreatest rs greatest) (sym gone) (all-removed number_of (λ (row : Row). int_lt greatest row.wants.priority ≡ false) rows place all)
+    subst (λ (rs : List Row). IsPriorityBound rs greatest) (sym gone) (all-removed number_of (λ (row : Row). int_lt greatest row.wants.priority ≡ false) rows place all)

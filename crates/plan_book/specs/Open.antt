@@ -20,5 +20,5 @@ pub record AreOver (n : ℕ) (rows : List Row) : Type 0 where
   pub over : AllByRecursion (λ (row : Row). is_over row ≡ true) (take n rows)
 
 -- no job has a greater priority
-abbrev pub IsGreatest : List Row → ℤ → Type 0
-IsGreatest rows greatest = AllByRecursion (λ (row : Row). int_lt greatest row.wants.priority ≡ false) rows
+abbrev pub IsPriorityBound : List Row → ℤ → Type 0
+IsPriorityBound rows greatest = AllByRecursion (λ (row : Row). int_lt greatest row.wants.priority ≡ false) rows

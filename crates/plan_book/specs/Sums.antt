@@ -6,7 +6,7 @@ use Rattle.drmaa_model.specs.declared.rows.Row.{Row}
 use Rattle.drmaa_model.specs.Order.{held}
 use Rattle.drmaa_model.specs.Size.{room_of, promised}
 use Rattle.drmaa_model.specs.Submitting.{kept_text}
-use Rattle.plan_book.specs.Open.{AreOver, IsGreatest}
+use Rattle.plan_book.specs.Open.{AreOver, IsPriorityBound}
 use Rattle.plan_book.specs.Owed.{owes, may_ask, reports_due, owed, askable, reports_to_come}
 use Rattle.plan_book.specs.Texts.{IsRoomBeside}
 use Rattle.plan_book.specs.declared.sums.Sums.{Sums}
@@ -26,7 +26,7 @@ pub record AreKept (rows : List Row) (sums : Sums) (room : Option ℕ) (front : 
   pub totals : AreSums rows sums
   pub text : IsRoomBeside (kept_text rows) room
   pub over : AreOver front rows
-  pub greatest : IsGreatest rows most
+  pub greatest : IsPriorityBound rows most
 
 -- the sums leave room for others
 pub record AreFew (sums : Sums) : Type 0 where

@@ -13,7 +13,7 @@ ghost use Rattle.drmaa_model.specs.Time.{advance_plan, is_accepted, rows_at, las
 ghost use Rattle.drmaa_model.specs.Load.{reservation_of};
 ghost use Rattle.plan_book.specs.Book.{plan_of, calendar_of, IsKept, spare, course_then};
 ghost use Rattle.plan_book.specs.Facts.{facts_of};
-ghost use Rattle.plan_book.specs.Open.{AreOpen, IsGreatest};
+ghost use Rattle.plan_book.specs.Open.{AreOpen, IsPriorityBound};
 ghost use Rattle.plan_book.specs.Owed.{reports_to_come};
 ghost use Rattle.plan_book.specs.Places.{AreInOrder};
 
@@ -179,10 +179,10 @@ impl Book {
     }
 
     /// A priority that no kept job's passes.
-    pub fn greatest_priority(&self) -> i32
-        ensures { IsGreatest (plan_of self.now).rows result }
+    pub fn priority_bound(&self) -> i32
+        ensures { IsPriorityBound (plan_of self.now).rows result }
     {
-        self.rows.greatest_priority()
+        self.rows.priority_bound()
     }
 
     /// The slots that all jobs hold.

@@ -15,7 +15,7 @@ ghost use Rattle.drmaa_model.specs.Size.{promised};
 ghost use Rattle.drmaa_model.specs.Submitting.{kept_text};
 ghost use Rattle.drmaa_model.specs.Targets.{is_meant};
 ghost use Rattle.drmaa_model.specs.TimeLaws.{timed};
-ghost use Rattle.plan_book.specs.Open.{AreOpen, IsGreatest};
+ghost use Rattle.plan_book.specs.Open.{AreOpen, IsPriorityBound};
 ghost use Rattle.plan_book.specs.Owed.{owed, askable, reports_to_come};
 ghost use Rattle.plan_book.specs.Passes.{ends, kills_then};
 ghost use Rattle.plan_book.specs.Places.{AreInOrder};
@@ -102,8 +102,8 @@ impl Rows {
     }
 
     /// A priority that no job's passes.
-    pub fn greatest_priority(&self) -> i32
-        ensures { IsGreatest self.now.items result }
+    pub fn priority_bound(&self) -> i32
+        ensures { IsPriorityBound self.now.items result }
     {
         self.greatest
     }

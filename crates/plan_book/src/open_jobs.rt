@@ -3,7 +3,7 @@ ghost use Rattle.std.specs.Prelude.{◌≡◌, ◌<◌, ◌≤◌, ◌++◌, fal
 ghost use Rattle.std.specs.Int.{int_max};
 ghost use Rattle.std.specs.List.{remove};
 ghost use Rattle.drmaa_model.specs.declared.rows.Row.{Row};
-ghost use Rattle.plan_book.specs.Open.{AreOver, IsGreatest, is_over};
+ghost use Rattle.plan_book.specs.Open.{AreOver, IsPriorityBound, is_over};
 
 use crate::states::{is_started, is_waiting};
 use drmaa_model::Row;
@@ -39,8 +39,8 @@ pub fn over_without(over: usize, place: usize) -> usize
 
 /// A priority that no job's passes, where none passes this one, once a job is forgotten. It looks at the jobs where that one had it.
 pub fn greatest_without(greatest: i32, gone: &Row, rows: &Vec<Row>) -> i32
-    requires { IsGreatest rows.now.items greatest }
-    ensures { IsGreatest rows.now.items result }
+    requires { IsPriorityBound rows.now.items greatest }
+    ensures { IsPriorityBound rows.now.items result }
 {
     if gone.wants.priority < greatest {
         return greatest;
@@ -50,8 +50,8 @@ pub fn greatest_without(greatest: i32, gone: &Row, rows: &Vec<Row>) -> i32
 
 /// A priority that no job's passes, where none passes this one. It goes over the jobs up to the first that has it.
 pub fn greatest_under(rows: &Vec<Row>, most: i32) -> i32
-    requires { IsGreatest rows.now.items most }
-    ensures { IsGreatest rows.now.items result }
+    requires { IsPriorityBound rows.now.items most }
+    ensures { IsPriorityBound rows.now.items result }
 {
     let mut greatest = i32::MIN;
     for row in rows {
@@ -65,7 +65,7 @@ pub fn greatest_under(rows: &Vec<Row>, most: i32) -> i32
 
 /// The greater of a priority that other jobs' don't pass, and those of more jobs.
 pub fn greatest_with(greatest: i32, more: &Vec<Row>) -> i32
-    ensures { (rows : List Row) → IsGreatest rows greatest → IsGreatest (rows ++ more.now.items) result }
+    ensures { (rows : List Row) → IsPriorityBound rows greatest → IsPriorityBound (rows ++ more.now.items) result }
 {
     let mut greatest = greatest;
     for row in more {

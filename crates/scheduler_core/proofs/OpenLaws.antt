@@ -16,7 +16,7 @@ use Rattle.drmaa_model.specs.Order.{better, first_in_order, has_slots, has_turn,
 use Rattle.drmaa_model.specs.Plan.{Plan}
 use Rattle.drmaa_model.specs.Time.{called_in, lapsed, lasts}
 use Rattle.drmaa_model.specs.TimeLaws.{timed, lapsed-cases, called-cases}
-use Rattle.plan_book.specs.Open.{AreOpen, IsGreatest, is_over}
+use Rattle.plan_book.specs.Open.{AreOpen, IsPriorityBound, is_over}
 use Rattle.scheduler_core.specs.Afters.{first_turn}
 use Rattle.scheduler_core.specs.Launches.{may_launch, seen, seen_row}
 use Rattle.scheduler_core.proofs.AfterLaws.{after-same}
@@ -111,10 +111,10 @@ all-drop P [] (suc i) all = tt
 all-drop P (x ∷ xs) (suc i) all = all-drop P xs i all.1
 
 -- those behind it, of the jobs that are open
-greatest-left : (greatest : ℤ) (all rows : List Row) (i : ℕ) → IsGreatest all greatest → AreOpen all rows → IsGreatest (drop i rows) greatest
+greatest-left : (greatest : ℤ) (all rows : List Row) (i : ℕ) → IsPriorityBound all greatest → AreOpen all rows → IsPriorityBound (drop i rows) greatest
 greatest-left greatest all rows i most are =
     all-drop (λ (row : Row). int_lt greatest row.wants.priority ≡ false) rows i
-    (all-behind (λ (row : Row). int_lt greatest row.wants.priority ≡ false) are.front rows (subst (λ (rs : List Row). IsGreatest rs greatest) are.parts most))
+    (all-behind (λ (row : Row). int_lt greatest row.wants.priority ≡ false) are.front rows (subst (λ (rs : List Row). IsPriorityBound rs greatest) are.parts most))
 
 not-less : (a b c : ℤ) → int_lt a b ≡ false → int_lt b c ≡ false → int_lt a c ≡ false
 not-less a b c high low = grind arith
@@ -123,7 +123,7 @@ stays : (best row : Row) (greatest : ℤ) → int_lt best.wants.priority greates
 stays best row greatest high low = ap (λ (b : Bool). cond b row best) (not-less best.wants.priority greatest row.wants.priority high low)
 
 last-word : (at : Row → Row) → ((r : Row) → (at r).wants ≡ r.wants) → (test : Row → Bool) (best : Row) (greatest : ℤ) → int_lt best.wants.priority greatest ≡ false
-    → (rows : List Row) → IsGreatest rows greatest → first_of (Some (at best)) (first_in_order (filter test (map at rows))) ≡ Some (at best)
+    → (rows : List Row) → IsPriorityBound rows greatest → first_of (Some (at best)) (first_in_order (filter test (map at rows))) ≡ Some (at best)
 last-word at same test best greatest high [] most = refl
 last-word at same test best greatest high (row ∷ rows) most =
     (elim (test (at row)) as (λ (t : Bool). test (at row) ≡ t → first_of (Some (at best)) (first_in_order (filter test (map at (row ∷ rows)))) ≡ Some (at best)) [
@@ -136,7 +136,7 @@ last-word at same test best greatest high (row ∷ rows) most =
 -- no job that is left of those that are open stands before the best so far
 pub none-better : (at : Row → Row) → ((r : Row) → (at r).wants ≡ r.wants) → (test : Row → Bool) (best : Option Row) (greatest : ℤ)
     → option_map_or (λ (first : Row). not (int_lt first.wants.priority greatest)) best false ≡ true
-    → (all rows : List Row) (i : ℕ) → IsGreatest all greatest → AreOpen all rows
+    → (all rows : List Row) (i : ℕ) → IsPriorityBound all greatest → AreOpen all rows
     → option_map at best ≡ first_of (option_map at best) (first_in_order (filter test (map at (drop i rows))))
 none-better at same test None greatest high all rows i most are = absurd (cc)
 none-better at same test (Some best) greatest high all rows i most are =

@@ -34,7 +34,7 @@ pub fn first_ready_at<'a>(book: &'a Book, moment: Moment, used: u32) -> Option<&
     if used >= book.total() {
         return None;
     }
-    let greatest = book.greatest_priority();
+    let greatest = book.priority_bound();
     let mut best: Option<&Row> = None;
     let mut known = Known::new();
     for row in book.open_rows() {

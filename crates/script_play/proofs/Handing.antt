@@ -240,7 +240,7 @@ take-both (suc n) m (x ∷ xs) within =
 -- ---- lines
 
 -- the lines from a place on
-drop-line : (xs : List Line) (i : ℕ) (d : Line) → i < length xs → d ≡ get_or xs i d → drop i xs ≡ d ∷ drop (i + 1) xs
+pub drop-line : (xs : List Line) (i : ℕ) (d : Line) → i < length xs → d ≡ get_or xs i d → drop i xs ≡ d ∷ drop (i + 1) xs
 drop-line [] i d within is = absurd (omega (arith, within))
 drop-line (x ∷ xs) zero d within is = ap (λ (y : Line). y ∷ xs) (sym is)
 drop-line (x ∷ xs) (suc i) d within is =

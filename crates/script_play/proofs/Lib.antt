@@ -1,3 +1,4 @@
+pub mod Along
 pub mod Copies
 pub mod Fronts
 pub mod Handing

@@ -24,7 +24,7 @@ all_of s p =
     plays.play_clients s first.names 1 first s.clients
 
 -- a play that has not begun is one from its machine's world
-opens : (v : View) → v ≡ unplayed v.ledger → playing v ≡ opening_in (now_of v.ledger)
+pub opens : (v : View) → v ≡ unplayed v.ledger → playing v ≡ opening_in (now_of v.ledger)
 opens v is = ap (λ (u : View). playing u) is ∙ ap (λ (es : List Entry). record (opening_in (now_of v.ledger)) { entries = es }) (drop-length v.ledger.history)
 
 served_by : Config → List Entry → Ledger
@@ -73,6 +73,10 @@ made_err {E = E} {V = V} (Err why) r v P is p = subst (λ (x : Result V E). OnEr
 pub err_so : {A E : Type 0} (r : Result A E) (P Q : Type 0) → OnErr r P → (P → Q) → OnErr r Q
 err_so (Ok a) P Q p f = tt
 err_so (Err why) P Q p f = f p
+
+pub ok_so : {A E : Type 0} (r : Result A E) (P Q : Type 0) → IfOk r (λ _. P) → (P → Q) → IfOk r (λ _. Q)
+ok_so (Ok a) P Q p f = f p
+ok_so (Err why) P Q p f = tt
 
 -- two things that hold once a call was well
 pub both_ok : {A E : Type 0} (r : Result A E) (P Q : Type 0) → IfOk r (λ _. P) → IfOk r (λ _. Q) → IfOk r (λ _. P × Q)

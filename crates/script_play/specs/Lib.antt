@@ -1,3 +1,4 @@
+pub mod Along
 pub mod CallbackLaws
 pub mod Callbacks
 pub mod Crews

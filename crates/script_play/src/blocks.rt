@@ -3,6 +3,7 @@ ghost use Rattle.std.specs.Prelude.{◌≡◌, ◌≤◌, length, IfOk, OnErr};
 ghost use Rattle.notify_hub.specs.Ears.{HaveHeard};
 ghost use Rattle.script_text.specs.Follows.{lines_of};
 ghost use Rattle.script_asks.specs.Plays as plays;
+ghost use Rattle.script_play.specs.Along.{after_lines, after_client_lines, after_block_lines, histories, HeardAlong, HeardPart};
 ghost use Rattle.script_play.specs.Callbacks.{AreCurrentAfter, HaveFrontAfter};
 ghost use Rattle.script_play.specs.Crews.{crew_meant};
 ghost use Rattle.script_play.specs.Looks.{GoesTo};
@@ -31,6 +32,8 @@ fn play_lines<B: Callback>(
     ensures played { IfOk result (λ _. GoesTo player.old (plays.play_lines script.now (crew_meant crew) (playing player.old) lines.now) player.new) }
     ensures current { IfOk result (λ _. AreCurrentAfter B.counted B.told player.new.start.callbacks player.new.ledger ears.new) }
     ensures front { OnErr result (HaveFrontAfter B.counted B.told player.old.ledger.config player.old.start (plays.play_lines script.now (crew_meant crew) (playing player.old) lines.now).entries ears.new) }
+    ensures along { IfOk result (λ _. HeardAlong B.counted B.told player.old.start.callbacks player.old.ledger.config (histories player.old.start.entries (after_lines script.now (crew_meant crew) (playing player.old) lines.now)) ears.old ears.new) }
+    ensures part { OnErr result (HeardPart B.counted B.told player.old.start.callbacks player.old.ledger.config (histories player.old.start.entries (after_lines script.now (crew_meant crew) (playing player.old) lines.now)) ears.old ears.new) }
     ensures begun { ears.new.begun ≡ ears.old.begun }
     ensures heard { HaveHeard B.counted B.told ears.new }
 {
@@ -56,6 +59,8 @@ fn play_setup<B: Callback>(
     ensures current { IfOk result (λ _. AreCurrentAfter B.counted B.told player.new.start.callbacks player.new.ledger ears.new) }
     ensures front { OnErr result (HaveFrontAfter B.counted B.told player.old.ledger.config player.old.start
         (plays.play_lines script.now (plays.crew_of (length script.now.clients) 0) (playing player.old) (lines_of script.now.setup)).entries ears.new) }
+    ensures along { IfOk result (λ _. HeardAlong B.counted B.told player.old.start.callbacks player.old.ledger.config (histories player.old.start.entries (after_lines script.now (plays.crew_of (length script.now.clients) 0) (playing player.old) (lines_of script.now.setup))) ears.old ears.new) }
+    ensures part { OnErr result (HeardPart B.counted B.told player.old.start.callbacks player.old.ledger.config (histories player.old.start.entries (after_lines script.now (plays.crew_of (length script.now.clients) 0) (playing player.old) (lines_of script.now.setup))) ears.old ears.new) }
     ensures begun { ears.new.begun ≡ ears.old.begun }
     ensures heard { HaveHeard B.counted B.told ears.new }
 {
@@ -83,6 +88,8 @@ fn play_client<B: Callback>(
     ensures current { IfOk result (λ _. AreCurrentAfter B.counted B.told player.new.start.callbacks player.new.ledger ears.new) }
     ensures front { OnErr result (HaveFrontAfter B.counted B.told player.old.ledger.config player.old.start
         (plays.play_lines script.now (crew_meant crew) (record (playing player.old) { names = names.now }) block.now).entries ears.new) }
+    ensures along { IfOk result (λ _. HeardAlong B.counted B.told player.old.start.callbacks player.old.ledger.config (histories player.old.start.entries (after_lines script.now (crew_meant crew) (record (playing player.old) { names = names.now }) block.now)) ears.old ears.new) }
+    ensures part { OnErr result (HeardPart B.counted B.told player.old.start.callbacks player.old.ledger.config (histories player.old.start.entries (after_lines script.now (crew_meant crew) (record (playing player.old) { names = names.now }) block.now)) ears.old ears.new) }
     ensures begun { ears.new.begun ≡ ears.old.begun }
     ensures heard { HaveHeard B.counted B.told ears.new }
 {
@@ -104,6 +111,8 @@ fn play_clients<B: Callback>(
     ensures played { IfOk result (λ _. GoesTo player.old (plays.play_clients script.now names.now 1 (playing player.old) script.now.clients) player.new) }
     ensures current { IfOk result (λ _. AreCurrentAfter B.counted B.told player.new.start.callbacks player.new.ledger ears.new) }
     ensures front { OnErr result (HaveFrontAfter B.counted B.told player.old.ledger.config player.old.start (plays.play_clients script.now names.now 1 (playing player.old) script.now.clients).entries ears.new) }
+    ensures along { IfOk result (λ _. HeardAlong B.counted B.told player.old.start.callbacks player.old.ledger.config (histories player.old.start.entries (after_client_lines script.now names.now 1 (playing player.old) script.now.clients)) ears.old ears.new) }
+    ensures part { OnErr result (HeardPart B.counted B.told player.old.start.callbacks player.old.ledger.config (histories player.old.start.entries (after_client_lines script.now names.now 1 (playing player.old) script.now.clients)) ears.old ears.new) }
     ensures begun { ears.new.begun ≡ ears.old.begun }
     ensures heard { HaveHeard B.counted B.told ears.new }
 {
@@ -142,6 +151,8 @@ pub fn play_blocks<B: Callback>(
     ensures front { OnErr result (HaveFrontAfter B.counted B.told player.old.ledger.config player.old.start
         (let first = plays.play_lines script.now (plays.crew_of (length script.now.clients) 0) (playing player.old) (lines_of script.now.setup) in
         plays.play_clients script.now first.names 1 first script.now.clients).entries ears.new) }
+    ensures along { IfOk result (λ _. HeardAlong B.counted B.told player.old.start.callbacks player.old.ledger.config (histories player.old.start.entries (after_block_lines script.now (playing player.old))) ears.old ears.new) }
+    ensures part { OnErr result (HeardPart B.counted B.told player.old.start.callbacks player.old.ledger.config (histories player.old.start.entries (after_block_lines script.now (playing player.old))) ears.old ears.new) }
     ensures begun { ears.new.begun ≡ ears.old.begun }
     ensures heard { HaveHeard B.counted B.told ears.new }
 {

@@ -2,6 +2,7 @@
 ghost use Rattle.std.specs.Prelude.{◌≡◌, take, length};
 ghost use Rattle.drmaa_model.specs.History.{IsLegal, now_of};
 ghost use Rattle.notify_hub.specs.Ears.{HaveHeard, silent};
+ghost use Rattle.script_play.specs.Along.{IsHandedOn};
 ghost use Rattle.script_play.specs.Callbacks.{AreCurrentAfter, AreBehind};
 ghost use Rattle.script_play.specs.View.{start_of};
 
@@ -14,6 +15,7 @@ fn hand_over<B: Callback>(player: &Player, from: usize, ears: &mut Ears<B>)
     requires count { length ears.old.handed ≡ from }
     ensures handed { ears.new ≡ record ears.old { callbacks = ears.new.callbacks; handed = (now_of player.now.ledger).plan.changes } }
     ensures heard { HaveHeard B.counted B.told ears.old → HaveHeard B.counted B.told ears.new }
+    ensures further { IsHandedOn B.counted B.told ears.old ears.new }
 {
     let count = player.counts().changes as u64;
     let mut next = from as u64;
@@ -32,6 +34,7 @@ pub fn pass_over<B: Callback>(player: &Player, ears: &mut Ears<B>)
     requires unheard { HaveHeard B.counted B.told ears.old }
     ensures current { AreCurrentAfter B.counted B.told player.now.start.callbacks player.now.ledger ears.new }
     ensures begun { ears.new.begun ≡ ears.old.begun }
+    ensures further { IsHandedOn B.counted B.told ears.old ears.new }
 {
     hand_over(player, 0, ears);
 }
@@ -42,6 +45,7 @@ pub fn hear<B: Callback>(player: &Player, before: Counts, ears: &mut Ears<B>)
     requires { AreBehind B.counted B.told player.now.start.callbacks before.entries before.changes player.now.ledger ears.old }
     ensures current { AreCurrentAfter B.counted B.told player.now.start.callbacks player.now.ledger ears.new }
     ensures begun { ears.new.begun ≡ ears.old.begun }
+    ensures further { IsHandedOn B.counted B.told ears.old ears.new }
 {
     let Counts { entries, changes } = before;
     if let Some(number) = player.registered(entries) {

@@ -10,7 +10,7 @@ mod names;
 mod players;
 mod serial;
 
-pub use laws::each_script_can_be_played;
+pub use laws::{each_beginning_is_heard, each_script_can_be_played};
 pub use names::Names;
 pub use players::beginning;
 pub use serial::{Played, copy_of, new_machine, play, play_on};

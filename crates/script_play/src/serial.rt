@@ -3,7 +3,8 @@ ghost use Rattle.std.specs.Prelude.{◌≡◌, ◌≤◌, [], ◌++◌, length, 
 ghost use Rattle.drmaa_model.specs.History.{now_of};
 ghost use Rattle.notify_hub.specs.Ears.{HaveHeard, silent};
 ghost use Rattle.notify_hub.specs.Places.{registrations_of};
-ghost use Rattle.script_asks.specs.Plays.{serial_play, serial_play_from};
+ghost use Rattle.script_asks.specs.Plays.{serial_play, serial_play_from, opening_in};
+ghost use Rattle.script_play.specs.Along.{after_block_lines, histories, HeardAlong, HeardPart, HeardPlay, HeardPlayPart};
 ghost use Rattle.script_play.specs.Callbacks.{AreCurrent, HaveFront, AreCurrentAfter, HaveFrontAfter};
 ghost use Rattle.script_play.specs.Playable.{IsPlayable};
 ghost use Rattle.script_play.specs.Served.{IsServed};
@@ -83,6 +84,8 @@ fn play_from<B: Callback>(
     ensures served { IfOk result (IsServed player.ledger script.now) }
     ensures current { IfOk result (λ after. AreCurrentAfter B.counted B.told player.start.callbacks after.ledger ears.new) }
     ensures front { OnErr result (HaveFrontAfter B.counted B.told player.ledger.config player.start (serial_play_from (now_of player.ledger) script.now).entries ears.new) }
+    ensures along { IfOk result (λ _. HeardAlong B.counted B.told player.start.callbacks player.ledger.config (histories player.start.entries (after_block_lines script.now (opening_in (now_of player.ledger)))) ears.old ears.new) }
+    ensures part { OnErr result (HeardPart B.counted B.told player.start.callbacks player.ledger.config (histories player.start.entries (after_block_lines script.now (opening_in (now_of player.ledger)))) ears.old ears.new) }
     ensures begun { ears.new.begun ≡ ears.old.begun }
     ensures heard { HaveHeard B.counted B.told ears.new }
 {
@@ -123,6 +126,8 @@ pub fn play_on<B: Callback>(
     ensures full { IfOk result (λ played. played.full ≡ (serial_play_from (now_of machine.ledger) script.now).full) }
     ensures current { IfOk result (λ played. AreCurrentAfter B.counted B.told (registrations_of machine.ledger.config machine.ledger.history) played.machine.ledger ears.new) }
     ensures front { OnErr result (HaveFrontAfter B.counted B.told machine.ledger.config (start_of machine.ledger) (serial_play_from (now_of machine.ledger) script.now).entries ears.new) }
+    ensures along { IfOk result (λ _. HeardPlay B.counted B.told machine.ledger script.now ears.old ears.new) }
+    ensures part { OnErr result (HeardPlayPart B.counted B.told machine.ledger script.now ears.old ears.new) }
     ensures begun { ears.new.begun ≡ ears.old.begun }
     ensures heard { HaveHeard B.counted B.told ears.new }
 {
@@ -151,6 +156,8 @@ pub fn play<B: Callback>(
     ensures full { IfOk result (λ played. played.full ≡ (serial_play script.now).full) }
     ensures current { IfOk result (λ played. AreCurrent B.counted B.told played.machine.ledger ears.new) }
     ensures front { OnErr result (HaveFront B.counted B.told script.now.config (serial_play script.now).entries ears.new) }
+    ensures along { IfOk result (λ _. HeardPlay B.counted B.told (record { config = script.now.config; history = [] }) script.now ears.old ears.new) }
+    ensures part { OnErr result (HeardPlayPart B.counted B.told (record { config = script.now.config; history = [] }) script.now ears.old ears.new) }
     ensures begun { ears.new.begun ≡ ears.old.begun }
     ensures heard { HaveHeard B.counted B.told ears.new }
 {

@@ -22,6 +22,8 @@ mod infos;
 #[cfg(test)]
 mod jobs;
 #[cfg(test)]
+mod listed;
+#[cfg(test)]
 mod machines;
 #[cfg(test)]
 mod one_clock;

@@ -33,10 +33,10 @@ take-first : (front back : List Line) → take (length front) (front ++ back) �
 take-first [] back = refl
 take-first (l ∷ front) back = ap (λ (ls : List Line). l ∷ ls) (take-first front back)
 
-up-to-none : (s : Script) (names : List (List ℕ × Given)) (n : ℕ) (block : List Line) (caller : ℕ) (history : List Entry) → NoneRegisters s → slice_get s.clients n ≡ Some block
-    → PlaysUpTo s names block caller history → AllByRecursion IsNoRegister (calls_of history caller)
-up-to-none s names n block caller history none at (inl p) = none.whole names 0 n block (calls_of history caller) at p
-up-to-none s names n block caller history none at (inr (size, cut)) =
+up-to-none : {C : Type 0} (given : C → Option (List ℕ)) (clocks : List C) (s : Script) (names : List (List ℕ × Given)) (n : ℕ) (block : List Line) (caller : ℕ) (history : List Entry) → NoneRegisters s → slice_get s.clients n ≡ Some block
+    → PlaysUpTo given clocks s names block caller history → AllByRecursion IsNoRegister (calls_of history caller)
+up-to-none given clocks s names n block caller history none at (inl p) = none.whole names 0 n block (calls_of history caller) at p
+up-to-none given clocks s names n block caller history none at (inr (size, cut)) =
     none.part names 0 n block (calls_of history caller) at (
       length cut.front,
       subst (λ (ls : List Line). Plays s names 0 ls (calls_of history caller)) (sym (ap (λ (ls : List Line). take (length cut.front) ls) cut.lines ∙ take-first cut.front (cut.line ∷ cut.back))) cut.played,
@@ -97,7 +97,7 @@ module _ {C : Type 0} (given : C → Option (List ℕ)) (s : Script) (history : 
   client-none : (full : Option ℕ) → EndsBy given s history asked asked2 fate clocks full → (i : ℕ) (block : List Line) → slice_get s.clients i ≡ Some block → AllByRecursion IsNoRegister (calls_of history (i + 1))
   client-none None e i block at = none.whole (names_given s history) 0 i block (calls_of history (i + 1)) at (e.plays.clients i block at)
   client-none (Some size) (in_setup cut alone unasked callers) i block at = none-none (calls_of history (i + 1)) (alone (i + 1) (omega arith))
-  client-none (Some size) (behind_setup setup clients met launched callers) i block at = up-to-none s (names_given s history) i block (i + 1) history none at (clients i block at)
+  client-none (Some size) (behind_setup setup clients met launched callers) i block at = up-to-none given clocks s (names_given s history) i block (i + 1) history none at (clients i block at)
 
   -- nobody registers a callback behind setup
   run-none : (full : Option ℕ) → HasRun given s history asked asked2 fate clocks full → (k : ℕ) → 1 ≤ k → AllByRecursion IsNoRegister (calls_of history k)

@@ -12,6 +12,7 @@ use Rattle.turn_lock.specs.Histories.{BeginsWith}
 use Rattle.turn_lock.specs.Tokens.{Named, BelongsTo}
 use Rattle.call_history.specs.Clients.{Seat, seen_of, mine_of, number_of, retired_of, KnowsItsOwn}
 use Rattle.call_history.specs.ClientLaws.{begins-both}
+use Rattle.call_history.specs.Clocks.{dial}
 use Rattle.call_history.specs.Timed.{IsTimed}
 use Rattle.notify_hub.specs.Hubs.{Following}
 use Rattle.script_text.specs.declared.scripts.Script.{Script}
@@ -19,7 +20,7 @@ use Rattle.script_asks.specs.declared.given.Given.{Given}
 use Rattle.attendant.specs.declared.reaper.Held.{Held}
 use Rattle.attendant.specs.declared.reaper.Hand.{Hand}
 use Rattle.attendant.specs.Acts.{acts_of, own_acts, Act}
-use Rattle.attendant.specs.Posts.{Gives}
+use Rattle.attendant.specs.Posts.{IsStillAt}
 use Rattle.attendant.specs.Outside.{Tends, Keeps, AgreesOf}
 use Rattle.block_play.specs.declared.stops.Stopped.{Stopped}
 use Rattle.block_play.specs.declared.stops.Stopped.TheVariants as stopped
@@ -28,12 +29,12 @@ use Rattle.thread_play.specs.declared.workers.Worker.{Worker}
 use Rattle.thread_play.specs.Stages.{Hired, HavePlayed, Dismissed, EndsAs, worse, worst, with_back}
 use Rattle.thread_play.specs.Hubs.{FollowsAll, IsReturned}
 use Rattle.thread_play.specs.Pairs.{launcher_at, reaping_at, HasAttended, HasEnded, AreReleased}
-use Rattle.thread_play.specs.Others.{IsEnded, by_attendant, by_client, Ends, Others, OthersHeard}
+use Rattle.thread_play.specs.Others.{IsEnded, HasGoneOn, by_attendant, by_client, Ends, Others, OthersHeard}
 use Rattle.thread_play.proofs.Lists.{set-between, length-mapped, some-item}
 use Rattle.thread_play.proofs.Clients.{Lists, own_lists, hired-count, with_back-all, worst-none, worst-full}
 use Rattle.thread_play.proofs.Callers.{launcher-at-once, reaper-at-once}
-use Rattle.thread_play.proofs.Posts.{still-timed, none-timed}
-use Rattle.thread_play.proofs.Endings.{gives-none, held-tended, full-held, whole-ok}
+use Rattle.thread_play.proofs.Posts.{still-timed, none-timed, told-on}
+use Rattle.thread_play.proofs.Endings.{post-itself, held-tended, full-held, whole-ok}
 
 -- a client that was opened last
 pub record IsOpened (shared : Named Config) (o p : Seat) (client : Seat) : Type 0 where
@@ -94,12 +95,6 @@ module _ {C T : Type 0} (given : C → Option (List ℕ)) (least : C → ℕ) (t
   known-first = begins-same (seen_of pd.launcher) (seen_of pa.launcher) (seen_of o)
       (begins-both (seen_of pa.launcher) (seen_of pb.launcher) (seen_of pd.launcher) a.launcher.begins (begins-both (seen_of pb.launcher) (seen_of pc.launcher) (seen_of pd.launcher) bc cd))
       (ol.begins ∙ hired.seen)
-
-  launcher-b : BeginsWith (seen_of p5) (seen_of pb.launcher)
-  launcher-b = at-last (seen_of pb.launcher) (begins-both (seen_of pb.launcher) (seen_of pd.launcher) (seen_of p4) (begins-both (seen_of pb.launcher) (seen_of pc.launcher) (seen_of pd.launcher) bc cd) rel.launcher)
-
-  reaping-b : BeginsWith (seen_of p5) (seen_of pb.reaping)
-  reaping-b = at-last (seen_of pb.reaping) (begins-same (seen_of p4) (seen_of pc.reaping) (seen_of pb.reaping) (begins-both (seen_of pc.reaping) (seen_of pd.reaping) (seen_of p4) e.reaping.begins rel.reaping) (ap (λ (x : Seat). seen_of x) same_r))
 
   -- ---- what launcher and reaper keep
 
@@ -207,17 +202,55 @@ module _ {C T : Type 0} (given : C → Option (List ℕ)) (least : C → ℕ) (t
   own-middle : KnowsItsOwn pc.reaping
   own-middle = subst (λ (x : Seat). KnowsItsOwn x) (sym same_r) (a.reaping.own or.own)
 
-  launcher-timed : IsTimed (mine_of pd.launcher) (given pd.launcher_clock)
-  launcher-timed =
+  launcher-timed-middle : IsTimed (mine_of pc.launcher) (given pc.launcher_clock)
+  launcher-timed-middle =
       let one : IsTimed (mine_of pb.launcher) (given pb.launcher_clock) = still-timed (launcher_at given least shared pa) (launcher_at given least shared pb) a.launcher (launcher-at-once [] (mine_of pb.launcher) tends-b.launches) (none-timed (given pa.launcher_clock) (mine_of pa.launcher) ol.mine) in
-      let two : IsTimed (mine_of pc.launcher) (given pc.launcher_clock) = subst (λ (es : List Entry). IsTimed es (given pc.launcher_clock)) (sym d.mine) (subst (λ (c : C). IsTimed (mine_of pb.launcher) (given c)) (sym clock_l) one) in
-      still-timed (launcher_at given least shared pc) (launcher_at given least shared pd) e.launcher (launcher-at-once [] (mine_of pd.launcher) tends-d.launches) two
+      subst (λ (es : List Entry). IsTimed es (given pc.launcher_clock)) (sym d.mine) (subst (λ (c : C). IsTimed (mine_of pb.launcher) (given c)) (sym clock_l) one)
+
+  launcher-timed : IsTimed (mine_of pd.launcher) (given pd.launcher_clock)
+  launcher-timed = still-timed (launcher_at given least shared pc) (launcher_at given least shared pd) e.launcher (launcher-at-once [] (mine_of pd.launcher) tends-d.launches) launcher-timed-middle
+
+  reaping-timed-middle : IsTimed (mine_of pc.reaping) (given pc.reaping_clock)
+  reaping-timed-middle =
+      let one : IsTimed (mine_of pb.reaping) (given pb.reaping_clock) = still-timed (reaping_at given least shared pa) (reaping_at given least shared pb) a.reaping (reaper-at-once [] (mine_of pb.reaping) tends-b.reports) (none-timed (given pa.reaping_clock) (mine_of pa.reaping) or.mine) in
+      subst (λ (x : Seat). IsTimed (mine_of x) (given pc.reaping_clock)) (sym same_r) (subst (λ (c : C). IsTimed (mine_of pb.reaping) (given c)) (sym clock_r) one)
 
   reaping-timed : IsTimed (mine_of pd.reaping) (given pd.reaping_clock)
-  reaping-timed =
-      let one : IsTimed (mine_of pb.reaping) (given pb.reaping_clock) = still-timed (reaping_at given least shared pa) (reaping_at given least shared pb) a.reaping (reaper-at-once [] (mine_of pb.reaping) tends-b.reports) (none-timed (given pa.reaping_clock) (mine_of pa.reaping) or.mine) in
-      let two : IsTimed (mine_of pc.reaping) (given pc.reaping_clock) = subst (λ (x : Seat). IsTimed (mine_of x) (given pc.reaping_clock)) (sym same_r) (subst (λ (c : C). IsTimed (mine_of pb.reaping) (given c)) (sym clock_r) one) in
-      still-timed (reaping_at given least shared pc) (reaping_at given least shared pd) e.reaping (reaper-at-once [] (mine_of pd.reaping) tends-d.reports) two
+  reaping-timed = still-timed (reaping_at given least shared pc) (reaping_at given least shared pd) e.reaping (reaper-at-once [] (mine_of pd.reaping) tends-d.reports) reaping-timed-middle
+
+  -- ---- from the first work of launcher and reaper to the last, and from the last alone
+
+  launcher-gone : HasGoneOn shared (launcher_at given least shared pa) (launcher_at given least shared pb) (launcher_at given least shared pd)
+  launcher-gone = record {
+    shared_is = refl;
+    number = e.launcher.number ∙ (d.launcher.number ∙ a.launcher.number);
+    own = ol.own;
+    timed = none-timed (given pa.launcher_clock) (mine_of pa.launcher) ol.mine;
+    on = subst (λ (c : C). IsStillAt (record { shared = shared; client = pb.launcher; clock = dial (given c) (least c) }) (launcher_at given least shared pd)) clock_l
+        (told-on shared pb.launcher pc.launcher (dial (given pc.launcher_clock) (least pc.launcher_clock)) (launcher_at given least shared pd) d.launcher d.mine e.launcher);
+  }
+
+  reaping-gone : HasGoneOn shared (reaping_at given least shared pa) (reaping_at given least shared pb) (reaping_at given least shared pd)
+  reaping-gone = record {
+    shared_is = refl;
+    number = e.reaping.number ∙ (ap (λ (x : Seat). number_of x) same_r ∙ a.reaping.number);
+    own = or.own;
+    timed = none-timed (given pa.reaping_clock) (mine_of pa.reaping) or.mine;
+    on = subst (λ (c : C). IsStillAt (record { shared = shared; client = pb.reaping; clock = dial (given c) (least c) }) (reaping_at given least shared pd)) clock_r
+        (subst (λ (x : Seat). IsStillAt (record { shared = shared; client = x; clock = dial (given pc.reaping_clock) (least pc.reaping_clock) }) (reaping_at given least shared pd)) same_r e.reaping);
+  }
+
+  launcher-ended : HasGoneOn shared (launcher_at given least shared pc) (launcher_at given least shared pd) (launcher_at given least shared pd)
+  launcher-ended = record {
+    shared_is = refl;
+    number = e.launcher.number;
+    own = d.launcher.own (a.launcher.own ol.own);
+    timed = launcher-timed-middle;
+    on = post-itself (launcher_at given least shared pd) e.launcher.client;
+  }
+
+  reaping-ended : HasGoneOn shared (reaping_at given least shared pc) (reaping_at given least shared pd) (reaping_at given least shared pd)
+  reaping-ended = record { shared_is = refl; number = e.reaping.number; own = own-middle; timed = reaping-timed-middle; on = post-itself (reaping_at given least shared pd) e.reaping.client }
 
   -- ---- the lists of those that are back
 
@@ -280,18 +313,15 @@ module _ {C T : Type 0} (given : C → Option (List ℕ)) (least : C → ℕ) (t
 
   -- ---- how it ended
 
-  ends-by : (full : Option ℕ) → after ≡ stop_at full → Ends shared (length s.clients + 2) p5 vs (launcher_at given least shared pd) pd.reaping (given pd.reaping_clock) full
+  ends-by : (full : Option ℕ) → after ≡ stop_at full → Ends shared vs (launcher_at given least shared pd) (reaping_at given least shared pd) full
   ends-by None is = let so = (e.whole is).1 in record { ended = (well is).1; settled = so.settled; begins = so.begins }
   ends-by (Some size) is = elim (e.full size is) [
     | inl before ↦ elim ((worst-full (worse None end) vs size (sym worst_is ∙ before)).cause) [
-      | inl attendants ↦ by_attendant (launcher_at given least shared pa) (launcher_at given least shared pb) (reaping_at given least shared pa) (reaping_at given least shared pb) refl refl or.own reaping-first
-          (held-tended _ _ _ _ _ _ tends-a (full-held given least told shared pa pb _ r end size ends_so attendants a.held_up)) launcher-b reaping-b
-          e.launcher.readings e.reaping.readings (subst (λ (c : C). Gives (given c) e.launcher.readings (given pd.launcher_clock)) clock_l e.launcher.gave)
-          (subst (λ (c : C). Gives (given c) e.reaping.readings (given pd.reaping_clock)) clock_r e.reaping.gave)
+      | inl attendants ↦ by_attendant (launcher_at given least shared pa) (launcher_at given least shared pb) (reaping_at given least shared pa) (reaping_at given least shared pb) launcher-gone reaping-gone
+          (held-tended _ _ _ _ _ _ tends-a (full-held given least told shared pa pb _ r end size ends_so attendants a.held_up))
       | inr met ↦ by_client met.place met.item met.within met.met
     ]
-    | inr then ↦ by_attendant (launcher_at given least shared pc) (launcher_at given least shared pd) (reaping_at given least shared pc) (reaping_at given least shared pd) refl refl own-middle reaping-middle (held-tended _ _ _ _ _ _ tends-c then.1) (at-last (seen_of pd.launcher) rel.launcher) (at-last (seen_of pd.reaping) rel.reaping)
-        [] [] (gives-none (given pd.launcher_clock)) (gives-none (given pd.reaping_clock))
+    | inr then ↦ by_attendant (launcher_at given least shared pc) (launcher_at given least shared pd) (reaping_at given least shared pc) (reaping_at given least shared pd) launcher-ended reaping-ended (held-tended _ _ _ _ _ _ tends-c then.1)
   ]
 
   pub others-made : (full : Option ℕ) → after ≡ stop_at full → Others given told s names shared o p5 asked asked2 fate2 clocks0 clocks3 full
@@ -307,6 +337,7 @@ module _ {C T : Type 0} (given : C → Option (List ℕ)) (least : C → ℕ) (t
     launcher_back = record { number_is = launcher-number; own = e.launcher.own (d.launcher.own (a.launcher.own ol.own)); timed = launcher-timed };
     reaping = pd.reaping;
     reaping_clock = pd.reaping_clock;
+    reaping_least = least pd.reaping_clock;
     reaping_back = record { number_is = e.reaping.number ∙ reaping-middle; own = e.reaping.own own-middle; timed = reaping-timed };
     pass = pass;
     pass_clock = clock_h;
@@ -314,6 +345,7 @@ module _ {C T : Type 0} (given : C → Option (List ℕ)) (least : C → ℕ) (t
     retired = lists;
     clocks_are = all-clocks;
     known = at-last (seen_of pd.launcher) rel.launcher;
+    known_reaping = at-last (seen_of pd.reaping) rel.reaping;
     known_first = known-first;
     known_clients = λ i v h. begins-both (seen_of (slice_index_or vs i v).client) (seen_of pc.launcher) (seen_of pd.launcher) (d.told i v h) cd;
     at = at2;

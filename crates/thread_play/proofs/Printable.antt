@@ -24,9 +24,9 @@ attended : ((e : Entry) → is_attendants e.call ≡ true → CallMayStand e) �
 attended each [] all = tt
 attended each (e ∷ es) all = (each e all.0, attended each es all.1)
 
-up-to-stands : (s : Script) (names : List (List ℕ × Given)) (block : List Line) (caller : ℕ) (history : List Entry) → AskedStands s → PlaysUpTo s names block caller history → AllByRecursion CallMayStand (calls_of history caller)
-up-to-stands s names block caller history stands (inl p) = stands names 0 block (calls_of history caller) p
-up-to-stands s names block caller history stands (inr (size, cut)) = stands names 0 cut.front (calls_of history caller) cut.played
+up-to-stands : {C : Type 0} (given : C → Option (List ℕ)) (clocks : List C) (s : Script) (names : List (List ℕ × Given)) (block : List Line) (caller : ℕ) (history : List Entry) → AskedStands s → PlaysUpTo given clocks s names block caller history → AllByRecursion CallMayStand (calls_of history caller)
+up-to-stands given clocks s names block caller history stands (inl p) = stands names 0 block (calls_of history caller) p
+up-to-stands given clocks s names block caller history stands (inr (size, cut)) = stands names 0 cut.front (calls_of history caller) cut.played
 
 none-stand : (es : List Entry) → es ≡ [] → AllByRecursion CallMayStand es
 none-stand es none = subst (AllByRecursion CallMayStand) (sym none) tt
@@ -40,7 +40,7 @@ module _ {C : Type 0} (given : C → Option (List ℕ)) (s : Script) (history : 
   client-stands : (full : Option ℕ) → EndsBy given s history asked asked2 fate clocks full → (i : ℕ) (block : List Line) → slice_get s.clients i ≡ Some block → AllByRecursion CallMayStand (calls_of history (i + 1))
   client-stands None e i block at = stands (names_given s history) 0 block (calls_of history (i + 1)) (e.plays.clients i block at)
   client-stands (Some size) (in_setup cut none unasked callers) i block at = none-stand (calls_of history (i + 1)) (none (i + 1) (omega arith))
-  client-stands (Some size) (behind_setup setup clients met launched callers) i block at = up-to-stands s (names_given s history) block (i + 1) history stands (clients i block at)
+  client-stands (Some size) (behind_setup setup clients met launched callers) i block at = up-to-stands given clocks s (names_given s history) block (i + 1) history stands (clients i block at)
 
   -- the calls of each caller may stand in a journal
   pub run-stands : (full : Option ℕ) → ((e : Entry) → is_attendants e.call ≡ true → CallMayStand e) → HasRun given s history asked asked2 fate clocks full → (k : ℕ) → AllByRecursion CallMayStand (calls_of history k)

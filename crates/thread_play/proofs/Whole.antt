@@ -32,6 +32,7 @@ use Rattle.turn_lock.specs.Tokens.{Named}
 use Rattle.call_history.specs.Callers.{calls_of}
 use Rattle.call_history.specs.Clients.{Seat, seen_of, mine_of, number_of, retired_of, KnowsItsOwn, SeesMore}
 use Rattle.call_history.specs.ClientLaws.{begins-itself, begins-both}
+use Rattle.call_history.specs.Clocks.{dial}
 use Rattle.call_history.specs.Timed.{IsTimed}
 use Rattle.notify_hub.specs.Hubs.{Following}
 use Rattle.notify_hub.specs.Places.{HavePlaces}
@@ -43,26 +44,26 @@ use Rattle.script_asks.specs.Plays.{Plays, names_by, setup_names}
 use Rattle.attendant.specs.declared.reaper.Held.{Held}
 use Rattle.attendant.specs.declared.reaper.Hand.{Hand}
 use Rattle.attendant.specs.Acts.{acts_of, own_acts, Each, is_launched}
-use Rattle.attendant.specs.Posts.{Post, Gives, FailsWithin}
+use Rattle.attendant.specs.Posts.{Post, IsStillAt, FailsWithin}
 use Rattle.attendant.specs.Runs.{is_ended, owed}
 use Rattle.attendant.specs.Outside.{Keeps, Tells, AgreesOf, IsHeldUp, out_of_memory, full_at_launch, full_at_order, full_at_answer, EndsSettled, IsLaunchersEntry, IsReapersEntry}
 use Rattle.attendant.specs.Whole.{AgreesWithOutside, AreAlone}
 use Rattle.block_play.specs.declared.stops.Stopped.{Stopped}
 use Rattle.block_play.specs.declared.stops.Stopped.TheVariants as stopped
-use Rattle.block_play.specs.Played.{IsFullFor}
+use Rattle.block_play.specs.Played.{IsFullFor, last_moment}
 use Rattle.script_journals.specs.Calls.{IsClientsEntry}
 use Rattle.thread_play.specs.declared.firsts.First.{First}
 use Rattle.thread_play.specs.declared.workers.Worker.{Worker}
 use Rattle.thread_play.specs.Hubs.{FollowsAll, HearRun}
 use Rattle.thread_play.specs.Stages.{StopsAt, PlaysOn, IsFirst}
-use Rattle.thread_play.specs.Others.{IsFullAtEnd, by_attendant, by_client, Ends, Others}
-use Rattle.thread_play.specs.Runs.{launcher_of, reaper_of, hub_of, names_given, IsRun, PlaysAll, IsSettledAt, IsCutShort, PlaysUpTo, HaveReading, IsReadBy, MeetsSize, IsMet, by_block, by_launch, by_order, by_answer, AreAsked, in_setup, behind_setup, EndsBy, HasRun}
+use Rattle.thread_play.specs.Others.{HasGoneOn, IsFullAtEnd, by_attendant, by_client, Ends, Others}
+use Rattle.thread_play.specs.Runs.{launcher_of, reaper_of, hub_of, names_given, IsRun, PlaysAll, IsSettledAt, IsCutShort, PlaysUpTo, HaveReading, MeetsSize, IsMet, by_block, by_launch, by_order, by_answer, AreAsked, in_setup, behind_setup, EndsBy, HasRun}
 use Rattle.thread_play.proofs.Lists.{at-between, at-front, length-mapped, map-at, some-item}
 use Rattle.thread_play.proofs.Beginnings.{calls-append, calls-begin, begins-shorter, alone, nothing-after}
 use Rattle.thread_play.proofs.Clients.{Lists, own_lists}
-use Rattle.thread_play.proofs.Callers.{by-caller, are-alone}
+use Rattle.thread_play.proofs.Callers.{by-caller, are-alone, IsAtOnce, launcher-at-once, reaper-at-once}
 use Rattle.thread_play.proofs.Hearing.{NoneRegisters, hear-run}
-use Rattle.thread_play.proofs.Posts.{none-timed}
+use Rattle.thread_play.proofs.Posts.{none-timed, read-between}
 
 -- what the machine that is had back says of its history
 pub record IsClosed (config : Config) (o : Seat) (history : List Entry) : Type 0 where
@@ -84,9 +85,10 @@ fits-all s history laws legal front back is = laws.consistent front (laws.prefix
 
 -- ---- a run that was stopped within setup
 
-cut-first : (s : Script) (names : List (List ℕ × Given)) (block : List Line) (caller : ℕ) (own seen history : List Entry) (size : ℕ) (config : Config) → config ≡ s.config → BeginsWith history seen
-    → calls_of seen caller ≡ own → calls_of history caller ≡ own → StopsAt config s names block own seen size → IsCutShort s names block caller history size
-cut-first s names block caller own seen history size config is begins in_seen in_all c = record {
+cut-first : {C : Type 0} (given : C → Option (List ℕ)) (clocks : List C) (clock : C) (s : Script) (names : List (List ℕ × Given)) (block : List Line) (caller : ℕ) (own seen history : List Entry) (size : ℕ) (config : Config)
+    → slice_get clocks caller ≡ Some clock → config ≡ s.config → BeginsWith history seen
+    → calls_of seen caller ≡ own → calls_of history caller ≡ own → StopsAt config s names block own seen (given clock) size → IsCutShort given clocks s names block caller history size
+cut-first given clocks clock s names block caller own seen history size config at is begins in_seen in_all c = record {
   front = c.front;
   line = c.line;
   back = c.back;
@@ -95,8 +97,12 @@ cut-first s names block caller own seen history size config is begins in_seen in
   seen = seen;
   begins = begins;
   own = in_seen ∙ sym in_all;
-  full = subst (λ (f : Config). IsFullFor f s (names_by s names c.front (calls_of history caller)) c.line seen size) is
-      (subst (λ (es : List Entry). IsFullFor config s (names_by s names c.front es) c.line seen size) (sym in_all) c.full);
+  clock = clock;
+  of_caller = at;
+  told = c.told;
+  timed = subst (λ (es : List Entry). IsTimed es c.told) (sym in_all) c.timed;
+  full = subst (λ (f : Config). IsFullFor f s (names_by s names c.front (calls_of history caller)) (last_moment 0 (calls_of history caller)) c.line seen c.told (given clock) size) is
+      (subst (λ (es : List Entry). IsFullFor config s (names_by s names c.front es) (last_moment 0 es) c.line seen c.told (given clock) size) (sym in_all) c.full);
 }
 
 each-none : (P : _) (es : List Entry) → es ≡ [] → Each P (acts_of es)
@@ -122,7 +128,7 @@ module _ {C : Type 0} (given : C → Option (List ℕ)) (s : Script) (shared : N
   stopped-first asked fate size clocks is are =
       let legal = subst (λ (c : Config). IsLegal c history) config_is closed.legal in
       let none : (k : ℕ) → 1 ≤ k → calls_of history k ≡ [] = first-others in
-      let stops : StopsAt shared.fixed s [] (lines_of s.setup) first.own first.own size = subst (λ (r : _). PlaysOn shared.fixed s [] (lines_of s.setup) first.own first.own r) is first.played in
+      let stops : StopsAt shared.fixed s [] (lines_of s.setup) first.own first.own (given f.clock) size = subst (λ (r : _). PlaysOn shared.fixed s [] (lines_of s.setup) first.own first.own (given f.clock) r) is first.played in
       record {
         run = record {
           legal = legal;
@@ -134,7 +140,7 @@ module _ {C : Type 0} (given : C → Option (List ℕ)) (s : Script) (shared : N
           strangers = λ k above. none k (omega arith);
         };
         timed = λ k c at. timed-first k c (subst (λ (l : List C). slice_get l k ≡ Some c) are at);
-        ends = in_setup (cut-first s [] (lines_of s.setup) 0 first.own first.own history size shared.fixed config_is first-begins first.alone first-own stops)
+        ends = in_setup (cut-first given clocks f.clock s [] (lines_of s.setup) 0 first.own first.own history size shared.fixed (ap (λ (l : List C). slice_get l 0) are) config_is first-begins first.alone first-own stops)
             (λ k above. none k (omega arith)) refl (ap length are);
       }
 
@@ -170,27 +176,13 @@ at-rest s config history launcher laws config_is legal same e =
       last = last-of s.config history e.before.given l.at launcher.clock.given l.read.told now;
     }
 
--- a reading of a call, among all that its clock told
-reading-stays : (before mid last : Option (List ℕ)) (earlier later more : List ℕ) (at : ℕ) → Gives before (earlier ++ at ∷ later) mid → Gives mid more last → IfSome last (HaveReading at)
-reading-stays before mid None earlier later more at a b = tt
-reading-stays before None (Some last) earlier later more at a b = absurd b
-reading-stays None (Some mid) (Some last) earlier later more at a b = absurd a
-reading-stays (Some before) (Some mid) (Some last) earlier later more at a b = (
-  before ++ earlier,
-  later ++ more,
-  b ∙ ap (λ (l : List ℕ). l ++ more) (a ∙ sym (append_assoc before earlier (at ∷ later))) ∙ append_assoc (before ++ earlier) (at ∷ later) more,
-)
-
--- a call that met the size, as the whole history has it
-meets : {C : Type 0} (given : C → Option (List ℕ)) (clocks : List C) (s : Script) (shared : Named Config) (l0 l1 : Post) (caller : ℕ) (asked : Call) (size : ℕ) (history : List Entry) → shared.fixed ≡ s.config → l0.shared ≡ shared → BeginsWith history (seen_of l1.client)
-    → (f : FailsWithin l0 asked (no.Journal size) l1) → IsReadBy given clocks caller f.fails.at → MeetsSize given clocks s.config history caller asked size
-meets given clocks s shared l0 l1 caller asked size history config_is at_lock begins f read = record {
-  seen = seen_of f.after.client;
-  begins = begins-both (seen_of f.after.client) (seen_of l1.client) history f.to_new.begins begins;
-  at = f.fails.at;
-  read = read;
-  none = subst (λ (c : Config). MakesNone (replay c (seen_of f.after.client)) f.fails.at (kept asked) (no.Journal size)) (ap (λ (n : Named Config). n.fixed) (f.from_old.shared_is ∙ at_lock) ∙ config_is) f.fails.reason;
-}
+-- what a caller that makes no wait left at its last post, as the whole history and the clocks have it
+record IsLeftBy {C : Type 0} (given : C → Option (List ℕ)) (clocks : List C) (history : List Entry) (caller : ℕ) (last : Post) : Type 0 where
+  begins : BeginsWith history (seen_of last.client)
+  own : calls_of history caller ≡ mine_of last.client
+  number : number_of last.client ≡ caller
+  brief : AllByRecursion IsAtOnce (mine_of last.client)
+  clock_is : (clock : C) → slice_get clocks caller ≡ Some clock → given clock ≡ last.clock.given
 
 -- the entries of a caller that made none by its last call
 still-own : (old new : Seat) → KnowsItsOwn old → (m : SeesMore old new) → calls_of (seen_of new) (number_of old) ≡ mine_of old
@@ -199,32 +191,63 @@ still-own old new own m =
     ∙ (calls-append (seen_of old) m.between (number_of old)
     ∙ (ap (λ (l : List Entry). calls_of (seen_of old) (number_of old) ++ l) m.others ∙ (append-nil (calls_of (seen_of old) (number_of old)) ∙ sym own)))
 
-held-met : {C : Type 0} (given : C → Option (List ℕ)) (clocks : List C) (s : Script) (shared : Named Config) (l0 l1 r0 r1 : Post) (size : ℕ) (history : List Entry) → shared.fixed ≡ s.config → l0.shared ≡ shared → r0.shared ≡ shared
-    → KnowsItsOwn r0.client → number_of r0.client ≡ reaper_of s → BeginsWith history (seen_of l1.client) → BeginsWith history (seen_of r1.client)
-    → ((c : Call) (n : ℕ) (f : FailsWithin l0 c (no.Journal n) l1) → IsReadBy given clocks (launcher_of s) f.fails.at) → ((c : Call) (n : ℕ) (f : FailsWithin r0 c (no.Journal n) r1) → IsReadBy given clocks (reaper_of s) f.fails.at)
+-- what a caller had seen where its call met the size has all entries that it had made
+seen-own : (old new : Post) (asked : Call) (size caller : ℕ) (f : FailsWithin old asked (no.Journal size) new) → KnowsItsOwn old.client → number_of old.client ≡ caller
+    → calls_of (seen_of f.after.client) caller ≡ mine_of f.before.client
+seen-own old new asked size caller f own number =
+    ap (λ (k : ℕ). calls_of (seen_of f.after.client) k) (sym (f.from_old.number ∙ number)) ∙ still-own f.before.client f.after.client (f.from_old.own own) f.fails.more
+
+-- and it made the others later
+mine-later : (old mid last : Post) (asked : Call) (size : ℕ) (f : FailsWithin old asked (no.Journal size) mid) (on : IsStillAt mid last) → mine_of last.client ≡ mine_of f.before.client ++ (f.to_new.added ++ on.added)
+mine-later old mid last asked size f on =
+    on.mine ∙ (ap (λ (l : List Entry). l ++ on.added) (f.to_new.mine ∙ ap (λ (l : List Entry). l ++ f.to_new.added) f.fails.more.mine) ∙ append_assoc (mine_of f.before.client) f.to_new.added on.added)
+
+-- a call that met the size, as the whole history has it
+meets : {C : Type 0} (given : C → Option (List ℕ)) (clocks : List C) (s : Script) (shared : Named Config) (old mid last : Post) (caller : ℕ) (asked : Call) (size : ℕ) (history : List Entry) → shared.fixed ≡ s.config
+    → IsLeftBy given clocks history caller last → HasGoneOn shared old mid last → FailsWithin old asked (no.Journal size) mid → MeetsSize given clocks s.config history caller asked size
+meets given clocks s shared old mid last caller asked size history config_is left g f =
+    let rest : List Entry = f.to_new.added ++ g.on.added in
+    let made : calls_of (seen_of f.after.client) caller ≡ mine_of f.before.client = seen-own old mid asked size caller f g.own (sym g.number ∙ left.number) in
+    let split : mine_of last.client ≡ mine_of f.before.client ++ rest = mine-later old mid last asked size f g.on in
+    let read : IfSome last.clock.given (HaveReading (mine_of f.before.client) rest f.fails.at) =
+    read-between old mid last f.before f.after f.fails.at f.from_old f.fails.read.told f.to_new g.on (subst (AllByRecursion IsAtOnce) split left.brief) g.timed in
+    record {
+      seen = seen_of f.after.client;
+      begins = begins-both (seen_of f.after.client) (seen_of mid.client) history f.to_new.begins (begins-both (seen_of mid.client) (seen_of last.client) history g.on.begins left.begins);
+      rest = rest;
+      own = left.own ∙ (split ∙ ap (λ (l : List Entry). l ++ rest) (sym made));
+      at = f.fails.at;
+      read = λ clock at. subst (λ (o : Option (List ℕ)). IfSome o (HaveReading (calls_of (seen_of f.after.client) caller) rest f.fails.at)) (sym (left.clock_is clock at))
+          (subst (λ (l : List Entry). IfSome last.clock.given (HaveReading l rest f.fails.at)) (sym made) read);
+      none = subst (λ (c : Config). MakesNone (replay c (seen_of f.after.client)) f.fails.at (kept asked) (no.Journal size)) (ap (λ (n : Named Config). n.fixed) (f.from_old.shared_is ∙ g.shared_is) ∙ config_is) f.fails.reason;
+    }
+
+held-met : {C : Type 0} (given : C → Option (List ℕ)) (clocks : List C) (s : Script) (shared : Named Config) (l0 l1 r0 r1 launcher reaping : Post) (size : ℕ) (history : List Entry) → shared.fixed ≡ s.config
+    → IsLeftBy given clocks history (launcher_of s) launcher → IsLeftBy given clocks history (reaper_of s) reaping → HasGoneOn shared l0 l1 launcher → HasGoneOn shared r0 r1 reaping
     → (why : Refusal) → why ≡ OutOfResource (limit.Journal size) → IsHeldUp l0 l1 r0 r1 (Unit {0}) why → IsMet given clocks s history size
 unfolding meets
-held-met given clocks s shared l0 l1 r0 r1 size history config_is at_l at_r own number bl br reads_l reads_r why is (out_of_memory w) = absurd (cc)
-held-met given clocks s shared l0 l1 r0 r1 size history config_is at_l at_r own number bl br reads_l reads_r why is (full_at_launch n w f) =
-    let same : n ≡ size = cc in subst (IsMet given clocks s history) same (by_launch (meets given clocks s shared l0 l1 (launcher_of s) call.TakeLaunch n history config_is at_l bl f (reads_l call.TakeLaunch n f)))
-held-met given clocks s shared l0 l1 r0 r1 size history config_is at_l at_r own number bl br reads_l reads_r why is (full_at_order n w f) =
-    let same : n ≡ size = cc in subst (IsMet given clocks s history) same (by_order (meets given clocks s shared r0 r1 (reaper_of s) call.TakeSignal n history config_is at_r br f (reads_r call.TakeSignal n f)))
-held-met given clocks s shared l0 l1 r0 r1 size history config_is at_l at_r own number bl br reads_l reads_r why is (full_at_answer n signal a w f owes) =
+held-met given clocks s shared l0 l1 r0 r1 launcher reaping size history config_is ll lr gl gr why is (out_of_memory w) = absurd (cc)
+held-met given clocks s shared l0 l1 r0 r1 launcher reaping size history config_is ll lr gl gr why is (full_at_launch n w f) =
+    let same : n ≡ size = cc in subst (IsMet given clocks s history) same (by_launch (meets given clocks s shared l0 l1 launcher (launcher_of s) call.TakeLaunch n history config_is ll gl f))
+held-met given clocks s shared l0 l1 r0 r1 launcher reaping size history config_is ll lr gl gr why is (full_at_order n w f) =
+    let same : n ≡ size = cc in subst (IsMet given clocks s history) same (by_order (meets given clocks s shared r0 r1 reaping (reaper_of s) call.TakeSignal n history config_is lr gr f))
+held-met given clocks s shared l0 l1 r0 r1 launcher reaping size history config_is ll lr gl gr why is (full_at_answer n signal a w f owes) =
     let same : n ≡ size = cc in
-    subst (IsMet given clocks s history) same (by_answer signal a (meets given clocks s shared r0 r1 (reaper_of s) (asked_signal a signal) n history config_is at_r br f (reads_r (asked_signal a signal) n f))
-    (ap (λ (es : List Entry). owed (acts_of es)) (ap (λ (k : ℕ). calls_of (seen_of f.after.client) k) (sym (f.from_old.number ∙ number)) ∙ still-own f.before.client f.after.client (f.from_old.own own) f.fails.more) ∙ owes tt))
+    subst (IsMet given clocks s history) same (by_answer signal a (meets given clocks s shared r0 r1 reaping (reaper_of s) (asked_signal a signal) n history config_is lr gr f)
+    (ap (λ (es : List Entry). owed (acts_of es)) (seen-own r0 r1 (asked_signal a signal) n (reaper_of s) f gr.own (sym gr.number ∙ lr.number)) ∙ owes tt))
 
 left-own : {C : Type 0} (ws : List (Worker C)) (rest : Lists) → left_of (own_lists ws ++ rest) ≡ left_of rest
 left-own [] rest = refl
 left-own (w ∷ ws) rest = left-own ws rest
 
 -- how the play of a client's block stands in the whole history
-up-to : {A : Type 0} (s : Script) (shared : Named Config) (names : List (List ℕ × Given)) (block : List Line) (client : Seat) (caller : ℕ) (history : List Entry) → shared.fixed ≡ s.config → BeginsWith history (seen_of client)
-    → calls_of (seen_of client) caller ≡ mine_of client → calls_of history caller ≡ mine_of client
-    → (r : Result A Stopped) → r ≢ Err stopped.Memory → PlaysOn shared.fixed s names block (mine_of client) (seen_of client) r → PlaysUpTo s names block caller history
-up-to s shared names block client caller history config_is begins in_seen in_all (Ok a) not p = inl (subst (λ (es : List Entry). Plays s names 0 block es) (sym in_all) p)
-up-to s shared names block client caller history config_is begins in_seen in_all (Err stopped.Memory) not p = absurd (not refl)
-up-to s shared names block client caller history config_is begins in_seen in_all (Err (stopped.Full size)) not p = inr (size, cut-first s names block caller (mine_of client) (seen_of client) history size shared.fixed config_is begins in_seen in_all p)
+up-to : {A C : Type 0} (given : C → Option (List ℕ)) (clocks : List C) (clock : C) (s : Script) (shared : Named Config) (names : List (List ℕ × Given)) (block : List Line) (client : Seat) (caller : ℕ) (history : List Entry)
+    → slice_get clocks caller ≡ Some clock → shared.fixed ≡ s.config → BeginsWith history (seen_of client) → calls_of (seen_of client) caller ≡ mine_of client → calls_of history caller ≡ mine_of client
+    → (r : Result A Stopped) → r ≢ Err stopped.Memory → PlaysOn shared.fixed s names block (mine_of client) (seen_of client) (given clock) r → PlaysUpTo given clocks s names block caller history
+up-to given clocks clock s shared names block client caller history at config_is begins in_seen in_all (Ok a) not p = inl (subst (λ (es : List Entry). Plays s names 0 block es) (sym in_all) p)
+up-to given clocks clock s shared names block client caller history at config_is begins in_seen in_all (Err stopped.Memory) not p = absurd (not refl)
+up-to given clocks clock s shared names block client caller history at config_is begins in_seen in_all (Err (stopped.Full size)) not p =
+    inr (size, cut-first given clocks clock s names block caller (mine_of client) (seen_of client) history size shared.fixed at config_is begins in_seen in_all p)
 
 module _ {C T : Type 0} (given : C → Option (List ℕ)) (told : T → Option Told) (s : Script) (names : List (List ℕ × Given)) (shared : Named Config) (o p : Seat) (f : First C)
     (first : IsFirst given s shared o f) (names_are : names ≡ setup_names s first.own) (played : Plays s [] 0 (lines_of s.setup) first.own)
@@ -382,6 +405,13 @@ module _ {C T : Type 0} (given : C → Option (List ℕ)) (told : T → Option T
         ∙ (at-front (map (λ (w : Worker C). w.clock) x.ws) (x.launcher_clock ∷ x.reaping_clock ∷ x.pass_clock ∷ []) c i (omega arith)
         ∙ map-at (λ (w : Worker C). w.clock) x.ws i d c below)) ∙ at-place (i + 1) c at
 
+    -- the clock of a client stands at its number
+    client-clock : (i : ℕ) (d : Worker C) → i < length x.ws → slice_get clocks (i + 1) ≡ Some (slice_index_or x.ws i d).clock
+    client-clock i d below =
+        let there : i + 1 < length clocks = (let z = clocks-size in let n = x.count in omega arith) in
+        let at : slice_get clocks (i + 1) ≡ Some (slice_index_or clocks (i + 1) f.clock) = slice_get-get_or clocks (i + 1) f.clock there in
+        at ∙ ap (λ (c : C). Some c) (sym (client-place i d below (slice_index_or clocks (i + 1) f.clock) at))
+
     timed-by : (k : ℕ) (own : List Entry) (mine c : C) → IsTimed own (given mine) → mine ≡ c → calls_of history k ≡ own → IsTimed (calls_of history k) (given c)
     timed-by k own mine c t same is = subst (λ (es : List Entry). IsTimed es (given c)) (sym is) (subst (λ (y : C). IsTimed own (given y)) same t)
 
@@ -410,13 +440,13 @@ module _ {C T : Type 0} (given : C → Option (List ℕ)) (told : T → Option T
     own-seen : (i : ℕ) (d : Worker C) → i < length x.ws → calls_of (seen_of (slice_index_or x.ws i d).client) (i + 1) ≡ mine_of (slice_index_or x.ws i d).client
     own-seen i d below = let b = (x.clients i d below).back in sym (b.own ∙ ap (λ (k : ℕ). calls_of (seen_of (slice_index_or x.ws i d).client) k) b.number_is)
 
-    up-to-all : (i : ℕ) (block : List Line) → slice_get s.clients i ≡ Some block → PlaysUpTo s (names_given s history) block (i + 1) history
+    up-to-all : (i : ℕ) (block : List Line) → slice_get s.clients i ≡ Some block → PlaysUpTo given clocks s (names_given s history) block (i + 1) history
     up-to-all i block at =
         let below = client-within i block at in
         let d = some-item x.ws i below in
         let e = x.clients i d below in
-        subst (λ (ns : List (List ℕ × Given)). PlaysUpTo s ns block (i + 1) history) names-given
-        (up-to s shared names block (slice_index_or x.ws i d).client (i + 1) history config_is (client-known i d below) (own-seen i d below) (of-client i d below) (slice_index_or x.ws i d).ended e.sufficed (e.played block at))
+        subst (λ (ns : List (List ℕ × Given)). PlaysUpTo given clocks s ns block (i + 1) history) names-given
+        (up-to given clocks (slice_index_or x.ws i d).clock s shared names block (slice_index_or x.ws i d).client (i + 1) history (client-clock i d below) config_is (client-known i d below) (own-seen i d below) (of-client i d below) (slice_index_or x.ws i d).ended e.sufficed (e.played block at))
 
     whole-client : ((i : ℕ) (d : Worker C) → i < length x.ws → (slice_index_or x.ws i d).ended ≡ Ok tt) → (i : ℕ) (block : List Line) → slice_get s.clients i ≡ Some block
         → Plays s (names_given s history) 0 block (calls_of history (i + 1))
@@ -424,7 +454,7 @@ module _ {C T : Type 0} (given : C → Option (List ℕ)) (told : T → Option T
         let below = client-within i block at in
         let d = some-item x.ws i below in
         let w = slice_index_or x.ws i d in
-        let done : Plays s names 0 block (mine_of w.client) = subst (λ (r : Result (Unit {0}) Stopped). PlaysOn shared.fixed s names block (mine_of w.client) (seen_of w.client) r) (well i d below) ((x.clients i d below).played block at) in
+        let done : Plays s names 0 block (mine_of w.client) = subst (λ (r : Result (Unit {0}) Stopped). PlaysOn shared.fixed s names block (mine_of w.client) (seen_of w.client) (given w.clock) r) (well i d below) ((x.clients i d below).played block at) in
         subst (λ (ns : List (List ℕ × Given)). Plays s ns 0 block (calls_of history (i + 1))) names-given
         (subst (λ (es : List Entry). Plays s names 0 block es) (sym (of-client i d below)) done)
 
@@ -471,31 +501,40 @@ module _ {C T : Type 0} (given : C → Option (List ℕ)) (told : T → Option T
         let w = slice_index_or x.ws i d in
         let block = slice_index_or s.clients i [] in
         let at = slice_get-get_or s.clients i [] (let c = x.count in let h = below in omega arith) in
-        let stops : StopsAt shared.fixed s names block (mine_of w.client) (seen_of w.client) size =
-        subst (λ (r : Result (Unit {0}) Stopped). PlaysOn shared.fixed s names block (mine_of w.client) (seen_of w.client) r) is ((x.clients i d below).played block at) in
-        by_block i block at (subst (λ (ns : List (List ℕ × Given)). IsCutShort s ns block (i + 1) history size) names-given
-        (cut-first s names block (i + 1) (mine_of w.client) (seen_of w.client) history size shared.fixed config_is (client-known i d below) (own-seen i d below) (of-client i d below) stops))
+        let stops : StopsAt shared.fixed s names block (mine_of w.client) (seen_of w.client) (given w.clock) size =
+        subst (λ (r : Result (Unit {0}) Stopped). PlaysOn shared.fixed s names block (mine_of w.client) (seen_of w.client) (given w.clock) r) is ((x.clients i d below).played block at) in
+        by_block i block at (subst (λ (ns : List (List ℕ × Given)). IsCutShort given clocks s ns block (i + 1) history size) names-given
+        (cut-first given clocks w.clock s names block (i + 1) (mine_of w.client) (seen_of w.client) history size shared.fixed (client-clock i d below) config_is (client-known i d below) (own-seen i d below) (of-client i d below) stops))
 
-    -- a reading that the launcher's clock told, or the reaper's, among all of its readings
-    read-launcher : (old new : Post) (more : List ℕ) → Gives new.clock.given more x.launcher.clock.given → (c : Call) (n : ℕ) (f : FailsWithin old c (no.Journal n) new) → IsReadBy given clocks (launcher_of s) f.fails.at
-    read-launcher old new more gives c n f clock at = subst (λ (y : C). IfSome (given y) (HaveReading f.fails.at)) (launcher-place clock at)
-        (subst (λ (g : Option (List ℕ)). IfSome g (HaveReading f.fails.at)) (sym x.launcher_given)
-        (reading-stays old.clock.given new.clock.given x.launcher.clock.given f.earlier f.later more f.fails.at f.read gives))
+    -- what launcher and reaper left
+    left-launcher : IsLeftBy given clocks history (launcher_of s) x.launcher
+    left-launcher = record {
+      begins = known;
+      own = of-launcher;
+      number = x.launcher_back.number_is;
+      brief = launcher-at-once [] (mine_of x.launcher.client) x.tends.launches;
+      clock_is = λ c at. ap given (sym (launcher-place c at)) ∙ x.launcher_given;
+    }
 
-    read-reaper : (old new : Post) (more : List ℕ) → Gives new.clock.given more (given x.reaping_clock) → (c : Call) (n : ℕ) (f : FailsWithin old c (no.Journal n) new) → IsReadBy given clocks (reaper_of s) f.fails.at
-    read-reaper old new more gives c n f clock at = subst (λ (y : C). IfSome (given y) (HaveReading f.fails.at)) (reaper-place clock at)
-        (reading-stays old.clock.given new.clock.given (given x.reaping_clock) f.earlier f.later more f.fails.at f.read gives)
+    left-reaper : IsLeftBy given clocks history (reaper_of s) (record { shared = shared; client = x.reaping; clock = dial (given x.reaping_clock) x.reaping_least })
+    left-reaper = record {
+      begins = begins-both (seen_of x.reaping) (seen_of p) history x.known_reaping closed.seen;
+      own = of-reaper;
+      number = x.reaping_back.number_is;
+      brief = reaper-at-once [] (mine_of x.reaping) x.tends.reports;
+      clock_is = λ c at. ap given (sym (reaper-place c at));
+    }
 
-    met-by : (size : ℕ) → IsFullAtEnd shared (length s.clients + 2) p x.ws x.launcher.clock.given (given x.reaping_clock) size → IsMet given clocks s history size
-    met-by size (by_attendant l0 l1 r0 r1 at_l at_r own number held bl br l_more r_more l_gives r_gives) =
-        held-met given clocks s shared l0 l1 r0 r1 size history config_is at_l at_r own number (begins-both (seen_of l1.client) (seen_of p) history bl closed.seen)
-        (begins-both (seen_of r1.client) (seen_of p) history br closed.seen) (read-launcher l0 l1 l_more l_gives) (read-reaper r0 r1 r_more r_gives) (OutOfResource (limit.Journal size)) refl held
+    met-by : (size : ℕ) → IsFullAtEnd shared x.ws x.launcher (record { shared = shared; client = x.reaping; clock = dial (given x.reaping_clock) x.reaping_least }) size → IsMet given clocks s history size
+    met-by size (by_attendant l0 l1 r0 r1 gl gr held) =
+        held-met given clocks s shared l0 l1 r0 r1 x.launcher (record { shared = shared; client = x.reaping; clock = dial (given x.reaping_clock) x.reaping_least }) size history config_is left-launcher left-reaper gl gr
+        (OutOfResource (limit.Journal size)) refl held
     met-by size (by_client i d below is) = cut-client size i d below is
 
     ends-of : ((starts : List Asked) (es : List Entry) (at : ℕ → Option (Held T)) (hand : Option Hand) → AreAlone (length s.clients + 1) (length s.clients + 2) (acts_of es)
         → Keeps told (Some starts) fate (acts_of (calls_of es (length s.clients + 1))) (acts_of (calls_of es (length s.clients + 2))) at hand
         → AgreesOf (Some starts) fate (acts_of (calls_of es (length s.clients + 1))) (acts_of (calls_of es (length s.clients + 2))) → AgreesWithOutside starts fate (acts_of es))
-        → (r : Option ℕ) → full ≡ r → Ends shared (length s.clients + 2) p x.ws x.launcher x.reaping (given x.reaping_clock) r → EndsBy given s history asked asked2 fate clocks r
+        → (r : Option ℕ) → full ≡ r → Ends shared x.ws x.launcher (record { shared = shared; client = x.reaping; clock = dial (given x.reaping_clock) x.reaping_least }) r → EndsBy given s history asked asked2 fate clocks r
     ends-of law None is e =
         let all : PlaysAll s history = record { setup = setup-played; clients = whole-client e.ended } in
         let rest = at-rest s shared.fixed history x.launcher laws config_is legal (all-seen e.begins) e.settled in

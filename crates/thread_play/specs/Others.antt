@@ -10,6 +10,7 @@ use Rattle.drmaa_model.specs.declared.configs.Config.{Config}
 use Rattle.turn_lock.specs.Histories.{BeginsWith}
 use Rattle.turn_lock.specs.Tokens.{Named, BelongsTo}
 use Rattle.call_history.specs.Clients.{Seat, seen_of, mine_of, number_of, retired_of, KnowsItsOwn}
+use Rattle.call_history.specs.Clocks.{dial}
 use Rattle.call_history.specs.Timed.{IsTimed}
 use Rattle.notify_hub.specs.Hubs.{Following}
 use Rattle.script_lines.specs.declared.lines.Line.{Line}
@@ -18,7 +19,7 @@ use Rattle.script_asks.specs.declared.given.Given.{Given}
 use Rattle.attendant.specs.declared.reaper.Held.{Held}
 use Rattle.attendant.specs.declared.reaper.Hand.{Hand}
 use Rattle.attendant.specs.Acts.{own_acts}
-use Rattle.attendant.specs.Posts.{Post, Gives}
+use Rattle.attendant.specs.Posts.{Post, IsStillAt}
 use Rattle.attendant.specs.Outside.{Tends, Keeps, AgreesOf, IsHeldUp, EndsSettled}
 use Rattle.block_play.specs.declared.stops.Stopped.TheVariants as stopped
 use Rattle.thread_play.specs.declared.workers.Worker.{Worker}
@@ -35,15 +36,21 @@ pub record IsBack (number : ℕ) (given : Option (List ℕ)) (client : Seat) : T
 pub record IsEnded {C : Type 0} (given : C → Option (List ℕ)) (config : Config) (s : Script) (names : List (List ℕ × Given)) (place : ℕ) (w : Worker C) : Type 0 where
   pub back : IsBack (place + 1) (given w.clock) w.client
   pub sufficed : w.ended ≢ Err stopped.Memory
-  pub played : (block : List Line) → slice_get s.clients place ≡ Some block → PlaysOn config s names block (mine_of w.client) (seen_of w.client) w.ended
+  pub played : (block : List Line) → slice_get s.clients place ≡ Some block → PlaysOn config s names block (mine_of w.client) (seen_of w.client) (given w.clock) w.ended
 
--- Why a run was stopped: launcher or reaper met the size at some time before the end, when their clocks told these readings, or a
--- client did.
-pub data IsFullAtEnd {C : Type 0} (shared : Named Config) (number : ℕ) (p : Seat) (ws : List (Worker C)) (launcher reaper : Option (List ℕ)) (size : ℕ) : Type 0 where
-  by_attendant : (l0 l1 r0 r1 : Post) → l0.shared ≡ shared → r0.shared ≡ shared → KnowsItsOwn r0.client → number_of r0.client ≡ number → IsHeldUp l0 l1 r0 r1 (Unit {0}) (OutOfResource (limit.Journal size))
-      → BeginsWith (seen_of p) (seen_of l1.client) → BeginsWith (seen_of p) (seen_of r1.client)
-      → (l_more r_more : List ℕ) → Gives l1.clock.given l_more launcher → Gives r1.clock.given r_more reaper → IsFullAtEnd shared number p ws launcher reaper size
-  by_client : (place : ℕ) (d : Worker C) → place < length ws → (slice_index_or ws place d).ended ≡ Err (stopped.Full size) → IsFullAtEnd shared number p ws launcher reaper size
+-- A desk went on from one post to another, and from there to a last one: it was its caller's from the beginning, and its clock had told
+-- the moments of the caller's entries.
+pub record HasGoneOn (shared : Named Config) (old mid new : Post) : Type 0 where
+  pub shared_is : old.shared ≡ shared
+  pub number : number_of new.client ≡ number_of old.client
+  pub own : KnowsItsOwn old.client
+  pub timed : IsTimed (mine_of old.client) old.clock.given
+  pub on : IsStillAt mid new
+
+-- Why a run was stopped: launcher or reaper met the size at some time before these last posts, or a client did.
+pub data IsFullAtEnd {C : Type 0} (shared : Named Config) (ws : List (Worker C)) (launcher reaping : Post) (size : ℕ) : Type 0 where
+  by_attendant : (l0 l1 r0 r1 : Post) → HasGoneOn shared l0 l1 launcher → HasGoneOn shared r0 r1 reaping → IsHeldUp l0 l1 r0 r1 (Unit {0}) (OutOfResource (limit.Journal size)) → IsFullAtEnd shared ws launcher reaping size
+  by_client : (place : ℕ) (d : Worker C) → place < length ws → (slice_index_or ws place d).ended ≡ Err (stopped.Full size) → IsFullAtEnd shared ws launcher reaping size
 
 -- All were played whole, and then the machine was settled.
 pub record EndsWhole {C : Type 0} (config : Config) (ws : List (Worker C)) (launcher : Post) (reaping : Seat) : Type 0 where
@@ -52,9 +59,9 @@ pub record EndsWhole {C : Type 0} (config : Config) (ws : List (Worker C)) (laun
   pub begins : BeginsWith (seen_of launcher.client) (seen_of reaping)
 
 -- how a run ended, by the size that it met
-abbrev pub Ends : {C : Type 0} → Named Config → ℕ → Seat → List (Worker C) → Post → Seat → Option (List ℕ) → Option ℕ → Type 0
-Ends shared number p ws launcher reaping reaper None = EndsWhole shared.fixed ws launcher reaping
-Ends shared number p ws launcher reaping reaper (Some size) = IsFullAtEnd shared number p ws launcher.clock.given reaper size
+abbrev pub Ends : {C : Type 0} → Named Config → List (Worker C) → Post → Post → Option ℕ → Type 0
+Ends shared ws launcher reaping None = EndsWhole shared.fixed ws launcher reaping.client
+Ends shared ws launcher reaping (Some size) = IsFullAtEnd shared ws launcher reaping size
 
 -- What is left once all are back: each client's entries under its number, then the launcher's, the reaper's, and those of the hub's
 -- client, which made none.
@@ -71,14 +78,16 @@ pub record Others {C T : Type 0} (given : C → Option (List ℕ)) (told : T →
   pub launcher_back : IsBack (length s.clients + 1) launcher.clock.given launcher.client
   pub reaping : Seat
   pub reaping_clock : C
+  pub reaping_least : ℕ
   pub reaping_back : IsBack (length s.clients + 2) (given reaping_clock) reaping
   pub pass : Seat
   pub pass_clock : C
   pub pass_mine : mine_of pass ≡ []
   pub retired : retired_of p ≡ retired_of o ++ (map (λ (w : Worker C). Some (mine_of w.client)) ws ++ Some (mine_of launcher.client) ∷ Some (mine_of reaping) ∷ Some (mine_of pass) ∷ [])
   pub clocks_are : clocks_after ≡ clocks ++ (map (λ (w : Worker C). w.clock) ws ++ launcher_clock ∷ reaping_clock ∷ pass_clock ∷ [])
-  -- the launcher's client has seen what the opener had, and what each client had
+  -- the opener has seen what launcher and reaper had, and the launcher's client what the opener had before, and each client
   pub known : BeginsWith (seen_of p) (seen_of launcher.client)
+  pub known_reaping : BeginsWith (seen_of p) (seen_of reaping)
   pub known_first : BeginsWith (seen_of launcher.client) (seen_of o)
   pub known_clients : (i : ℕ) (d : Worker C) → i < length ws → BeginsWith (seen_of launcher.client) (seen_of (slice_index_or ws i d).client)
   -- launcher and reaper
@@ -87,7 +96,7 @@ pub record Others {C T : Type 0} (given : C → Option (List ℕ)) (told : T →
   pub tends : Tends (own_acts launcher.client) (own_acts reaping) at hand
   pub keeps : asked ≡ Some [] → Keeps told asked_after fate (own_acts launcher.client) (own_acts reaping) at hand
   pub agrees : full ≡ None → asked ≡ Some [] → AgreesOf asked_after fate (own_acts launcher.client) (own_acts reaping)
-  pub ends : Ends shared (length s.clients + 2) p ws launcher reaping (given reaping_clock) full
+  pub ends : Ends shared ws launcher (record { shared = shared; client = reaping; clock = dial (given reaping_clock) reaping_least }) full
 
 -- The hub's client has seen what the launcher's and the reaper's had, and all changes of that were handed over.
 pub record OthersHeard {B C T : Type 0} (given : C → Option (List ℕ)) (told : T → Option Told) (s : Script) (names : List (List ℕ × Given)) (shared : Named Config) (o p : Seat)

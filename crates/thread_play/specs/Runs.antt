@@ -19,7 +19,7 @@ use Rattle.drmaa_model.specs.Time.{advance}
 use Rattle.drmaa_machine.specs.Chronicles.{MakesNone}
 use Rattle.turn_lock.specs.Histories.{BeginsWith}
 use Rattle.call_history.specs.Callers.{calls_of}
-use Rattle.call_history.specs.Timed.{IsTimed}
+use Rattle.call_history.specs.Timed.{moments_of, StandsIn, IsTimed}
 use Rattle.script_lines.specs.declared.lines.Line.{Line}
 use Rattle.script_text.specs.declared.scripts.Script.{Script}
 use Rattle.script_text.specs.declared.scripts.Mode.TheVariants as mode
@@ -32,7 +32,7 @@ use Rattle.attendant.specs.Outside.{IsLaunchersEntry, IsReapersEntry}
 use Rattle.attendant.specs.Rounds.{asked_signal}
 use Rattle.attendant.specs.Runs.{is_ended, owed, requests_in}
 use Rattle.attendant.specs.Whole.{AgreesWithOutside}
-use Rattle.block_play.specs.Played.{IsFullFor}
+use Rattle.block_play.specs.Played.{IsFullFor, last_moment}
 
 -- some lines are this script's, for threads
 abbrev pub IsForThreads : Script → Type 0
@@ -86,8 +86,9 @@ pub record IsSettledAt (config : Config) (history : List Entry) (readings : List
 -- ---- a run that was stopped by the journal's size
 
 -- A client's block was played up to a line: what this one asks made no entry, since after some beginning of the history, which has all
--- of the client's entries, the journal would have had this size.
-pub record IsCutShort (s : Script) (names : List (List ℕ × Given)) (block : List Line) (caller : ℕ) (history : List Entry) (size : ℕ) : Type 0 where
+-- of the client's entries, the journal would have had this size. The readings of that call are the last ones of the client's clock, where
+-- it tells them, behind the moments of the client's entries.
+pub record IsCutShort {C : Type 0} (given : C → Option (List ℕ)) (clocks : List C) (s : Script) (names : List (List ℕ × Given)) (block : List Line) (caller : ℕ) (history : List Entry) (size : ℕ) : Type 0 where
   pub front : List Line
   pub line : Line
   pub back : List Line
@@ -96,33 +97,44 @@ pub record IsCutShort (s : Script) (names : List (List ℕ × Given)) (block : L
   pub seen : List Entry
   pub begins : BeginsWith history seen
   pub own : calls_of seen caller ≡ calls_of history caller
-  pub full : IsFullFor s.config s (names_by s names front (calls_of history caller)) line seen size
+  pub clock : C
+  pub of_caller : slice_get clocks caller ≡ Some clock
+  pub told : Option (List ℕ)
+  pub timed : IsTimed (calls_of history caller) told
+  pub full : IsFullFor s.config s (names_by s names front (calls_of history caller)) (last_moment 0 (calls_of history caller)) line seen told (given clock) size
 
 -- a client's block was played whole, or up to a line at which some size was met
-abbrev pub PlaysUpTo : Script → List (List ℕ × Given) → List Line → ℕ → List Entry → Type 0
-PlaysUpTo s names block caller history = Plays s names 0 block (calls_of history caller) ⊎ ((size : ℕ) × IsCutShort s names block caller history size)
+abbrev pub PlaysUpTo : {C : Type 0} → (C → Option (List ℕ)) → List C → Script → List (List ℕ × Given) → List Line → ℕ → List Entry → Type 0
+PlaysUpTo given clocks s names block caller history = Plays s names 0 block (calls_of history caller) ⊎ ((size : ℕ) × IsCutShort given clocks s names block caller history size)
 
--- these readings have this moment
-abbrev pub HaveReading : ℕ → List ℕ → Type 0
-HaveReading at readings = (earlier : List ℕ) × (later : List ℕ) × (readings ≡ earlier ++ at ∷ later)
+-- these readings have this moment, behind the moments of the first entries and before those of the others
+pub record HaveReading (first rest : List Entry) (at : ℕ) (readings : List ℕ) : Type 0 where
+  pub earlier : List ℕ
+  pub later : List ℕ
+  pub are : readings ≡ earlier ++ at ∷ later
+  pub made : StandsIn (moments_of first) earlier
+  pub to_come : StandsIn (moments_of rest) later
 
--- the moment is a reading of this caller's clock, where it tells them
-abbrev pub IsReadBy : {C : Type 0} → (C → Option (List ℕ)) → List C → ℕ → ℕ → Type 0
-IsReadBy {C} given clocks caller at = (clock : C) → slice_get clocks caller ≡ Some clock → IfSome (given clock) (HaveReading at)
+-- the moment is a reading of this caller's clock, where it tells them, behind the moments of its first entries and before those of its
+-- others
+abbrev pub IsReadBy : {C : Type 0} → (C → Option (List ℕ)) → List C → ℕ → List Entry → List Entry → ℕ → Type 0
+IsReadBy {C} given clocks caller first rest at = (clock : C) → slice_get clocks caller ≡ Some clock → IfSome (given clock) (HaveReading first rest at)
 
 -- This call of a caller made no entry, since after some beginning of the history, at a reading of the caller's clock, the journal would
--- have had this size.
+-- have had this size. The beginning has all entries that the caller had made by then.
 pub record MeetsSize {C : Type 0} (given : C → Option (List ℕ)) (clocks : List C) (config : Config) (history : List Entry) (caller : ℕ) (asked : Call) (size : ℕ) : Type 0 where
   pub seen : List Entry
   pub begins : BeginsWith history seen
+  pub rest : List Entry
+  pub own : calls_of history caller ≡ calls_of seen caller ++ rest
   pub at : ℕ
-  pub read : IsReadBy given clocks caller at
+  pub read : IsReadBy given clocks caller (calls_of seen caller) rest at
   pub none : MakesNone (replay config seen) at (kept asked) (fault.Journal size)
 
 -- Which call met the size: the one that a client's next line asks; the taking of a launch or of an order; or the report of the order
 -- that the reaper took last.
 pub data IsMet {C : Type 0} (given : C → Option (List ℕ)) (clocks : List C) (s : Script) (history : List Entry) (size : ℕ) : Type 0 where
-  by_block : (n : ℕ) (block : List Line) → slice_get s.clients n ≡ Some block → IsCutShort s (names_given s history) block (n + 1) history size → IsMet given clocks s history size
+  by_block : (n : ℕ) (block : List Line) → slice_get s.clients n ≡ Some block → IsCutShort given clocks s (names_given s history) block (n + 1) history size → IsMet given clocks s history size
   by_launch : MeetsSize given clocks s.config history (launcher_of s) call.TakeLaunch size → IsMet given clocks s history size
   by_order : MeetsSize given clocks s.config history (reaper_of s) call.TakeSignal size → IsMet given clocks s history size
   by_answer : (signal : Signal) (answer : Bool) → (m : MeetsSize given clocks s.config history (reaper_of s) (asked_signal answer signal) size)
@@ -136,10 +148,10 @@ AreAsked es starts = requests_in es ≡ map (λ (a : Asked). record { job = a.jo
 -- of the spawner; or behind it, and then each launch was asked of the spawner and nothing else, where it tells and nothing had been
 -- asked of it before. There are as many clocks as callers.
 pub data IsStopped {C : Type 0} (given : C → Option (List ℕ)) (clocks : List C) (s : Script) (history : List Entry) (asked asked_after : Option (List Asked)) (size : ℕ) : Type 0 where
-  in_setup : IsCutShort s [] (lines_of s.setup) 0 history size → ((caller : ℕ) → 0 < caller → calls_of history caller ≡ []) → asked_after ≡ asked → length clocks ≡ 1
+  in_setup : IsCutShort given clocks s [] (lines_of s.setup) 0 history size → ((caller : ℕ) → 0 < caller → calls_of history caller ≡ []) → asked_after ≡ asked → length clocks ≡ 1
       → IsStopped given clocks s history asked asked_after size
   behind_setup : Plays s [] 0 (lines_of s.setup) (calls_of history 0)
-      → ((n : ℕ) (block : List Line) → slice_get s.clients n ≡ Some block → PlaysUpTo s (names_given s history) block (n + 1) history)
+      → ((n : ℕ) (block : List Line) → slice_get s.clients n ≡ Some block → PlaysUpTo given clocks s (names_given s history) block (n + 1) history)
       → IsMet given clocks s history size → (asked ≡ Some [] → IfSome asked_after (λ starts. AreAsked (acts_of (calls_of history (launcher_of s))) starts)) → length clocks ≡ hub_of s + 1
       → IsStopped given clocks s history asked asked_after size
 

@@ -21,27 +21,30 @@ use Rattle.script_asks.specs.declared.given.Given.{Given}
 use Rattle.script_asks.specs.Plays.{Plays, names_by, setup_names}
 use Rattle.block_play.specs.declared.stops.Stopped.{Stopped}
 use Rattle.block_play.specs.declared.stops.Stopped.TheVariants as stopped
-use Rattle.block_play.specs.Played.{IsFullFor}
+use Rattle.block_play.specs.Played.{IsFullFor, last_moment}
 use Rattle.thread_play.specs.Hubs.{HearSetup}
 use Rattle.thread_play.specs.declared.firsts.First.{First}
 use Rattle.thread_play.specs.declared.workers.Worker.{Worker}
 
 -- ---- the play of a block
 
--- The lines before one were played, and what it asks makes no entry after what was seen, since the journal would have this size.
-pub record StopsAt (config : Config) (s : Script) (names : List (List ℕ × Given)) (block : List Line) (own seen : List Entry) (size : ℕ) : Type 0 where
+-- The lines before one were played, and what it asks makes no entry after what was seen, since the journal would have this size, at the
+-- last readings of the client's clock; before them it had told the moments of the client's entries.
+pub record StopsAt (config : Config) (s : Script) (names : List (List ℕ × Given)) (block : List Line) (own seen : List Entry) (given : Option (List ℕ)) (size : ℕ) : Type 0 where
   pub front : List Line
   pub line : Line
   pub back : List Line
   pub lines : block ≡ front ++ line ∷ back
   pub played : Plays s names 0 front own
-  pub full : IsFullFor config s (names_by s names front own) line seen size
+  pub told : Option (List ℕ)
+  pub timed : IsTimed own told
+  pub full : IsFullFor config s (names_by s names front own) (last_moment 0 own) line seen told given size
 
 -- a block was played to its end, or it was stopped
-abbrev pub PlaysOn : {A : Type 0} → Config → Script → List (List ℕ × Given) → List Line → List Entry → List Entry → Result A Stopped → Type 0
-PlaysOn config s names block own seen (Ok end) = Plays s names 0 block own
-PlaysOn config s names block own seen (Err stopped.Memory) = Unit {0}
-PlaysOn config s names block own seen (Err (stopped.Full size)) = StopsAt config s names block own seen size
+abbrev pub PlaysOn : {A : Type 0} → Config → Script → List (List ℕ × Given) → List Line → List Entry → List Entry → Option (List ℕ) → Result A Stopped → Type 0
+PlaysOn config s names block own seen given (Ok end) = Plays s names 0 block own
+PlaysOn config s names block own seen given (Err stopped.Memory) = Unit {0}
+PlaysOn config s names block own seen given (Err (stopped.Full size)) = StopsAt config s names block own seen given size
 
 -- ---- setup
 
@@ -54,7 +57,7 @@ pub record IsFirst {C : Type 0} (given : C → Option (List ℕ)) (s : Script) (
   pub alone : calls_of own 0 ≡ own
   pub legal : IsLegal shared.fixed (seen_of o)
   pub timed : IsTimed own (given f.clock)
-  pub played : PlaysOn shared.fixed s [] (lines_of s.setup) own own f.played
+  pub played : PlaysOn shared.fixed s [] (lines_of s.setup) own own (given f.clock) f.played
   pub names : IfOk f.played (λ names. names ≡ setup_names s own)
 
 -- The hub's callbacks heard all of it.
@@ -95,7 +98,7 @@ pub record HasPlayed {C : Type 0} (given : C → Option (List ℕ)) (shared : Na
   pub still : IsStillAt shared w.client shared v.client
   pub timed : IsTimed (mine_of w.client) (given w.clock) → IsTimed (mine_of v.client) (given v.clock)
   pub played : mine_of w.client ≡ [] → (block : List Line) → slice_get s.clients w.place ≡ Some block
-      → PlaysOn shared.fixed s names block (mine_of v.client) (seen_of v.client) v.ended
+      → PlaysOn shared.fixed s names block (mine_of v.client) (seen_of v.client) (given v.clock) v.ended
 
 -- each client played its block
 pub record HavePlayed {C : Type 0} (given : C → Option (List ℕ)) (shared : Named Config) (s : Script) (names : List (List ℕ × Given)) (ws vs : List (Worker C)) : Type 0 where

@@ -1,5 +1,5 @@
 //! The play of the setup block.
-ghost use Rattle.std.specs.Prelude.{◌≡◌, ◌<◌, ◌^◌, [], None};
+ghost use Rattle.std.specs.Prelude.{◌≡◌, ◌<◌, ◌≤◌, ◌^◌, [], length, None};
 ghost use Rattle.turn_lock.specs.Tokens.{BelongsTo};
 ghost use Rattle.call_history.specs.Clients.{retired_of};
 ghost use Rattle.thread_play.specs.Stages.{IsFirstHeard};
@@ -22,7 +22,8 @@ pub(crate) struct First<C> {
 }
 
 /// Plays the setup block by a client of its own, by whose lines the hub's callbacks are registered, hands them over what it changed
-/// behind their places, and takes the client back.
+/// behind their places, and takes the client back. The hub reads a clock of its own for that, so that setup's ends with what its lines
+/// read.
 pub(crate) fn play_first<R: Wait + Pause, K: Clocks, B: Callback>(
     rt: &R,
     alloc: Global,
@@ -37,6 +38,7 @@ pub(crate) fn play_first<R: Wait + Pause, K: Clocks, B: Callback>(
     requires fresh { retired_of opener.old ≡ [] }
     requires note { hub.old.note ≡ None }
     requires size { shared.now.fixed.journal < 2 ^ 64 }
+    requires few { length script.now.clients ≤ 32 }
     ensures { IsFirstHeard B.counted B.told K.One.given script.now shared.now opener.new result hub.old hub.new }
 {
     let mut desk = Desk {
@@ -47,9 +49,12 @@ pub(crate) fn play_first<R: Wait + Pause, K: Clocks, B: Callback>(
     };
     let played = play_setup(rt, alloc, script, &mut desk, hub);
     let Desk { client, clock, .. } = desk;
-    let mut pass = Pass { client, clock };
+    let mut pass = Pass {
+        client,
+        clock: clocks.clock(CallerId(script.clients.as_slice().len() as u32 + 3)),
+    };
     pump_once(rt, shared, hub, &mut pass);
-    let Pass { client, clock } = pass;
+    let Pass { client, .. } = pass;
     shared.retire(opener, client);
     First { clock, played }
 }

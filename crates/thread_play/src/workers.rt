@@ -62,7 +62,7 @@ fn play_lines<R: Wait + Pause, C: Clock>(
     ensures desk { IsStillAt desk.old.shared.now desk.old.client desk.new.shared.now desk.new.client }
     ensures timed { IsTimed (mine_of desk.old.client) (C.given desk.old.clock) → IsTimed (mine_of desk.new.client) (C.given desk.new.clock) }
     ensures played { mine_of desk.old.client ≡ [] →
-        PlaysOn desk.old.shared.now.fixed script.now names.now lines.now (mine_of desk.new.client) (seen_of desk.new.client) result }
+        PlaysOn desk.old.shared.now.fixed script.now names.now lines.now (mine_of desk.new.client) (seen_of desk.new.client) (C.given desk.new.clock) result }
 {
     let Ok(names) = names.copied(alloc) else {
         return Err(Stopped::Memory);

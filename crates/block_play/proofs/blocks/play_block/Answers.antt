@@ -12,9 +12,10 @@ returns-in-Err g c =
       desk = still-both c.args.desk.now.shared.now c.loop-line.desk.shared.now c.play_line.new.desk.shared.now c.args.desk.now.client c.loop-line.desk.client c.play_line.new.desk.client inv.still c.play_line.ensures.desk;
       timed = λ t. c.play_line.ensures.timed (inv.timed t);
       ok = tt;
-      err = stops-lines c.args.desk.now.shared.now c.loop-line.desk.shared.now c.args.script.now c.args.names c.loop-line.names c.args.lines.now (take c.loop-line.line-index c.args.lines.now) (drop (suc c.loop-line.line-index) c.args.lines.now) c.line-item.result
-          c.args.desk.now.client c.loop-line.desk.client c.play_line.new.desk.client (g.C.Clock.least c.loop-line.desk.clock) c.in-Err.why inv.still.shared_is
-          (split_at c.args.lines.now c.loop-line.line-index c.line-item.result c.loop-line-test.true c.line-item.is) inv.played c.in-Err.ensures.err;
+      err = stops-lines c.args.script.now c.args.names c.loop-line.names c.args.lines.now (take c.loop-line.line-index c.args.lines.now) (drop (suc c.loop-line.line-index) c.args.lines.now) c.line-item.result
+          c.args.desk.now.client c.loop-line.desk.client c.play_line.new.desk.client (g.C.Clock.given c.args.desk.now.clock) (g.C.Clock.given c.loop-line.desk.clock) (g.C.Clock.given c.play_line.new.desk.clock)
+          (g.C.Clock.least c.loop-line.desk.clock) c.in-Err.why c.args.desk.now.shared.now c.loop-line.desk.shared.now inv.still.shared_is
+          (split_at c.args.lines.now c.loop-line.line-index c.line-item.result c.loop-line-test.true c.line-item.is) inv.timed c.play_line.ensures.timed inv.played c.in-Err.ensures.err;
     }
 
 pub loop-line-preserved : goal.loop-line-preserved

@@ -19,7 +19,7 @@ returns-in-Ok g c =
       timed = e.timed (untimed s names no_attempt 0 l c.args.call c.requires.line c.requires.asked);
       ok = if-ok-on c.names_with.result c.names_with.ensures.ok (λ after is before early. played-once s names l before _ _ old.client new.client c.args.call c.in-Ok.reply after c.requires.line c.requires.asked c.in-Ok.ensures.ok is);
       err = if-err-on c.names_with.result c.names_with.ensures.err (λ why is before early.
-          subst (λ (w : Stopped). StopsLine old.shared.now.fixed s names l before old.client new.client w) (sym is)
+          subst (λ (w : Stopped). StopsLine old.shared.now.fixed s names l before old.client new.client (g.C.Clock.given old.clock) (g.C.Clock.given new.clock) w) (sym is)
           (stopped-once s names l before old.shared.now.fixed _ _ old.client new.client c.args.call c.in-Ok.reply c.requires.line c.requires.asked c.in-Ok.ensures.ok));
     }
 
@@ -35,6 +35,6 @@ returns-in-Err g c =
       desk = still-at old.shared.now new.shared.now old.client new.client e.shared e.client e.number e.begins e.own e.legal;
       timed = e.timed (untimed s names no_attempt 0 l c.args.call c.requires.line c.requires.asked);
       ok = tt;
-      err = λ before early. subst (λ (w : Stopped). StopsLine old.shared.now.fixed s names l before old.client new.client w) (sym c.stop_for.ensures)
-          (stopped-for s names l before old.shared.now.fixed _ _ old.client new.client c.args.call c.in-Err.fault c.requires.asked c.in-Err.ensures.err);
+      err = λ before early. subst (λ (w : Stopped). StopsLine old.shared.now.fixed s names l before old.client new.client (g.C.Clock.given old.clock) (g.C.Clock.given new.clock) w) (sym c.stop_for.ensures)
+          (stopped-for s names l before old.shared.now.fixed _ _ old.client new.client c.args.call c.in-Err.fault c.requires.line early c.requires.asked c.in-Err.ensures.err);
     }

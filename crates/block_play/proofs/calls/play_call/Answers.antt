@@ -11,7 +11,7 @@ returns-in_default g c = record {
   desk = still-there c.args.desk.now.shared.now c.args.desk.now.client c.requires.client;
   timed = λ t. t;
   ok = tt;
-  err = λ before early. stopped-still c.args.script.now c.args.names c.args.line.now before c.args.desk.now.shared.now.fixed c.args.desk.now.client;
+  err = λ before early. stopped-still c.args.script.now c.args.names c.args.line.now before c.args.desk.now.shared.now.fixed c.args.desk.now.client _;
 }
 
 pub returns-in-None : goal.returns-in-None

@@ -13,5 +13,5 @@ returns-then-is_register-clause-line g c =
 pub returns-else-is_register-clause-hub : goal.returns-else-is_register-clause-hub
 returns-else-is_register-clause-hub g c =
     let e = c.play_line.ensures in
-    other-line c.args.desk.now.shared.now c.args.hub.now c.args.desk.now.shared.now.fixed c.args.script.now c.args.names _ _ c.args.line.now c.args.desk.now.client c.play_line.new.desk.client c.play_line.result
+    other-line c.args.desk.now.shared.now c.args.hub.now c.args.desk.now.shared.now.fixed c.args.script.now c.args.names _ _ _ _ c.args.line.now c.args.desk.now.client c.play_line.new.desk.client c.play_line.result
     (sym c.is_register.ensures ∙ c.if-is_register.false) c.requires.note e.desk.begins e.ok e.err

@@ -49,7 +49,7 @@ returns-in-Err-OutOfResource-Journal g c =
         desk = still-at old.shared.now old.shared.now old.client client refl r.client r.number r.begins r.own r.legal;
         timed = r.timed;
         ok = tt;
-        err = λ before early. fills-line script c.args.names before old.shared.now.fixed _ _ old.client client why.field-0 why.size same (at-err _ c.register.result why.field-0 why.is (r.err c.requires.own));
+        err = λ before early. fills-line script c.args.names before old.shared.now.fixed _ _ old.client client why.field-0 why.size early same (at-err _ c.register.result why.field-0 why.is (r.err c.requires.own));
       };
       hub = register-on old.shared.now _ _ c.args.hub.now c.register.new.self old.client client c.register.result c.requires.size c.requires.own r.ok r.err r.note r.place r.unplaced r.kept r.heard r.legal;
     }

@@ -26,7 +26,7 @@ returns-in_default-numbers_of g c =
       desk = still-there desk.shared.now desk.client c.requires;
       timed = λ t. t;
       ok = tt;
-      err = λ before early. stopped-still c.args.script.now c.args.names.now (wait_line c.args.kind c.args.session.now c.args.timeout c.args.jobs.now) before desk.shared.now.fixed desk.client;
+      err = λ before early. stopped-still c.args.script.now c.args.names.now (wait_line c.args.kind c.args.session.now c.args.timeout c.args.jobs.now) before desk.shared.now.fixed desk.client _;
     }
 
 pub returns-in_default-jobs : goal.returns-in_default-jobs

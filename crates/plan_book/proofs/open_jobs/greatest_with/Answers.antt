@@ -2,7 +2,7 @@ use Rattle.std.proofs.Common.{rules, FitsSigned, ◌≡◌, ◌+◌, ◌++◌, �
 use Rattle.std.specs.Int.{int_max}
 use Rattle.std.proofs.lemmas.List.{take_more, append_assoc}
 use Rattle.drmaa_model.specs.declared.rows.Row.{Row}
-use Rattle.plan_book.specs.Open.{IsGreatest}
+use Rattle.plan_book.specs.Open.{IsPriorityBound}
 use Rattle.plan_book.proofs.OpenLaws.{greatest-push}
 use Rattle.plan_book.proofs.open_jobs.greatest_with.Goals as goal
 
@@ -16,5 +16,5 @@ loop-row-preserved c = λ rows all.
     ap (λ (rest : List Row). rows ++ rest) (take_more xs i row c.loop-row-test.true ∙ ap (λ (r : Row). take i xs ++ r ∷ []) (sym c.row-item.is)) ∙ sym (append_assoc rows (take i xs) (row ∷ [])) in
     let fits : FitsSigned w32 c.greater_of-greatest.result = search rules in
     let is : to_z w32 (of_z w32 c.greater_of-greatest.result) ≡ int_max was row.wants.priority = to_z-of_z fits ∙ c.greater_of-greatest.ensures in
-    subst (λ (rs : List Row). IsGreatest rs (to_z w32 (of_z w32 c.greater_of-greatest.result))) (sym front)
-    (subst (IsGreatest ((rows ++ take i xs) ++ row ∷ [])) (sym is) (greatest-push (rows ++ take i xs) row was (c.loop-row.invariant rows all))))
+    subst (λ (rs : List Row). IsPriorityBound rs (to_z w32 (of_z w32 c.greater_of-greatest.result))) (sym front)
+    (subst (IsPriorityBound ((rows ++ take i xs) ++ row ∷ [])) (sym is) (greatest-push (rows ++ take i xs) row was (c.loop-row.invariant rows all))))

@@ -49,13 +49,13 @@ pub returns-then-has_priority : goal.returns-then-has_priority
 returns-then-has_priority c =
     let p = plan_of c.args.book.now in
     let xs = c.open_rows-row-items.result.now in
-    let greatest = c.greatest_priority-greatest.result in
+    let greatest = c.priority_bound-greatest.result in
     let same : to_z w32 (of_z w32 greatest) ≡ greatest = to_z-of_z w32 greatest (search rules) in
     let high : option_map_or (λ (first : Row). not (int_lt first.wants.priority greatest)) (option_copied c.loop-row.best) false ≡ true =
     subst (λ (least : ℤ). option_map_or (λ (first : Row). not (int_lt first.wants.priority least)) (option_copied c.loop-row.best) false ≡ true) same
     (sym c.has_priority.ensures ∙ c.if-has_priority.true) in
     none-better (seen_row c.args.moment p) (timed-wants c.args.moment (filter (lasts c.args.moment) p.reservations)) (may_launch c.args.moment p) (option_copied c.loop-row.best) greatest
-    high p.rows xs c.loop-row.row-index c.greatest_priority-greatest.ensures c.open_rows-row-items.ensures
+    high p.rows xs c.loop-row.row-index c.priority_bound-greatest.ensures c.open_rows-row-items.ensures
     ∙ c.loop-row.invariant.0 ∙ open-launches c.args.moment p xs c.open_rows-row-items.ensures
 
 pub returns : goal.returns

@@ -1,6 +1,7 @@
 use Rattle.std.proofs.Common.{◌≡◌, ◌-◌, ◌≤◌, length, take}
 use Rattle.drmaa_model.specs.History.{now_of}
 use Rattle.notify_hub.specs.Ears.{HaveHeard}
+use Rattle.script_play.specs.Along.{IsHandedOn}
 use Rattle.script_play.proofs.hearing.hand_over.Given as goal
 
 -- the changes up to the next place were handed over, and nothing else of the ears has changed but what their callbacks heard
@@ -11,6 +12,7 @@ invariant-loop-next g l = record {
   begun : l.ears.begun ≡ l.fn.ears.begun;
   places : l.ears.places ≡ l.fn.ears.places;
   heard : HaveHeard g.B.Callback.counted g.B.Callback.told l.fn.ears → HaveHeard g.B.Callback.counted g.B.Callback.told l.ears;
+  further : IsHandedOn g.B.Callback.counted g.B.Callback.told l.fn.ears l.ears;
 }
 
 abbrev pub decreases-loop-next : goal.decreases-loop-next

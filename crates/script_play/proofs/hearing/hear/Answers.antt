@@ -1,6 +1,7 @@
-use Rattle.std.proofs.Common.{ℕ, ◌-◌, ◌≤◌, length, slice_set, Some, sym, ap, subst, ◌∙◌}
+use Rattle.std.proofs.Common.{◌≡◌, ℕ, ◌-◌, ◌≤◌, length, slice_set, Some, sym, ap, subst, ◌∙◌}
 use Rattle.notify_hub.specs.Ears.{Listening, HaveHeard}
 use Rattle.script_play.specs.Callbacks.{ArePlacedAfter}
+use Rattle.script_play.proofs.Along.{on-placed}
 use Rattle.script_play.proofs.Handing.{handed-first, nothing-registered, registered-now}
 use Rattle.script_play.proofs.hearing.hear.Goals as goal
 use Rattle.script_play.proofs.hearing.hear.Goals.{in-Some, in_default}
@@ -53,3 +54,17 @@ returns-clause-current g c =
       handed = ap (λ (x : Listening g.row.B.Denot). x.handed) c.hand_over.ensures.handed;
       heard = c.hand_over.ensures.heard heard;
     }
+
+-- the place that was given is behind all that was handed over
+pub returns-clause-further : goal.returns-clause-further
+returns-clause-further g c =
+    let old = c.args.ears.now in
+    let handed : c.match-registered.ears.handed ≡ old.handed = elim c.match-registered.branch [
+      | in-Some w ↦ ap (λ (x : Listening g.row.B.Denot). x.handed) (w.ears-is ∙ w.place.ensures.placed)
+      | in_default w ↦ ap (λ (x : Listening g.row.B.Denot). x.handed) w.ears-is
+    ] in
+    let callbacks : c.match-registered.ears.callbacks ≡ old.callbacks = elim c.match-registered.branch [
+      | in-Some w ↦ ap (λ (x : Listening g.row.B.Denot). x.callbacks) (w.ears-is ∙ w.place.ensures.placed)
+      | in_default w ↦ ap (λ (x : Listening g.row.B.Denot). x.callbacks) w.ears-is
+    ] in
+    on-placed g.B.Callback.counted g.B.Callback.told old c.match-registered.ears c.hand_over.new.ears handed callbacks c.hand_over.ensures.further

@@ -1,8 +1,10 @@
 use Rattle.std.proofs.Common.{subst}
 use Rattle.script_play.specs.Callbacks.{AreCurrentAfter}
+use Rattle.script_asks.specs.Plays.{Playing}
+use Rattle.script_play.specs.Along.{after_block_lines, histories, HeardAlong, HeardPart}
 use Rattle.script_play.specs.Served.{IsServed}
 use Rattle.script_play.specs.View.{Start, View}
-use Rattle.script_play.proofs.Whole.{served, noted_first, whole_front, made_ok, made_err, err_so, both_ok}
+use Rattle.script_play.proofs.Whole.{opens, served, noted_first, whole_front, made_ok, made_err, err_so, both_ok}
 use Rattle.script_play.proofs.serial.play_from.Goals as goal
 
 pub play_blocks-done-requires-clause-noted : goal.play_blocks-done-requires-clause-noted
@@ -24,3 +26,16 @@ pub returns-clause-front : goal.returns-clause-front
 returns-clause-front g c =
     made_err c.play_blocks-done.result c.unless_failed.result c.play_blocks-done.new.player _ c.unless_failed.ensures
     (err_so c.play_blocks-done.result _ _ c.play_blocks-done.ensures.front (whole_front g.B.Callback.counted g.B.Callback.told c.args.script.now c.args.player c.play_blocks-done.new.ears c.requires.new))
+
+pub returns-clause-along : goal.returns-clause-along
+returns-clause-along g c =
+    let v = c.args.player in
+    made_ok c.play_blocks-done.result c.unless_failed.result c.play_blocks-done.new.player _ _ c.unless_failed.ensures c.play_blocks-done.ensures.along
+    (λ h. subst (λ (p : Playing). HeardAlong g.B.Callback.counted g.B.Callback.told v.start.callbacks v.ledger.config (histories v.start.entries (after_block_lines c.args.script.now p)) c.args.ears.now c.play_blocks-done.new.ears) (opens v c.requires.new) h)
+
+pub returns-clause-part : goal.returns-clause-part
+returns-clause-part g c =
+    let v = c.args.player in
+    made_err c.play_blocks-done.result c.unless_failed.result c.play_blocks-done.new.player _ c.unless_failed.ensures
+    (err_so c.play_blocks-done.result _ _ c.play_blocks-done.ensures.part
+    (λ h. subst (λ (p : Playing). HeardPart g.B.Callback.counted g.B.Callback.told v.start.callbacks v.ledger.config (histories v.start.entries (after_block_lines c.args.script.now p)) c.args.ears.now c.play_blocks-done.new.ears) (opens v c.requires.new) h))

@@ -40,6 +40,9 @@ play_first-clock-requires-clause-size g c =
     let same = ap (λ (f : Config). f.journal) (c.in-Ok.ensures.config ∙ c.in_ok-config.ensures) in
     omega (arith, most, same)
 
+pub play_first-clock-requires-clause-few : goal.play_first-clock-requires-clause-few
+play_first-clock-requires-clause-few g c κs within = (c.each_script_can_be_played.ensures mode.Threads c.requires.threads.0 c.args.script.now c.requires.threads.1).few
+
 pub play_others-requires-clause-size : goal.play_others-requires-clause-size
 play_others-requires-clause-size g c κs within =
     let most = (c.each_script_can_be_played.ensures mode.Threads c.requires.threads.0 c.args.script.now c.requires.threads.1).most_journal in
@@ -54,7 +57,7 @@ close-requires-clause-back g c =
     let s = c.args.script.now in
     let first = c.play_first-clock.ensures.first in
     let names : c.in-Ok-played.names ≡ setup_names s first.own = subst (λ (r : _). IfOk r (λ (n : List (List ℕ × Given)). n ≡ setup_names s first.own)) c.in-Ok-played.is first.names in
-    let played : Plays s [] 0 (lines_of s.setup) first.own = subst (λ (r : _). PlaysOn c.in-Ok.shared.fixed s [] (lines_of s.setup) first.own first.own r) c.in-Ok-played.is first.played in
+    let played : Plays s [] 0 (lines_of s.setup) first.own = subst (λ (r : _). PlaysOn c.in-Ok.shared.fixed s [] (lines_of s.setup) first.own first.own (g.K.One.Clock.given c.play_first-clock.result.clock) r) c.in-Ok-played.is first.played in
     let one : c.push_reserved.new.self.items ≡ c.play_first-clock.result.clock ∷ [] = c.push_reserved.ensures.items ∙ ap (λ (l : List g.row.K-One.Denot). l ++ c.play_first-clock.result.clock ∷ []) c.in_ok-given.ensures.items in
     let x : Others g.K.One.Clock.given g.S.One.Child.told s c.in-Ok-played.names c.in-Ok.shared c.play_first-clock.new.opener c.play_others.new.opener
     (g.S.Spawner.asked c.args.spawner.now) (g.S.Spawner.asked c.play_others.new.spawner) (g.S.Spawner.fate c.play_others.new.spawner) (c.play_first-clock.result.clock ∷ []) c.play_others.new.given.items c.in_ok-full-in-Ok-played.full =
@@ -68,7 +71,7 @@ returns-in_ok-full-in-Ok-played-clause-run g c =
     let s = c.args.script.now in
     let first = c.play_first-clock.ensures.first in
     let names : c.in-Ok-played.names ≡ setup_names s first.own = subst (λ (r : _). IfOk r (λ (n : List (List ℕ × Given)). n ≡ setup_names s first.own)) c.in-Ok-played.is first.names in
-    let played : Plays s [] 0 (lines_of s.setup) first.own = subst (λ (r : _). PlaysOn c.in-Ok.shared.fixed s [] (lines_of s.setup) first.own first.own r) c.in-Ok-played.is first.played in
+    let played : Plays s [] 0 (lines_of s.setup) first.own = subst (λ (r : _). PlaysOn c.in-Ok.shared.fixed s [] (lines_of s.setup) first.own first.own (g.K.One.Clock.given c.play_first-clock.result.clock) r) c.in-Ok-played.is first.played in
     let one : c.push_reserved.new.self.items ≡ c.play_first-clock.result.clock ∷ [] = c.push_reserved.ensures.items ∙ ap (λ (l : List g.row.K-One.Denot). l ++ c.play_first-clock.result.clock ∷ []) c.in_ok-given.ensures.items in
     let x : Others g.K.One.Clock.given g.S.One.Child.told s c.in-Ok-played.names c.in-Ok.shared c.play_first-clock.new.opener c.play_others.new.opener
     (g.S.Spawner.asked c.args.spawner.now) (g.S.Spawner.asked c.play_others.new.spawner) (g.S.Spawner.fate c.play_others.new.spawner) (c.play_first-clock.result.clock ∷ []) c.play_others.new.given.items c.in_ok-full-in-Ok-played.full =
@@ -95,7 +98,7 @@ returns-in_ok-full-in-Ok-played-clause-hub g c =
     let s = c.args.script.now in
     let first = c.play_first-clock.ensures.first in
     let names : c.in-Ok-played.names ≡ setup_names s first.own = subst (λ (r : _). IfOk r (λ (n : List (List ℕ × Given)). n ≡ setup_names s first.own)) c.in-Ok-played.is first.names in
-    let played : Plays s [] 0 (lines_of s.setup) first.own = subst (λ (r : _). PlaysOn c.in-Ok.shared.fixed s [] (lines_of s.setup) first.own first.own r) c.in-Ok-played.is first.played in
+    let played : Plays s [] 0 (lines_of s.setup) first.own = subst (λ (r : _). PlaysOn c.in-Ok.shared.fixed s [] (lines_of s.setup) first.own first.own (g.K.One.Clock.given c.play_first-clock.result.clock) r) c.in-Ok-played.is first.played in
     let one : c.push_reserved.new.self.items ≡ c.play_first-clock.result.clock ∷ [] = c.push_reserved.ensures.items ∙ ap (λ (l : List g.row.K-One.Denot). l ++ c.play_first-clock.result.clock ∷ []) c.in_ok-given.ensures.items in
     let hears = c.play_first-clock.ensures.hears in
     let y : OthersHeard g.K.One.Clock.given g.S.One.Child.told s c.in-Ok-played.names c.in-Ok.shared c.play_first-clock.new.opener c.play_others.new.opener

@@ -3,6 +3,7 @@ use Rattle.drmaa_model.specs.declared.calls.Call.TheVariants as call
 use Rattle.call_history.specs.Clocks.{dial}
 use Rattle.wait_calls.specs.Waited.{IsWaited, Reaches, Refuses}
 use Rattle.client_sessions.proofs.Alone.{alone}
+use Rattle.client_sessions.proofs.InTurn.{still-same, still-stays}
 use Rattle.client_sessions.proofs.jobs.Job.wait_alone.Goals as goal
 
 pub returns-in-Ok-wait-clause-ok : goal.returns-in-Ok-wait-clause-ok
@@ -24,3 +25,12 @@ returns-in-Err-clause-err g c =
           (λ (begun : ℕ). call.Wait c.args.self.session l c.args.kind begun c.args.timeout) (Refuses c.args.desk.now.shared.now.fixed c.args.desk.now.client c.in-Err.why c.wait.new.desk.client)
           (dial (g.C.Clock.given c.wait.new.desk.clock) (g.C.Clock.least c.wait.new.desk.clock)) c.wait.new.desk.client) jobs c.in-Err.ensures.err,
     )
+
+pub returns-in_default-clause-still : goal.returns-in_default-clause-still
+returns-in_default-clause-still g c = still-same _ _ c.requires
+
+pub returns-in-Ok-wait-clause-still : goal.returns-in-Ok-wait-clause-still
+returns-in-Ok-wait-clause-still g c = still-stays _ _ _ _ c.wait.ensures.desk c.wait.ensures.begins
+
+pub returns-in-Err-clause-still : goal.returns-in-Err-clause-still
+returns-in-Err-clause-still g c = still-stays _ _ _ _ c.wait.ensures.desk c.wait.ensures.begins

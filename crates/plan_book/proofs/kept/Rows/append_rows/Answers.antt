@@ -4,7 +4,7 @@ use Rattle.job_template.specs.Texts.{text_length}
 use Rattle.drmaa_model.specs.declared.rows.Row.{Row}
 use Rattle.drmaa_model.specs.Submitting.{kept_text}
 use Rattle.plan_book.specs.declared.sums.Sums.{Sums}
-use Rattle.plan_book.specs.Open.{AreOver, IsGreatest}
+use Rattle.plan_book.specs.Open.{AreOver, IsPriorityBound}
 use Rattle.plan_book.specs.Sums.{AreSums}
 use Rattle.plan_book.proofs.OpenLaws.{over-append}
 use Rattle.plan_book.proofs.SumLaws.{sums-few, sums-append}
@@ -32,9 +32,9 @@ invariant_of-self c =
           (subst (λ (sums : Sums). AreSums (xs ++ more) sums) (sym c.with_others-self-inside.ensures)
           (sums-append xs more c.self.inside.sums c.sums_of.result c.self.invariant.totals c.sums_of.ensures));
       over = subst (AreOver c.self.inside.over) (sym c.append_rows.ensures) (over-append xs more c.self.inside.over c.self.invariant.over);
-      greatest = subst (IsGreatest c.append_rows.new.rows.items) (sym (to_z-of_z now_fits))
-          (subst (λ (rows : List Row). IsGreatest rows c.greatest_with-self-inside.result) (sym c.append_rows.ensures)
-          (c.greatest_with-self-inside.ensures xs (subst (IsGreatest xs) (sym (to_z-of_z fits)) c.self.invariant.greatest)));
+      greatest = subst (IsPriorityBound c.append_rows.new.rows.items) (sym (to_z-of_z now_fits))
+          (subst (λ (rows : List Row). IsPriorityBound rows c.greatest_with-self-inside.result) (sym c.append_rows.ensures)
+          (c.greatest_with-self-inside.ensures xs (subst (IsPriorityBound xs) (sym (to_z-of_z fits)) c.self.invariant.greatest)));
       text = same-room (kept_text xs + kept_text more) (kept_text c.append_rows.new.rows.items) c.room_with-self-inside.result
           (ap kept_text c.append_rows.ensures ∙ sum_by-append (λ (row : Row). text_length row.template) xs more) (c.room_with-self-inside.ensures (kept_text xs) c.self.invariant.text);
     }

@@ -1,7 +1,7 @@
 use Rattle.std.proofs.Common.{◌∙◌, List, ap, subst, sym}
 use Rattle.drmaa_model.specs.declared.rows.Row.{Row}
 use Rattle.drmaa_model.specs.Submitting.{kept_text}
-use Rattle.plan_book.specs.Open.{AreOver, IsGreatest}
+use Rattle.plan_book.specs.Open.{AreOver, IsPriorityBound}
 use Rattle.plan_book.proofs.OpenLaws.{over-step, greatest-step}
 use Rattle.plan_book.proofs.TextLaws.{same-room, text-step}
 use Rattle.plan_book.proofs.kept.Rows.control_all.Goals as goal
@@ -16,6 +16,6 @@ invariant_of-self c =
     record {
       totals = c.sums_of-self-inside.ensures;
       over = c.over_from-self-inside.ensures.over;
-      greatest = subst (λ (rows : List Row). IsGreatest rows c.self.inside.greatest) (sym c.control_rows.ensures) (greatest-step c.args.moment c.args.target.now c.args.what was c.self.inside.greatest c.self.invariant.greatest);
+      greatest = subst (λ (rows : List Row). IsPriorityBound rows c.self.inside.greatest) (sym c.control_rows.ensures) (greatest-step c.args.moment c.args.target.now c.args.what was c.self.inside.greatest c.self.invariant.greatest);
       text = same-room (kept_text was) (kept_text c.control_rows.new.rows.items) c.self.inside.room (ap kept_text c.control_rows.ensures ∙ text-step c.args.moment c.args.target.now c.args.what was) c.self.invariant.text;
     }

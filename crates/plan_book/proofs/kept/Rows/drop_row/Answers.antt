@@ -2,7 +2,7 @@ use Rattle.std.proofs.Common.{rules, FitsSigned, ◌<◌, length, sym, subst, ar
 use Rattle.std.specs.Global.{Vec}
 use Rattle.drmaa_model.specs.declared.rows.Row.{Row}
 use Rattle.drmaa_model.specs.Submitting.{kept_text}
-use Rattle.plan_book.specs.Open.{AreOver, IsGreatest}
+use Rattle.plan_book.specs.Open.{AreOver, IsPriorityBound}
 use Rattle.plan_book.proofs.OpenLaws.{greatest-removed}
 use Rattle.plan_book.proofs.SumLaws.{sums-few, removed-parts, sums-removed}
 use Rattle.plan_book.proofs.TextLaws.{room-removed}
@@ -29,7 +29,7 @@ pub greatest_without-self-inside-requires : goal.greatest_without-self-inside-re
 greatest_without-self-inside-requires c =
     let left = c.remove-row.new.self.items in
     let fits : FitsSigned w32 c.self.inside.greatest = search rules in
-    subst (IsGreatest left) (sym (to_z-of_z fits)) (greatest-removed c.self.inside.list.items left c.args.place c.self.inside.greatest c.remove-row.ensures.items c.self.invariant.greatest)
+    subst (IsPriorityBound left) (sym (to_z-of_z fits)) (greatest-removed c.self.inside.list.items left c.args.place c.self.inside.greatest c.remove-row.ensures.items c.self.invariant.greatest)
 
 pub invariant_of-self : goal.invariant_of-self
 invariant_of-self c =
@@ -41,5 +41,5 @@ invariant_of-self c =
       totals = sums-removed xs c.args.place c.remove-row.result c.self.inside.sums within c.remove-row.ensures.value c.self.invariant.totals left c.without_job-self-inside.result c.remove-row.ensures.items c.without_job-self-inside.ensures.value;
       text = c.room_beside-self-inside.ensures;
       over = subst (AreOver c.over_without-self-inside.result) (sym c.remove-row.ensures.items) (c.over_without-self-inside.ensures xs within c.self.invariant.over);
-      greatest = subst (IsGreatest left) (sym (to_z-of_z fits)) c.greatest_without-self-inside.ensures;
+      greatest = subst (IsPriorityBound left) (sym (to_z-of_z fits)) c.greatest_without-self-inside.ensures;
     }

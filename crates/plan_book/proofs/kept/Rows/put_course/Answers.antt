@@ -5,7 +5,7 @@ use Rattle.drmaa_model.specs.Fit.{IsRising, number_of}
 use Rattle.drmaa_model.specs.Rows.{row_of, with_course}
 use Rattle.drmaa_model.specs.Submitting.{kept_text}
 use Rattle.plan_book.specs.declared.sums.Sums.{Sums}
-use Rattle.plan_book.specs.Open.{IsGreatest}
+use Rattle.plan_book.specs.Open.{IsPriorityBound}
 use Rattle.plan_book.specs.Sums.{AreSums}
 use Rattle.plan_book.proofs.OpenLaws.{over-set, over-fewer, greatest-course}
 use Rattle.plan_book.proofs.Searched.{find-at, set-at, map-absent}
@@ -48,7 +48,7 @@ invariant_of-self c =
           (subst (λ (sums : Sums). AreSums (map (with_course c.args.job course) xs) sums) (sym c.going_on-self-inside.ensures.value)
           (sums-change c.args.job course xs row c.self.inside.sums rising found c.self.invariant.totals c.going_on-self-inside.ensures.small));
       over = c.over_from-self-inside.ensures.over;
-      greatest = subst (λ (rows : List Row). IsGreatest rows c.self.inside.greatest) (sym is) (greatest-course c.args.job course xs c.self.inside.greatest c.self.invariant.greatest);
+      greatest = subst (λ (rows : List Row). IsPriorityBound rows c.self.inside.greatest) (sym is) (greatest-course c.args.job course xs c.self.inside.greatest c.self.invariant.greatest);
       text = same-room (kept_text xs) (kept_text (set xs c.in-Ok.place (give c.index_mut.result.now))) c.self.inside.room (ap kept_text is ∙ text-course c.args.job course xs) c.self.invariant.text;
     }
 

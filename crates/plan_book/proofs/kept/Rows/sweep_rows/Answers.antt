@@ -1,7 +1,7 @@
 use Rattle.std.proofs.Common.{◌∙◌, List, ap, subst, sym}
 use Rattle.drmaa_model.specs.declared.rows.Row.{Row}
 use Rattle.drmaa_model.specs.Submitting.{kept_text}
-use Rattle.plan_book.specs.Open.{AreOver, IsGreatest}
+use Rattle.plan_book.specs.Open.{AreOver, IsPriorityBound}
 use Rattle.plan_book.proofs.OpenLaws.{over-timed, greatest-timed}
 use Rattle.plan_book.proofs.TextLaws.{same-room, text-timed}
 use Rattle.plan_book.proofs.kept.Rows.sweep_rows.Goals as goal
@@ -16,7 +16,7 @@ invariant_of-self c =
     record {
       totals = c.sweep_rows-swept.ensures.sums;
       over = c.over_from-self-inside.ensures.over;
-      greatest = subst (λ (rows : List Row). IsGreatest rows c.self.inside.greatest) (sym c.sweep_rows-swept.ensures.items) (greatest-timed c.args.moment c.args.rs.now.items was c.self.inside.greatest c.self.invariant.greatest);
+      greatest = subst (λ (rows : List Row). IsPriorityBound rows c.self.inside.greatest) (sym c.sweep_rows-swept.ensures.items) (greatest-timed c.args.moment c.args.rs.now.items was c.self.inside.greatest c.self.invariant.greatest);
       text = same-room (kept_text was) (kept_text c.sweep_rows-swept.new.rows.items) c.self.inside.room
           (ap kept_text c.sweep_rows-swept.ensures.items ∙ text-timed c.args.moment c.args.rs.now.items was) c.self.invariant.text;
     }

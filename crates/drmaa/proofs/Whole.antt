@@ -1,0 +1,211 @@
+-- From what all clients leave to the one history.
+use Rattle.std.proofs.Common.{◌≡◌, ℕ, zero, suc, ◌+◌, ◌-◌, ◌<◌, ◌≤◌, true, List, [], ◌∷◌, length, slice_index_or, Option, Some, None, refl, sym, ap, ◌∙◌, subst, arith}
+use Rattle.std.specs.Prelude.{IfSome, IsSome, Result, IsOk}
+use Rattle.child_spawner.specs.declared.fates.Asked.{Asked}
+use Rattle.child_spawner.specs.declared.fates.Fate.{Fate}
+use Rattle.child_spawner.specs.Children.{Told}
+use Rattle.drmaa_types.specs.declared.changes.Notification.{Notification}
+use Rattle.drmaa_types.specs.declared.refusals.Refusal.{Refusal}
+use Rattle.drmaa_model.specs.declared.configs.Config.{Config}
+use Rattle.drmaa_model.specs.declared.entries.Entry.{Entry}
+use Rattle.drmaa_model.specs.declared.looks.Answer.TheVariants as answer
+use Rattle.drmaa_model.specs.Consistent.{IsConsistent}
+use Rattle.drmaa_model.specs.Fit.{IsFit}
+use Rattle.drmaa_model.specs.History.{IsLegal, replay}
+use Rattle.drmaa_model.specs.Order.{settled}
+use Rattle.drmaa_model.specs.Plan.{Plan}
+use Rattle.drmaa_model.specs.SettledLaws.{IsQuiet}
+use Rattle.drmaa_model.specs.Time.{advance, advance_plan}
+use Rattle.turn_lock.specs.Histories.{BeginsWith, left_of}
+use Rattle.turn_lock.specs.Tokens.{Named}
+use Rattle.call_history.specs.Callers.{calls_of}
+use Rattle.call_history.specs.Clients.{Seat, seen_of, mine_of, number_of, retired_of}
+use Rattle.call_history.specs.ClientLaws.{begins-itself, begins-both}
+use Rattle.attendant.specs.declared.reaper.Held.{Held}
+use Rattle.attendant.specs.declared.reaper.Hand.{Hand}
+use Rattle.attendant.specs.Acts.{acts_of, own_acts, Each, is_launched}
+use Rattle.attendant.specs.Runs.{is_ended}
+use Rattle.attendant.specs.Outside.{Keeps, Tells, AgreesOf, IsLaunchersEntry, IsReapersEntry}
+use Rattle.attendant.specs.Whole.{AgreesWithOutside, AreAlone}
+use Rattle.notify_hub.specs.Ears.{HaveHeard, place_at}
+use Rattle.notify_hub.specs.Hubs.{Following, IsNoteOf, MayBe, noted}
+use Rattle.notify_hub.specs.Places.{Follows, HavePlaces, changes_of, place_of}
+use Rattle.notify_hub.specs.Places as places
+use Rattle.drmaa.specs.Closed.{RegistersFrom, IsHistory, IsAtRest, AsksAsClient, AreAsked, HaveHeardAll}
+use Rattle.drmaa.specs.Crews.{IsLeft}
+use Rattle.drmaa.proofs.Back.{Lists}
+use Rattle.drmaa.proofs.Beginnings.{calls-begin, begins-shorter, nothing-after}
+use Rattle.drmaa.proofs.Callers.{by-caller, are-alone, registers-aside}
+
+-- what the machine that is had back says of its history
+pub record IsClosed (config : Config) (o : Seat) (history : List Entry) : Type 0 where
+  pub legal : IsLegal config history
+  pub seen : BeginsWith history (seen_of o)
+  pub lists : (number : ℕ) (own : List Entry) → slice_index_or (retired_of o) number None ≡ Some own → calls_of history number ≡ own
+  pub strangers : (number : ℕ) → length (retired_of o) ≤ number → calls_of history number ≡ []
+
+-- what is true of every legal history
+pub record Laws (config : Config) : Type 0 where
+  pub consistent : (history : List Entry) → IsLegal config history → IsConsistent (replay config history)
+  pub quiet : (entry at : ℕ) (p : Plan) → IsFit p → settled (advance_plan entry at p) ≡ true → IsQuiet p
+
+-- a machine's note tells its configuration
+may-note : (shared : Named Config) (note : Option Seat) → IsNoteOf shared note → MayBe shared.fixed note
+may-note shared None own = tt
+may-note shared (Some seat) own = own.fixed_is
+
+-- the numbers that these entries register have their places
+registered-there : (n : ℕ) (es : List Entry) (ps : List (Option ℕ)) → RegistersFrom (n + 1) es → HavePlaces es ps → (i : ℕ) → i < length es → IsSome (place_at ps (n + i))
+registered-there n [] ps all have i h = absurd (omega arith)
+registered-there n (e ∷ es) ps all have zero h =
+    let here : IsSome (place_at ps (n + 1 - 1)) = have.0 all.0 (n + 1) all.1 in
+    subst (λ (k : ℕ). IsSome (place_at ps k)) (let k : n + 1 - 1 ≡ n + 0 = omega arith in k) here
+registered-there n (e ∷ es) ps all have (suc i) h =
+    subst (λ (k : ℕ). IsSome (place_at ps k)) (let k : (n + 1) + i ≡ n + suc i = omega arith in k) (registered-there (n + 1) es ps all.2 have.1 i (omega arith))
+
+registered-at : (es : List Entry) (ps : List (Option ℕ)) → RegistersFrom 1 es → HavePlaces es ps → (i : ℕ) → i < length es → IsSome (place_at ps i)
+registered-at es ps all have i h = subst (λ (k : ℕ). IsSome (place_at ps k)) (let k : 0 + i ≡ i = omega arith in k) (registered-there 0 es ps all have i h)
+
+-- a place that is there is that of its number
+some-place : {B : Type 0} (config : Config) (history : List Entry) (hub : Following B) → Follows config history hub.ears → (i : ℕ) → (o : Option ℕ) → place_at hub.ears.places i ≡ o → IsSome o → o ≡ place_of config history (i + 1)
+some-place config history hub f i None at is = absurd (cc)
+some-place config history hub f i (Some p) at is = sym (f.places i p at)
+
+module _ {B T : Type 0} (counted : B → ℕ) (told : B → Option (List Notification)) (tells : T → Option Told) (Does : List Entry → Type 0) (shared : Named Config) (p : Seat)
+    (asked asked2 : Option (List Asked)) (fate : ℕ → Fate) (first hub : Following B) (count : ℕ) (ended : Result (Unit {0}) Refusal)
+    (x : IsLeft counted told tells Does shared p asked asked2 fate first hub count ended) where
+  pub none-left : left_of (retired_of p) ≡ 0
+  none-left = ap (λ (l : Lists). left_of l) x.back.retired
+
+  module _ (history : List Entry) (laws : Laws shared.fixed) (closed : IsClosed shared.fixed p history) where
+    -- ---- the entries of each caller
+
+    pub of-own : calls_of history 0 ≡ mine_of x.own
+    of-own = closed.lists 0 (mine_of x.own) (ap (λ (l : Lists). slice_index_or l 0 None) x.back.retired)
+
+    of-launcher : calls_of history 1 ≡ mine_of x.launcher.client
+    of-launcher = closed.lists 1 (mine_of x.launcher.client) (ap (λ (l : Lists). slice_index_or l 1 None) x.back.retired)
+
+    of-reaper : calls_of history 2 ≡ mine_of x.reaping
+    of-reaper = closed.lists 2 (mine_of x.reaping) (ap (λ (l : Lists). slice_index_or l 2 None) x.back.retired)
+
+    of-hub : calls_of history 3 ≡ mine_of x.pass
+    of-hub = closed.lists 3 (mine_of x.pass) (ap (λ (l : Lists). slice_index_or l 3 None) x.back.retired)
+
+    of-others : (k : ℕ) → 3 < k → calls_of history k ≡ []
+    of-others k above = closed.strangers k (let n = ap length x.back.retired in omega arith)
+
+    -- ---- what stands in beginnings
+
+    enough : (top : List Entry) (k n : ℕ) (seen own : List Entry) → BeginsWith top seen → calls_of history k ≡ own → own ≡ calls_of seen n → n ≡ k → length (calls_of history k) ≤ length (calls_of top k)
+    enough top k n seen own b all knows is =
+        let same : calls_of history k ≡ calls_of seen k = all ∙ (knows ∙ ap (λ (m : ℕ). calls_of seen m) is) in
+        let e = ap length same in
+        let h = begins-shorter (calls_of top k) (calls_of seen k) (calls-begin top seen k b) in
+        omega arith
+
+    -- what the launcher's client and the reaper's have seen is all
+    all-within : (top : List Entry) → BeginsWith history top → BeginsWith top (seen_of x.launcher.client) → BeginsWith top (seen_of x.reaping) → history ≡ top
+    all-within top within launched reaped = nothing-after history top within
+        (by-caller (λ k. length (calls_of history k) ≤ length (calls_of top k))
+        (enough top 0 (number_of x.own) (seen_of x.own) (mine_of x.own) (begins-both (seen_of x.own) (seen_of x.launcher.client) top x.from_own launched) of-own x.back.own_knows x.back.own_is)
+        (enough top 1 (number_of x.launcher.client) (seen_of x.launcher.client) (mine_of x.launcher.client) launched of-launcher x.launcher_knows x.launcher_is)
+        (enough top 2 (number_of x.reaping) (seen_of x.reaping) (mine_of x.reaping) reaped of-reaper x.reaping_knows x.reaping_is)
+        (enough top 3 (number_of x.early) (seen_of x.early) (mine_of x.early) (begins-both (seen_of x.early) (seen_of x.launcher.client) top x.from_early launched) (of-hub ∙ x.pass_mine) x.early_knows x.early_is)
+        (λ k above. let e = ap length (of-others k above) in omega arith))
+
+    -- ---- the history
+
+    launches : Each IsLaunchersEntry (acts_of (calls_of history 1))
+    launches = subst (λ (es : List Entry). Each IsLaunchersEntry (acts_of es)) (sym of-launcher) x.tends.launches
+
+    reports : Each IsReapersEntry (acts_of (calls_of history 2))
+    reports = subst (λ (es : List Entry). Each IsReapersEntry (acts_of es)) (sym of-reaper) x.tends.reports
+
+    numbers : RegistersFrom 1 (calls_of history 3)
+    numbers = subst (RegistersFrom 1) (sym of-hub) x.numbers
+
+    pub is-history : IsHistory shared.fixed count history
+    is-history = record {
+      legal = closed.legal;
+      launcher = launches;
+      reaper = reports;
+      ended = λ job attempt ends. subst (λ (es : List Entry). is_launched job attempt (acts_of es) ≡ true) (sym of-launcher)
+          (x.tends.ended job attempt (subst (λ (es : List Entry). is_ended job attempt (acts_of es) ≡ true) of-reaper ends));
+      hub = numbers;
+      callbacks_are = ap length of-hub ∙ x.as_many;
+      strangers = of-others;
+    }
+
+    pub has-done : Does (calls_of history 0)
+    has-done = subst Does (sym of-own) x.does
+
+    -- ---- at rest
+
+    launcher-known : BeginsWith history (seen_of x.launcher.client)
+    launcher-known = begins-both (seen_of x.launcher.client) (seen_of p) history x.back.launcher_known closed.seen
+
+    pub at-rest : IsOk ended → IsAtRest shared.fixed history
+    at-rest ok =
+        let same : history ≡ seen_of x.launcher.client = all-within (seen_of x.launcher.client) launcher-known (begins-itself (seen_of x.launcher.client)) (x.begins ok) in
+        let l = (x.settled ok).look in
+        let said : answer.Settled true ≡ answer.Settled (settled (advance (replay shared.fixed (seen_of x.launcher.client)) l.at).plan) = l.told in
+        let here : settled (advance (replay shared.fixed (seen_of x.launcher.client)) l.at).plan ≡ true = cc in
+        let now : settled (advance (replay shared.fixed history) l.at).plan ≡ true = subst (λ (es : List Entry). settled (advance (replay shared.fixed es) l.at).plan ≡ true) (sym same) here in
+        record {
+          quiet = laws.quiet ((replay shared.fixed history).entries + 1) l.at (replay shared.fixed history).plan (laws.consistent history closed.legal).fit now;
+          at = l.at;
+          settled_is = now;
+        }
+
+    -- ---- the outside
+
+    asked-then : (then : Option (List Asked)) → Keeps tells then fate (own_acts x.launcher.client) (own_acts x.reaping) x.at x.hand → IfSome then (AreAsked (acts_of (calls_of history 1)))
+    asked-then None k = tt
+    asked-then (Some starts) k =
+        let t : Tells tells starts fate (own_acts x.launcher.client) (own_acts x.reaping) x.at x.hand = k.tells in
+        subst (λ (es : List Entry). AreAsked (acts_of es) starts) (sym of-launcher) t.asked
+
+    pub are-asked : asked ≡ Some [] → IfSome asked2 (AreAsked (acts_of (calls_of history 1)))
+    are-asked none = asked-then asked2 (x.keeps none)
+
+    alone-all : AsksAsClient (calls_of history 0) → AreAlone 1 2 (acts_of history)
+    alone-all aside = are-alone history aside launches reports (registers-aside 1 (calls_of history 3) numbers) of-others
+
+    agreed : ((starts : List Asked) (at : ℕ → Option (Held T)) (hand : Option Hand) → AreAlone 1 2 (acts_of history) → Keeps tells (Some starts) fate (acts_of (calls_of history 1)) (acts_of (calls_of history 2)) at hand
+        → AgreesOf (Some starts) fate (acts_of (calls_of history 1)) (acts_of (calls_of history 2)) → AgreesWithOutside starts fate (acts_of history))
+        → AreAlone 1 2 (acts_of history) → (then : Option (List Asked)) → Keeps tells then fate (own_acts x.launcher.client) (own_acts x.reaping) x.at x.hand → AgreesOf then fate (own_acts x.launcher.client) (own_acts x.reaping)
+        → IfSome then (λ starts. AgreesWithOutside starts fate (acts_of history))
+    agreed law lone None k a = tt
+    agreed law lone (Some starts) k a =
+        law starts x.at x.hand lone
+        (subst (λ (es : List Entry). Keeps tells (Some starts) fate (acts_of es) (acts_of (calls_of history 2)) x.at x.hand) (sym of-launcher)
+        (subst (λ (es : List Entry). Keeps tells (Some starts) fate (own_acts x.launcher.client) (acts_of es) x.at x.hand) (sym of-reaper) k))
+        (subst (λ (es : List Entry). AgreesOf (Some starts) fate (acts_of es) (acts_of (calls_of history 2))) (sym of-launcher)
+        (subst (λ (es : List Entry). AgreesOf (Some starts) fate (own_acts x.launcher.client) (acts_of es)) (sym of-reaper) a))
+
+    pub outside-agrees : ((starts : List Asked) (at : ℕ → Option (Held T)) (hand : Option Hand) → AreAlone 1 2 (acts_of history) → Keeps tells (Some starts) fate (acts_of (calls_of history 1)) (acts_of (calls_of history 2)) at hand
+        → AgreesOf (Some starts) fate (acts_of (calls_of history 1)) (acts_of (calls_of history 2)) → AgreesWithOutside starts fate (acts_of history))
+        → asked ≡ Some [] → IsOk ended → AsksAsClient (calls_of history 0) → IfSome asked2 (λ starts. AgreesWithOutside starts fate (acts_of history))
+    outside-agrees law none ok aside = agreed law (alone-all aside) asked2 (x.keeps none) (x.agrees ok none)
+
+    -- ---- the callbacks
+
+    pub have-heard : (before after : List B) → first.ears.begun ≡ before → count ≡ length before → HaveHeard counted told first.ears
+        → ((config : Config) → MayBe config hub.note → HaveHeard counted told hub.ears → hub.ears.handed ≡ changes_of config (noted hub.note) → places.HaveHeardAll counted told config (noted hub.note) hub.ears.places hub.ears.begun after)
+        → HaveHeardAll counted told shared.fixed history before after
+    have-heard before after begun_is count_is silence taken =
+        let top : history ≡ seen_of x.pass = all-within (seen_of x.pass) (begins-both (seen_of x.pass) (seen_of p) history x.back.pass_known closed.seen) x.from_launcher x.from_reaping in
+        let f = x.follows in
+        let may : MayBe shared.fixed hub.note = may-note shared hub.note f.note.own in
+        let at : noted hub.note ≡ history = f.note.seen_is ∙ sym top in
+        let follows : Follows shared.fixed history hub.ears = subst (λ (h : List Entry). Follows shared.fixed h hub.ears) at (f.kept shared.fixed may) in
+        let handed : hub.ears.handed ≡ changes_of shared.fixed (noted hub.note) = f.handed ∙ ap (λ (h : List Entry). changes_of shared.fixed h) (sym f.note.seen_is) in
+        let all : places.HaveHeardAll counted told shared.fixed history hub.ears.places before after =
+        subst (λ (l : List B). places.HaveHeardAll counted told shared.fixed history hub.ears.places l after) (x.begun ∙ begun_is)
+        (subst (λ (h : List Entry). places.HaveHeardAll counted told shared.fixed h hub.ears.places hub.ears.begun after) at (taken shared.fixed may (x.heard silence) handed)) in
+        record {
+          as_many = all.as_many;
+          each = λ i d below. all.each i d below
+              (some-place shared.fixed history hub follows i (place_at hub.ears.places i) refl (registered-at (mine_of x.pass) hub.ears.places x.numbers x.places i (let m = x.as_many in let c = count_is in omega arith)));
+        }
