@@ -18,7 +18,8 @@ use Rattle.attendant.specs.Acts.{Act, act_of, acts_of}
 use Rattle.attendant.specs.Posts.{Post, acts_at, IsStillAt, Fails, FailsWithin}
 use Rattle.attendant.specs.Steps.{MayFail}
 use Rattle.attendant.specs.Rounds.{asked_signal, Took, FindsNone, Serves, ReportSteps, ServesTaken, ServesOrder, PollsAll, RoundAnswer, ReapSteps, IsTaking, takes, keeps, finds_none, finds_full, lacks_memory, IsOrderServed, IsRoundRefused, wants_memory, full_at_take, full_at_report}
-use Rattle.attendant.proofs.Desks.{still-same, still-both, within, fails-on, fails-last}
+use Rattle.attendant.specs.PairLaws.{post-itself}
+use Rattle.attendant.proofs.Desks.{still-both, within, fails-on, fails-last}
 use Rattle.attendant.proofs.Entries.{some_is}
 
 err_is : (a b : Refusal) (r : Result ℕ Refusal) → r ≡ Err a → r ≡ Err b → a ≡ b
@@ -29,7 +30,7 @@ none_some x e = cc
 
 -- a call that made no entry, in the time of a round
 pub fails-now : (old now new : Post) (c : Call) (why : NoEntry) → IsFree old.shared old.client → Fails old c why now → IsStillAt now new → FailsWithin old c why new
-fails-now old now new c why free f still = within old old now new c why (still-same old free) f still
+fails-now old now new c why free f still = within old old now new c why (post-itself old free) f still
 
 -- ---- whether an order was taken
 

@@ -27,13 +27,15 @@ use Rattle.turn_lock.specs.Histories.{BeginsWith}
 use Rattle.turn_lock.specs.Tokens.{Named, IsFree}
 use Rattle.call_history.specs.Callers.{calls_of}
 use Rattle.call_history.specs.Calls.{entry_by, IsServed, IsUnserved, IsLookedAt}
-use Rattle.drmaa_types.specs.Readings.{Reads}
 use Rattle.drmaa_model.specs.declared.looks.Answer.{Answer}
 use Rattle.drmaa_model.specs.declared.looks.Question.{Question}
 use Rattle.drmaa_model.specs.declared.faults.NoEntry.{NoEntry}
+use Rattle.call_history.specs.ClientLaws.{begins-both}
 use Rattle.call_history.specs.Clients.{Seat, seen_of, mine_of, number_of, KnowsItsOwn, Makes}
+use Rattle.call_history.specs.ClockLaws.{gives-none, gives-one, gives-both}
 use Rattle.attendant.specs.Acts.{Duty, TakeLaunch, Started, StartFailed, Exited, ExitUnknown, TakeSignal, SignalDone, SignalFailed, Other, duty_of, Act, act_of, acts_of, own_acts, launch_reply, signal_reply, launch_in, launches_run, is_run, is_launched, IsNewLaunch, IsSignal, of}
-use Rattle.attendant.specs.Posts.{Post, acts_at, Gives, AreAmong, IsStillAt, Succeeds, Fails, FailsWithin}
+use Rattle.attendant.specs.Posts.{Post, acts_at, AreAmong, IsStillAt, Succeeds, Fails, FailsWithin}
+use Rattle.attendant.specs.PairLaws.{post-itself}
 use Rattle.attendant.specs.Steps.{entry_of, Takes, Answers, IsLegalReply, Reports, report_call, asked_start}
 use Rattle.attendant.proofs.Entries.{not_true, or_cases}
 
@@ -214,22 +216,6 @@ answers config old new at c r m same own legal = record {
 
 -- ---- desks
 
-pub gives-one : (before : Option (List ℕ)) (at : ℕ) (after : Option (List ℕ)) → Reads before at after → Gives before (at ∷ []) after
-gives-one before at None told = tt
-gives-one None at (Some after) told = told
-gives-one (Some before) at (Some after) told = told
-
-gives-none : (given : Option (List ℕ)) → Gives given [] given
-gives-none None = tt
-gives-none (Some readings) = sym (append-nil readings)
-
-pub gives-both : (before : Option (List ℕ)) (first : List ℕ) (mid : Option (List ℕ)) (second : List ℕ) (after : Option (List ℕ))
-    → Gives before first mid → Gives mid second after → Gives before (first ++ second) after
-gives-both before first mid second None f s = tt
-gives-both before first None second (Some after) f s = absurd s
-gives-both None first (Some mid) second (Some after) f s = absurd f
-gives-both (Some before) first (Some mid) second (Some after) f s = s ∙ ap (λ (l : List ℕ). l ++ second) f ∙ append_assoc before first second
-
 among-none : (readings : List ℕ) → AreAmong readings []
 among-none [] = tt
 among-none (reading ∷ readings) = tt
@@ -244,28 +230,6 @@ among-both [] second (moment ∷ moments) more a b = absurd a
 among-both (reading ∷ first) second [] more a b = among-more reading (first ++ second) more (among-both first second [] more (among-none first) b)
 among-both (reading ∷ first) second (moment ∷ moments) more a b =
     elim a [ inl here ↦ inl (here.0, among-both first second moments more here.1 b) | inr later ↦ inr (among-both first second (moment ∷ moments) more later b) ]
-
-pub still-same : (old : Post) → IsFree old.shared old.client → IsStillAt old old
-still-same old free = record {
-  shared_is = refl;
-  client = free;
-  number = refl;
-  begins = record { rest = []; whole = sym (append-nil _) };
-  own = λ o. o;
-  legal = λ l. l;
-  least = omega arith;
-  readings = [];
-  gave = gives-none old.clock.given;
-  added = [];
-  mine = sym (append-nil _);
-  timed = tt;
-}
-
-begins-both : (old mid new : List Entry) → BeginsWith mid old → BeginsWith new mid → BeginsWith new old
-begins-both old mid new a b = record {
-  rest = a.rest ++ b.rest;
-  whole = b.whole ∙ ap (λ (l : List Entry). l ++ b.rest) a.whole ∙ append_assoc old a.rest b.rest;
-}
 
 moments-both : (readings : List ℕ) (xs ys : List Entry) → AreAmong readings (map (λ (e : Entry). e.at) xs ++ map (λ (e : Entry). e.at) ys) → AreAmong readings (map (λ (e : Entry). e.at) (xs ++ ys))
 moments-both readings xs ys a = subst (AreAmong readings) (sym (map-append (λ (e : Entry). e.at) xs ys)) a
@@ -385,7 +349,7 @@ abbrev pub fails-from : (first old new : Post) (c : Call) (why : NoEntry) → Is
 fails-from first old new c why a f = within first f.before f.after new c why (still-both first old f.before a f.from_old) f.fails f.to_new
 
 abbrev pub fails-last : (old mid new : Post) (c : Call) (why : NoEntry) → IsStillAt old mid → IsStillAt mid new → Fails mid c why new → FailsWithin old c why new
-fails-last old mid new c why a b f = within old mid new new c why a f (still-same new (still-free mid new b))
+fails-last old mid new c why a b f = within old mid new new c why a f (post-itself new (still-free mid new b))
 
 -- ---- takes
 

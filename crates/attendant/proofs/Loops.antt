@@ -18,7 +18,8 @@ use Rattle.attendant.specs.Steps.{entry_of, IsLaunchRefused, no_memory, no_space
 use Rattle.attendant.specs.Rounds.{IsOrderServed, IsRoundRefused, wants_memory, full_at_take, full_at_report}
 use Rattle.attendant.specs.Loops.{ComesBetween}
 use Rattle.attendant.specs.Outside.{Tends, Keeping, Attending, IsHeldUp, out_of_memory, full_at_launch, full_at_order, full_at_answer}
-use Rattle.attendant.proofs.Desks.{still-same, still-free, fails-on, fails-from}
+use Rattle.attendant.specs.PairLaws.{post-itself}
+use Rattle.attendant.proofs.Desks.{still-free, fails-on, fails-from}
 use Rattle.attendant.proofs.Entries.{owed_more}
 use Rattle.attendant.proofs.Causes.{fails-now}
 
@@ -39,7 +40,7 @@ reaping_tends told fate launcher r0 r1 a0 a1 h0 h1 k t = (k.keeps launcher None 
 
 pub launch_held : (l0 l1 r0 r1 : Post) (K : Type 0) (why : Refusal) → IsFree l0.shared l0.client → IsStillAt l0 l1 → IsLaunchRefused l0 l1 why → IsHeldUp l0 l1 r0 r1 K why
 launch_held l0 l1 r0 r1 K why free still (no_memory w) = out_of_memory w
-launch_held l0 l1 r0 r1 K why free still (no_space size w f) = full_at_launch size w (fails-now l0 l1 l1 call.TakeLaunch _ free f (still-same l1 (still-free l0 l1 still)))
+launch_held l0 l1 r0 r1 K why free still (no_space size w f) = full_at_launch size w (fails-now l0 l1 l1 call.TakeLaunch _ free f (post-itself l1 (still-free l0 l1 still)))
 
 served_owes : (hand : Option Hand) (old : Post) (s : Signal) (now : Post) → ((h : Hand) → hand ≡ Some h → owed (acts_at old) ≡ Some h.signal) → IsOrderServed hand old s now → owed (acts_at now) ≡ Some s
 served_owes (Some h) old s now owes of = ap owed of.1 ∙ owes h refl ∙ ap Some (sym of.0)
@@ -72,10 +73,10 @@ pub record Looked (l1 l2 r1 r2 : Post) : Type 0 where
   pub same : r2 ≡ r1
 
 pub between_none : (l : Post) → IsFree l.shared l.client → ComesBetween l l
-between_none l free = record { learnt = l; learns = still-same l free; mine_is = refl; unread = refl; looks = inl refl }
+between_none l free = record { learnt = l; learns = post-itself l free; mine_is = refl; unread = refl; looks = inl refl }
 
 pub looked_none : (l r : Post) → IsFree l.shared l.client → IsFree r.shared r.client → Looked l l r r
-looked_none l r fl fr = record { launcher = still-same l fl; reaping = still-same r fr; mine = refl; theirs = refl; between = between_none l fl; same = refl }
+looked_none l r fl fr = record { launcher = post-itself l fl; reaping = post-itself r fr; mine = refl; theirs = refl; between = between_none l fl; same = refl }
 
 pub looked_once : (l1 l2 r : Post) → IsStillAt l1 l2 → acts_at l2 ≡ acts_at l1 → IsFree r.shared r.client → ComesBetween l1 l2 → Looked l1 l2 r r
-looked_once l1 l2 r l mine fr between = record { launcher = l; reaping = still-same r fr; mine = mine; theirs = refl; between = between; same = refl }
+looked_once l1 l2 r l mine fr between = record { launcher = l; reaping = post-itself r fr; mine = mine; theirs = refl; between = between; same = refl }

@@ -23,7 +23,8 @@ use Rattle.attendant.specs.Posts.{Post, acts_at, IsStillAt, Fails}
 use Rattle.attendant.specs.Runs.{is_end_report, is_ended}
 use Rattle.attendant.specs.Steps.{entry_of}
 use Rattle.attendant.specs.Rounds.{Leaves, PollSteps, end_call, asked_end, is_over, hand_without, EndReports, IsPolled, IsEndOf, HasLeft, KeepsOrder, OrderAfter, PollsPlaces, LosesEnd, PollsAll, IsEndIn, ReportsEach}
-use Rattle.attendant.proofs.Desks.{still-same, still-free, within, fails-on, fails-from}
+use Rattle.attendant.specs.PairLaws.{post-itself}
+use Rattle.attendant.proofs.Desks.{still-free, within, fails-on, fails-from}
 use Rattle.attendant.proofs.Entries.{not_true, or_false, or_true, any_kept, run_same, some_is}
 use Rattle.attendant.proofs.Launches.{run_refl}
 use Rattle.attendant.proofs.Ends.{end_is}
@@ -516,9 +517,9 @@ loses_one told faults key job attempt x before after old new fault l free still 
   exit = x;
   seen = l.seen;
   fault = fault;
-  fails = within before before after after (asked_end l.held.job l.held.attempt x) fault (still-same before free)
+  fails = within before before after after (asked_end l.held.job l.held.attempt x) fault (post-itself before free)
       (subst (λ (j : JobId). Fails before (asked_end j l.held.attempt x) fault after) (sym l.of_job) (subst (λ (a : ℕ). Fails before (asked_end job a x) fault after) (sym l.of_attempt) f))
-      (still-same after (still-free before after still));
+      (post-itself after (still-free before after still));
   wants = refl;
   front = [];
   back = [];

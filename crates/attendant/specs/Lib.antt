@@ -6,3 +6,5 @@ pub mod Steps
 pub mod Rounds
 pub mod Whole
 pub mod Loops
+pub mod Pairs
+pub mod PairLaws

@@ -1,5 +1,6 @@
 -- What one thread works with, and how its readings and entries go on. Our profile.
-use Rattle.std.specs.Prelude.{◌≡◌, ◌⊎◌, ℕ, ◌≤◌, List, [], ◌∷◌, ◌++◌, map, Option, Some, None}
+use Rattle.std.specs.Prelude.{◌≡◌, ◌⊎◌, ℕ, ◌≤◌, List, [], ◌∷◌, ◌++◌, map}
+use Rattle.drmaa_types.specs.Readings.{Readings}
 use Rattle.drmaa_model.specs.declared.calls.Call.{Call}
 use Rattle.drmaa_model.specs.declared.configs.Config.{Config}
 use Rattle.drmaa_model.specs.declared.entries.Entry.{Entry}
@@ -11,7 +12,7 @@ use Rattle.turn_lock.specs.Tokens.{Named, IsFree}
 use Rattle.call_history.specs.declared.desks.Desk.{Desk}
 use Rattle.call_history.specs.Calls.{IsServed, IsUnserved}
 use Rattle.call_history.specs.Clients.{Seat, seen_of, mine_of, number_of, KnowsItsOwn}
-use Rattle.call_history.specs.Clocks.{Dial, dial}
+use Rattle.call_history.specs.Clocks.{Dial, dial, Gives}
 use Rattle.attendant.specs.Acts.{Act, own_acts}
 
 -- what contracts see of a desk: its machine, its client and its clock
@@ -20,18 +21,12 @@ pub record Post : Type 0 where
   pub client : Seat
   pub clock : Dial
 
-abbrev pub post : {C : Type 0} → (C → Option (List ℕ)) → (C → ℕ) → Desk C → Post
+abbrev pub post : {C : Type 0} → (C → Readings) → (C → ℕ) → Desk C → Post
 post given least desk = record { shared = desk.shared.now; client = desk.client; clock = dial (given desk.clock) (least desk.clock) }
 
 -- the entries of its client, as launcher and reaper read them
 abbrev pub acts_at : Post → List Act
 acts_at p = own_acts p.client
-
--- a clock that tells its readings gave these, and no others
-abbrev pub Gives : Option (List ℕ) → List ℕ → Option (List ℕ) → Type 0
-Gives before readings None = Unit {0}
-Gives (Some before) readings (Some after) = after ≡ before ++ readings
-Gives None readings (Some after) = ⊥
 
 -- these moments stand among the readings, in their order
 abbrev pub AreAmong : List ℕ → List ℕ → Type 0
@@ -41,8 +36,8 @@ AreAmong (reading ∷ readings) [] = Unit {0}
 AreAmong (reading ∷ readings) (moment ∷ moments) = ((moment ≡ reading) × AreAmong readings moments) ⊎ AreAmong readings (moment ∷ moments)
 
 -- The desk is still at its machine, and so is its client, who holds no turn, has seen all that it had seen, and knows its own
--- entries and has seen a legal history if it did before. The moments of the entries that it made are readings that the clock
--- gave meanwhile, in their order.
+-- entries and has seen a legal history if it did before. Its clock is still that of the same caller, and the moments of the entries
+-- that the client made are readings that it gave meanwhile, in their order.
 pub record IsStillAt (old new : Post) : Type 0 where
   pub shared_is : new.shared ≡ old.shared
   pub client : IsFree old.shared new.client

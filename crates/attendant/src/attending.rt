@@ -1,6 +1,7 @@
 //! The loops of launcher and reaper.
-ghost use Rattle.std.specs.Prelude.{◌≡◌, OnOk, IfOk, IfErr, IsOk, IsTrue, Some, None};
+ghost use Rattle.std.specs.Prelude.{◌≡◌, true, OnOk, IfOk, IfErr, IsOk, IsTrue, Some, None};
 ghost use Rattle.slab.specs.Slab.{get};
+ghost use Rattle.drmaa_model.specs.declared.looks.Answer.{Answer};
 ghost use Rattle.turn_lock.specs.Histories.{BeginsWith};
 ghost use Rattle.turn_lock.specs.Tokens.{IsFree};
 ghost use Rattle.call_history.specs.Clients.{seen_of};
@@ -103,7 +104,15 @@ fn is_settled<R: Wait, C: Clock>(
     if !idle {
         return false;
     }
-    matches!(launcher.look(rt, Question::Settled), Answer::Settled(true))
+    let answer = launcher.look(rt, Question::Settled);
+    says_settled(&answer)
+}
+
+/// Whether an answer says that the machine is settled.
+fn says_settled(answer: &Answer) -> bool
+    ensures { IsTrue result → answer.now ≡ Answer.Settled true }
+{
+    matches!(answer, Answer::Settled(true))
 }
 
 /// Launches and reaps in turn, with rests, until the clients are over and a look says that the machine is settled. The look comes

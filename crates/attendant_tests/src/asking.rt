@@ -2,7 +2,7 @@
 use call_history::{Call, Reply};
 use drmaa_model::Target;
 use drmaa_types::{
-    AttributeList, Boxed, Control, Exit, JobId, JobState, ListOf, Refusal, SessionId, SignalKind,
+    AttributeList, Control, Exit, JobId, JobState, ListOf, Refusal, SessionId, Shared, SignalKind,
     Text, TextList,
 };
 use job_template::JobTemplate;
@@ -116,7 +116,7 @@ pub fn call_of(alloc: Global, ask: Ask) -> Call {
 
 /// Runs a job. Where memory is wanting it is another call, and then no test passes.
 fn run(alloc: Global, rerunnable: bool) -> Call {
-    match Boxed::new(alloc, template(alloc, rerunnable)) {
+    match Shared::new(alloc, template(alloc, rerunnable)) {
         Ok(template) => Call::RunJob {
             session: SESSION,
             template,

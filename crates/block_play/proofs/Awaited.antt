@@ -12,6 +12,7 @@ use Rattle.drmaa_types.specs.declared.refusals.Which.TheVariants as which
 use Rattle.drmaa_types.specs.declared.sessions.SessionKind.TheVariants.{Jobs}
 use Rattle.drmaa_model.specs.Homes.{session_test, own_rows}
 use Rattle.drmaa_model.specs.Waiting.{most_waited}
+use Rattle.drmaa_types.specs.Readings.{Readings}
 use Rattle.drmaa_types.specs.Refusals.{first_refusal}
 use Rattle.drmaa_types.specs.declared.states.WaitKind.{WaitKind}
 use Rattle.drmaa_types.specs.declared.states.WaitKind.TheVariants as reached
@@ -35,9 +36,9 @@ use Rattle.script_asks.specs.Plays.{no_attempt}
 use Rattle.script_asks.specs.Replies.{names_after}
 use Rattle.call_history.specs.Calls.{entry_by}
 use Rattle.call_history.specs.Clients.{Seat, mine_of, number_of as number_of_client, Makes}
-use Rattle.call_history.specs.Clocks.{Dial}
+use Rattle.call_history.specs.Clocks.{Dial, Gives}
 use Rattle.call_history.specs.Refused.{refusal_of}
-use Rattle.wait_calls.specs.Waited.{Climb, Gives, IsWaited, Reaches, Refuses, readings_of}
+use Rattle.wait_calls.specs.Waited.{Climb, IsWaited, Reaches, Refuses, readings_of}
 use Rattle.wait_calls.specs.Waited.Refuses.{by_entry, by_fault}
 use Rattle.block_play.specs.declared.stops.Stopped.{Stopped}
 use Rattle.block_play.specs.declared.stops.Stopped.TheVariants as stopped
@@ -57,7 +58,7 @@ line-binds reached.Started session timeout jobs told names = refl
 line-binds reached.Terminated session timeout jobs told names = refl
 
 -- what a wait takes of its client's clock
-wait-reads : (kind : WaitKind) (session : Ref) (timeout : Timeout) (jobs : List Ref) (begun at : ℕ) (looks : List ℕ) (early late : Option (List ℕ))
+wait-reads : (kind : WaitKind) (session : Ref) (timeout : Timeout) (jobs : List Ref) (begun at : ℕ) (looks : List ℕ) (early late : Readings)
     → Gives early (begun ∷ (looks ++ at ∷ [])) late → Gives early (taken_by (wait_line kind session timeout jobs) begun looks at) late
 wait-reads reached.Started session timeout jobs begun at looks early late gave = gave
 wait-reads reached.Terminated session timeout jobs begun at looks early late gave = gave

@@ -1,7 +1,7 @@
 -- What one call says of the play of a line.
 use Rattle.std.proofs.Common.{◌≡◌, ℕ, ◌≤◌, Bool, List, [], ◌∷◌, ◌++◌, Option, Some, None, false, refl, sym, ap, ◌∙◌, subst, append-nil, arith}
 use Rattle.std.specs.Prelude.{Result, Ok, Err, IfOk, IfErr, cond}
-use Rattle.drmaa_types.specs.Readings.{Reads}
+use Rattle.drmaa_types.specs.Readings.{Readings, Reads}
 use Rattle.drmaa_model.specs.declared.calls.Call.{Call}
 use Rattle.drmaa_model.specs.declared.configs.Config.{Config}
 use Rattle.drmaa_model.specs.declared.entries.Entry.{Entry}
@@ -23,8 +23,8 @@ use Rattle.call_history.specs.declared.desks.Desk.{Desk}
 use Rattle.call_history.specs.Calls.{entry_by, IsServed, IsUnserved}
 use Rattle.call_history.specs.ClientLaws.{begins-itself}
 use Rattle.call_history.specs.Clients.{Seat, seen_of, mine_of, number_of, KnowsItsOwn, IsStillAt, StaysAt}
-use Rattle.call_history.specs.Clocks.{Dial}
-use Rattle.wait_calls.specs.Waited.{Gives}
+use Rattle.call_history.specs.Clocks.{Dial, Gives}
+use Rattle.call_history.specs.ClockLaws.{gives-one}
 use Rattle.block_play.specs.declared.stops.Stopped.{Stopped}
 use Rattle.block_play.specs.declared.stops.Stopped.TheVariants as stopped
 use Rattle.script_text.specs.Follows.{lines_of}
@@ -43,14 +43,8 @@ still-at shared after old new same free number begins own legal = record { share
 pub still-stays : (shared after : Named Config) (old new : Seat) → StaysAt shared old after new → BeginsWith (seen_of new) (seen_of old) → IsStillAt shared old after new
 still-stays shared after old new s begins = record { shared_is = s.shared_is; client = s.client; number = s.number; begins = begins; own = λ o. s.own; legal = λ l. s.legal }
 
--- one reading, as what a clock gave
-gives-one : (early : Option (List ℕ)) (at : ℕ) (late : Option (List ℕ)) → Reads early at late → Gives early (at ∷ []) late
-gives-one early at None told = tt
-gives-one None at (Some late) told = told
-gives-one (Some early) at (Some late) told = told
-
 -- what a call takes that does not wait
-reads-one : (l : Line) (at : ℕ) (early late : Option (List ℕ)) → is_wait l ≡ false → Reads early at late → Gives early (taken_by l 0 [] at) late
+reads-one : (l : Line) (at : ℕ) (early late : Readings) → is_wait l ≡ false → Reads early at late → Gives early (taken_by l 0 [] at) late
 reads-one l at early late quick told =
     subst (λ (b : Bool). Gives early (cond b (0 ∷ ([] ++ at ∷ [])) (at ∷ [])) late) (sym quick) (gives-one early at late told)
 
@@ -105,7 +99,7 @@ module _ (s : Script) (names : List (List ℕ × Given)) (l : Line) (before : �
   stopped-for config early late old new c fault.Nothing quick first asked none = stopped-short config early late old new c fault.Nothing none
   stopped-for config early late old new c (fault.Journal size) quick first asked none = stopped-full config early late old new c size quick first asked none
 
-  pub stopped-still : (config : Config) (seat : Seat) (given : Option (List ℕ)) → StopsLine config s names l before seat seat given given stopped.Memory
+  pub stopped-still : (config : Config) (seat : Seat) (given : Readings) → StopsLine config s names l before seat seat given given stopped.Memory
   stopped-still config seat given = unmade refl tt
 
 -- what a line asks of its client, who knows of no launch
@@ -122,7 +116,7 @@ played-none s names mine least none new =
     (record { added = []; then = 0; mine = sym (append-nil mine); plays = (refl, new, refl); behind = omega arith })
 
 -- a line that was played so, and the end that was made of it
-pub left-kept : {C : Type 0} (given : C → Option (List ℕ)) (least : C → ℕ) (s : Script) (names : List (List ℕ × Given)) (l m : Line) (old new : Desk C) (end : Result (Unit {0}) Stopped) (kept : Result (List (List ℕ × Given)) Stopped)
+pub left-kept : {C : Type 0} (given : C → Readings) (least : C → ℕ) (s : Script) (names : List (List ℕ × Given)) (l m : Line) (old new : Desk C) (end : Result (Unit {0}) Stopped) (kept : Result (List (List ℕ × Given)) Stopped)
     → l ≡ m → kept ≡ with_names names end → LeftByLine given least s names l old new (with_names names end) → LeftByLine given least s names m old new kept
 left-kept given least s names l m old new end kept same is left =
     subst (λ (r : Result (List (List ℕ × Given)) Stopped). LeftByLine given least s names m old new r) (sym is) (subst (λ (x : Line). LeftByLine given least s names x old new (with_names names end)) same left)

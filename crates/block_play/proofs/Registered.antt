@@ -1,6 +1,7 @@
 -- What the hub says of a Register, as the play of its line.
 use Rattle.std.proofs.Common.{◌≡◌, ℕ, ◌<◌, ◌≤◌, true, false, List, [], Option, Some, refl, sym, ap, subst, ◌∙◌, arith, append-nil}
 use Rattle.std.specs.Prelude.{◌^◌, Result, Ok, Err, IfOk, IfErr, OnErr}
+use Rattle.drmaa_types.specs.Readings.{Readings}
 use Rattle.drmaa_types.specs.declared.changes.Notification.{Notification}
 use Rattle.drmaa_types.specs.declared.refusals.Limit.TheVariants as limit
 use Rattle.drmaa_types.specs.declared.refusals.Refusal.{Refusal}
@@ -15,7 +16,7 @@ use Rattle.drmaa_model.specs.History.{IsLegal}
 use Rattle.turn_lock.specs.Histories.{BeginsWith}
 use Rattle.turn_lock.specs.Tokens.{Named}
 use Rattle.call_history.specs.Calls.{IsUnserved}
-use Rattle.call_history.specs.Clients.{Seat, seen_of, mine_of, KnowsItsOwn}
+use Rattle.call_history.specs.Clients.{Seat, seen_of, mine_of}
 use Rattle.call_history.specs.Clocks.{Dial}
 use Rattle.call_history.specs.Refused.{refusal_of}
 use Rattle.notify_hub.specs.Ears.{HaveHeard}
@@ -153,14 +154,14 @@ module _ {B : Type 0} {counted : B → ℕ} {told : B → Option (List Notificat
   line-on shared hub s names after before least l old new other note begins p =
       others-on shared hub old new p.added note begins p.mine (plays-has hub.ears.places s names after before p.then l p.added other p.plays)
 
-  stop-on : (shared : Named Config) (hub : Following B) (config : Config) (s : Script) (names : List (List ℕ × Given)) (before : ℕ) (l : Line) (old new : Seat) (had has : Option (List ℕ)) (why : Stopped) → is_register l ≡ false → IsNoteOf shared hub.note
+  stop-on : (shared : Named Config) (hub : Following B) (config : Config) (s : Script) (names : List (List ℕ × Given)) (before : ℕ) (l : Line) (old new : Seat) (had has : Readings) (why : Stopped) → is_register l ≡ false → IsNoteOf shared hub.note
       → BeginsWith (seen_of new) (seen_of old) → StopsLine config s names l before old new had has why → RegistersOn counted told shared hub old hub new
   stop-on shared hub config s names before l old new had has why other note begins (unmade same cause) =
       others-on shared hub old new [] note begins (same ∙ sym (append-nil (mine_of old))) tt
   stop-on shared hub config s names before l old new had has why other note begins (unkept after least p memory) = line-on shared hub s names after before least l old new other note begins p
 
   -- a line that registers nothing leaves the hub as it was
-  pub other-line : (shared : Named Config) (hub : Following B) (config : Config) (s : Script) (names : List (List ℕ × Given)) (early late : ℕ) (had has : Option (List ℕ)) (l : Line) (old new : Seat) (r : Result (List (List ℕ × Given)) Stopped)
+  pub other-line : (shared : Named Config) (hub : Following B) (config : Config) (s : Script) (names : List (List ℕ × Given)) (early late : ℕ) (had has : Readings) (l : Line) (old new : Seat) (r : Result (List (List ℕ × Given)) Stopped)
       → is_register l ≡ false → IsNoteOf shared hub.note → BeginsWith (seen_of new) (seen_of old)
       → IfOk r (λ after. (before : ℕ) → before ≤ early → PlayedLine s names l before (mine_of old) (mine_of new) after late)
       → IfErr r (λ why. (before : ℕ) → before ≤ early → StopsLine config s names l before old new had has why) → RegistersOn counted told shared hub old hub new
@@ -168,14 +169,14 @@ module _ {B : Type 0} {counted : B → ℕ} {told : B → Option (List Notificat
   other-line shared hub config s names early late had has l old new (Err why) other note begins ok err = stop-on shared hub config s names 0 l old new had has why other note begins (err 0 (omega arith))
 
   -- what the hub's register came to
-  pub register-on : (shared : Named Config) (early late : Dial) (old new : Following B) (client after : Seat) (r : Result ℕ Refusal) → shared.fixed.journal < 2 ^ 64 → KnowsItsOwn client
-      → (KnowsItsOwn client → IfOk r (λ n. IsRegistered shared.fixed early client n late after)) → (KnowsItsOwn client → IfErr r (λ why. IsUnregistered shared.fixed early client why late after))
+  pub register-on : (shared : Named Config) (early late : Dial) (old new : Following B) (client after : Seat) (r : Result ℕ Refusal) → shared.fixed.journal < 2 ^ 64
+      → IfOk r (λ n. IsRegistered shared.fixed early client n late after) → IfErr r (λ why. IsUnregistered shared.fixed early client why late after)
       → IsNoteAt shared (seen_of after) new.note → IfOk r (λ n. AreCountable shared.fixed (seen_of after) → new.ears ≡ with_place old.ears n (place_of shared.fixed (seen_of after) n)) → OnErr r (new.ears ≡ old.ears)
       → FollowsNote new.ears new.note → (HaveHeard counted told old.ears → HaveHeard counted told new.ears) → IsLegal shared.fixed (seen_of after) → RegistersOn counted told shared old client new after
-  register-on shared early late old new client after (Ok n) small own ok err note placed same follows heard legal =
-      registered-on shared early late old new client after n (ok own) note (placed (countable shared.fixed (seen_of after) legal small)) follows heard legal
-  register-on shared early late old new client after (Err why) small own ok err note placed same follows heard legal =
-      unregistered-on shared early late old new client after why (err own) note same follows
+  register-on shared early late old new client after (Ok n) small ok err note placed same follows heard legal =
+      registered-on shared early late old new client after n ok note (placed (countable shared.fixed (seen_of after) legal small)) follows heard legal
+  register-on shared early late old new client after (Err why) small ok err note placed same follows heard legal =
+      unregistered-on shared early late old new client after why err note same follows
 
 -- what is so of a refusal that is this one
 pub at-err : {A : Type 0} (P : Refusal → Type 0) (r : Result A Refusal) (why : Refusal) → r ≡ Err why → IfErr r P → P why

@@ -1,7 +1,8 @@
 -- Lines that are played, one after the other.
-use Rattle.std.proofs.Common.{◌≡◌, ℕ, ◌+◌, ◌<◌, ◌≤◌, zero, suc, List, [], ◌∷◌, ◌++◌, take, drop, length, Option, refl, sym, ap, ◌∙◌, subst, append_assoc, append-nil, arith}
+use Rattle.std.proofs.Common.{◌≡◌, ℕ, ◌+◌, ◌<◌, ◌≤◌, zero, suc, List, [], ◌∷◌, ◌++◌, take, drop, length, refl, sym, ap, ◌∙◌, subst, append_assoc, append-nil, arith}
 use Rattle.std.proofs.Common.{get_or}
 use Rattle.std.proofs.Math.Seq.{take-suc}
+use Rattle.drmaa_types.specs.Readings.{Readings}
 use Rattle.drmaa_model.specs.declared.configs.Config.{Config}
 use Rattle.drmaa_model.specs.declared.entries.Entry.{Entry}
 use Rattle.turn_lock.specs.Tokens.{Named}
@@ -10,7 +11,7 @@ use Rattle.script_text.specs.declared.scripts.Script.{Script}
 use Rattle.script_asks.specs.declared.given.Given.{Given}
 use Rattle.call_history.specs.ClientLaws.{begins-both}
 use Rattle.call_history.specs.Clients.{Seat, seen_of, mine_of, IsStillAt}
-use Rattle.call_history.specs.Timed.{IsTimed}
+use Rattle.call_history.specs.Timed.{IsTimed, StaysTimed}
 use Rattle.block_play.specs.declared.stops.Stopped.{Stopped}
 use Rattle.block_play.specs.declared.stops.Stopped.TheVariants as stopped
 use Rattle.block_play.specs.Played.{PlayedLine, PlayedLines, StopsLine, StopsLines, StopsBefore, IsCause}
@@ -49,17 +50,17 @@ played-more s names mid after ls l old now new early late p line =
       behind = q.behind;
     }
 
-before-rest : (config : Config) (s : Script) (names : List (List ℕ × Given)) (before : ℕ) (l : Line) (rest : List Line) (history : List Entry) (early late : Option (List ℕ)) (why : Stopped)
+before-rest : (config : Config) (s : Script) (names : List (List ℕ × Given)) (before : ℕ) (l : Line) (rest : List Line) (history : List Entry) (early late : Readings) (why : Stopped)
     → IsCause config s names before l history early late why → StopsBefore config s names before (l ∷ rest) history early late why
 before-rest config s names before l rest history early late stopped.Memory cause = tt
 before-rest config s names before l rest history early late (stopped.Full size) cause = cause
 
-short-of : (config : Config) (s : Script) (names : List (List ℕ × Given)) (before : ℕ) (rest : List Line) (history : List Entry) (early late : Option (List ℕ)) (why : Stopped) → why ≡ stopped.Memory
+short-of : (config : Config) (s : Script) (names : List (List ℕ × Given)) (before : ℕ) (rest : List Line) (history : List Entry) (early late : Readings) (why : Stopped) → why ≡ stopped.Memory
     → StopsBefore config s names before rest history early late why
 short-of config s names before rest history early late why is = subst (λ (w : Stopped). StopsBefore config s names before rest history early late w) (sym is) tt
 
-module _ (s : Script) (names mid : List (List ℕ × Given)) (all front rest : List Line) (l : Line) (old now new : Seat) (early there late : Option (List ℕ)) (least : ℕ) (why : Stopped) where
-  stops-at : (config : Config) → all ≡ front ++ l ∷ rest → (IsTimed (mine_of old) early → IsTimed (mine_of now) there) → (IsTimed (mine_of now) there → IsTimed (mine_of new) late)
+module _ (s : Script) (names mid : List (List ℕ × Given)) (all front rest : List Line) (l : Line) (old now new : Seat) (early there late : Readings) (least : ℕ) (why : Stopped) where
+  stops-at : (config : Config) → all ≡ front ++ l ∷ rest → StaysTimed (mine_of old) early (mine_of now) there → StaysTimed (mine_of now) there (mine_of new) late
       → (p : PlayedLines s names front 0 (mine_of old) (mine_of now) mid least) → StopsLine config s mid l p.then now new there late why → StopsLines config s names all 0 old new early late why
   stops-at config is timed more p (unmade same cause) = record {
     front = front;
@@ -69,7 +70,7 @@ module _ (s : Script) (names mid : List (List ℕ × Given)) (all front rest : L
     least = least;
     played = record { added = p.added; then = p.then; mine = same ∙ p.mine; plays = p.plays; behind = p.behind };
     told = there;
-    timed = λ t. subst (λ (es : List Entry). IsTimed es there) (sym same) (timed t);
+    timed = λ caller t. subst (λ (es : List Entry). IsTimed caller es there) (sym same) (timed caller t);
     cause = before-rest config s mid p.then l rest (seen_of new) there late why cause;
   }
   stops-at config is timed more p (unkept after late_least line memory) = record {
@@ -86,12 +87,12 @@ module _ (s : Script) (names mid : List (List ℕ × Given)) (all front rest : L
       behind = line.behind;
     };
     told = late;
-    timed = λ t. more (timed t);
+    timed = λ caller t. more caller (timed caller t);
     cause = short-of config s after line.then rest (seen_of new) late late why memory;
   }
 
   -- the play of a block stops where one of its lines does
-  pub stops-lines : (shared next : Named Config) → next ≡ shared → all ≡ front ++ l ∷ rest → (IsTimed (mine_of old) early → IsTimed (mine_of now) there) → (IsTimed (mine_of now) there → IsTimed (mine_of new) late)
+  pub stops-lines : (shared next : Named Config) → next ≡ shared → all ≡ front ++ l ∷ rest → StaysTimed (mine_of old) early (mine_of now) there → StaysTimed (mine_of now) there (mine_of new) late
       → PlayedLines s names front 0 (mine_of old) (mine_of now) mid least → ((before : ℕ) → before ≤ least → StopsLine next.fixed s mid l before now new there late why)
       → StopsLines shared.fixed s names all 0 old new early late why
   stops-lines shared next same is timed more p line =

@@ -1,5 +1,6 @@
 -- What a client's play of a block has come to: our profile.
-use Rattle.std.specs.Prelude.{◌≡◌, ℕ, ◌≤◌, true, List, [], ◌∷◌, ◌++◌, Option, Some, None, Result, Ok, Err, IfOk, IfErr, cond}
+use Rattle.std.specs.Prelude.{◌≡◌, ℕ, ◌≤◌, true, List, [], ◌∷◌, ◌++◌, Some, None, Result, Ok, Err, IfOk, IfErr, cond}
+use Rattle.drmaa_types.specs.Readings.{Readings}
 use Rattle.drmaa_model.specs.declared.calls.Call.{Call}
 use Rattle.drmaa_model.specs.declared.configs.Config.{Config}
 use Rattle.drmaa_model.specs.declared.entries.Entry.{Entry}
@@ -17,8 +18,8 @@ use Rattle.script_asks.specs.Plays.{no_attempt, IsAsked}
 use Rattle.script_asks.specs.Replies.{names_after}
 use Rattle.call_history.specs.declared.desks.Desk.{Desk}
 use Rattle.call_history.specs.Clients.{Seat, seen_of, mine_of, IsStillAt}
-use Rattle.call_history.specs.Timed.{IsTimed}
-use Rattle.wait_calls.specs.Waited.{Gives}
+use Rattle.call_history.specs.Clocks.{Gives}
+use Rattle.call_history.specs.Timed.{StaysTimed}
 use Rattle.block_play.specs.declared.stops.Stopped.{Stopped}
 use Rattle.block_play.specs.declared.stops.Stopped.TheVariants as stopped
 
@@ -54,8 +55,8 @@ taken_by l begun looks at = cond (is_wait l) (begun ∷ (looks ++ at ∷ [])) (a
 
 -- What a line asks, behind an entry of this moment, makes no entry after this history, since the journal would have this size. Its
 -- readings are all that the client's clock gave in this call, where it tells them: the machine answered at the last one, and a wait
--- began at the first.
-pub record IsFullFor (config : Config) (s : Script) (names : List (List ℕ × Given)) (before : ℕ) (l : Line) (history : List Entry) (early late : Option (List ℕ)) (size : ℕ) : Type 0 where
+-- began at the first. The clock is still the same caller's.
+pub record IsFullFor (config : Config) (s : Script) (names : List (List ℕ × Given)) (before : ℕ) (l : Line) (history : List Entry) (early late : Readings) (size : ℕ) : Type 0 where
   pub begun : ℕ
   pub call : Call
   pub at : ℕ
@@ -67,13 +68,13 @@ pub record IsFullFor (config : Config) (s : Script) (names : List (List ℕ × G
   pub in_time : is_wait l ≡ true → (before ≤ begun) × (begun ≤ at)
 
 -- why a line made no entry
-abbrev pub IsCause : Config → Script → List (List ℕ × Given) → ℕ → Line → List Entry → Option (List ℕ) → Option (List ℕ) → Stopped → Type 0
+abbrev pub IsCause : Config → Script → List (List ℕ × Given) → ℕ → Line → List Entry → Readings → Readings → Stopped → Type 0
 IsCause config s names before l history early late stopped.Memory = Unit {0}
 IsCause config s names before l history early late (stopped.Full size) = IsFullFor config s names before l history early late size
 
 -- The play stopped at a line, in which the clock went on from what it had told: it made no entry, for this cause; or it was played, and
 -- memory ran out for what its reply gives.
-pub data StopsLine (config : Config) (s : Script) (names : List (List ℕ × Given)) (l : Line) (before : ℕ) (old new : Seat) (early late : Option (List ℕ)) (why : Stopped) : Type 0 where
+pub data StopsLine (config : Config) (s : Script) (names : List (List ℕ × Given)) (l : Line) (before : ℕ) (old new : Seat) (early late : Readings) (why : Stopped) : Type 0 where
   unmade : mine_of new ≡ mine_of old → IsCause config s names before l (seen_of new) early late why → StopsLine config s names l before old new early late why
   unkept : (after : List (List ℕ × Given)) (least : ℕ) → PlayedLine s names l before (mine_of old) (mine_of new) after least → why ≡ stopped.Memory → StopsLine config s names l before old new early late why
 
@@ -85,10 +86,10 @@ stop_for fault.Nothing = stopped.Memory
 stop_for (fault.Journal size) = stopped.Full size
 
 -- What the play of a line leaves, by its end: the client is still at its machine, and its own entries went on by those of the line.
-pub record LeftByLine {C : Type 0} (given : C → Option (List ℕ)) (least : C → ℕ) (s : Script) (names : List (List ℕ × Given)) (l : Line) (old new : Desk C)
+pub record LeftByLine {C : Type 0} (given : C → Readings) (least : C → ℕ) (s : Script) (names : List (List ℕ × Given)) (l : Line) (old new : Desk C)
     (end : Result (List (List ℕ × Given)) Stopped) : Type 0 where
   pub desk : IsStillAt old.shared.now old.client new.shared.now new.client
-  pub timed : IsTimed (mine_of old.client) (given old.clock) → IsTimed (mine_of new.client) (given new.clock)
+  pub timed : StaysTimed (mine_of old.client) (given old.clock) (mine_of new.client) (given new.clock)
   pub ok : IfOk end (λ after. (before : ℕ) → before ≤ least old.clock → PlayedLine s names l before (mine_of old.client) (mine_of new.client) after (least new.clock))
   pub err : IfErr end (λ why. (before : ℕ) → before ≤ least old.clock → StopsLine old.shared.now.fixed s names l before old.client new.client (given old.clock) (given new.clock) why)
 
@@ -106,20 +107,20 @@ pub record PlayedLines (s : Script) (names : List (List ℕ × Given)) (ls : Lis
   pub behind : then ≤ least
 
 -- the next line of those that are left made no entry, for this cause
-abbrev pub StopsBefore : Config → Script → List (List ℕ × Given) → ℕ → List Line → List Entry → Option (List ℕ) → Option (List ℕ) → Stopped → Type 0
+abbrev pub StopsBefore : Config → Script → List (List ℕ × Given) → ℕ → List Line → List Entry → Readings → Readings → Stopped → Type 0
 StopsBefore config s names before ls history early late stopped.Memory = Unit {0}
 StopsBefore config s names before [] history early late (stopped.Full size) = ⊥
 StopsBefore config s names before (l ∷ ls) history early late (stopped.Full size) = IsFullFor config s names before l history early late size
 
 -- The play stopped behind the first of these lines, before the others. The clock went on from what it had told; behind the first lines it
 -- had told the moments of the client's entries, if it had before.
-pub record StopsLines (config : Config) (s : Script) (names : List (List ℕ × Given)) (ls : List Line) (before : ℕ) (old new : Seat) (early late : Option (List ℕ)) (why : Stopped) : Type 0 where
+pub record StopsLines (config : Config) (s : Script) (names : List (List ℕ × Given)) (ls : List Line) (before : ℕ) (old new : Seat) (early late : Readings) (why : Stopped) : Type 0 where
   pub front : List Line
   pub back : List Line
   pub lines : ls ≡ front ++ back
   pub after : List (List ℕ × Given)
   pub least : ℕ
   pub played : PlayedLines s names front before (mine_of old) (mine_of new) after least
-  pub told : Option (List ℕ)
-  pub timed : IsTimed (mine_of old) early → IsTimed (mine_of new) told
+  pub told : Readings
+  pub timed : StaysTimed (mine_of old) early (mine_of new) told
   pub cause : StopsBefore config s after played.then back (seen_of new) told late why

@@ -1,8 +1,8 @@
 //! The play of a block.
 ghost use Rattle.std.specs.Prelude.{◌≡◌, ℕ, ◌<◌, ◌^◌, [], IfOk, IfErr};
 ghost use Rattle.turn_lock.specs.Tokens.{IsFree};
-ghost use Rattle.call_history.specs.Clients.{mine_of, KnowsItsOwn, IsStillAt};
-ghost use Rattle.call_history.specs.Timed.{IsTimed};
+ghost use Rattle.call_history.specs.Clients.{mine_of, IsStillAt};
+ghost use Rattle.call_history.specs.Timed.{StaysTimed};
 ghost use Rattle.notify_hub.specs.Hubs.{IsNoteOf, RegistersOn};
 ghost use Rattle.script_text.specs.Follows.{lines_of};
 ghost use Rattle.block_play.specs.Played.{PlayedLines, StopsLines};
@@ -36,7 +36,7 @@ pub fn play_block<R: Wait + Pause, C: Clock>(
 ) -> Result<Names, Stopped>
     requires { IsFree desk.old.shared.now desk.old.client }
     ensures desk { IsStillAt desk.old.shared.now desk.old.client desk.new.shared.now desk.new.client }
-    ensures timed { IsTimed (mine_of desk.old.client) (C.given desk.old.clock) → IsTimed (mine_of desk.new.client) (C.given desk.new.clock) }
+    ensures timed { StaysTimed (mine_of desk.old.client) (C.given desk.old.clock) (mine_of desk.new.client) (C.given desk.new.clock) }
     ensures ok { IfOk result (λ after. PlayedLines script.now names lines.now 0 (mine_of desk.old.client) (mine_of desk.new.client) after (C.least desk.new.clock)) }
     ensures err { IfErr result (λ why. StopsLines desk.old.shared.now.fixed script.now names lines.now 0 desk.old.client desk.new.client (C.given desk.old.clock) (C.given desk.new.clock) why) }
 {
@@ -61,11 +61,10 @@ fn play_first_lines<R: Wait + Pause, C: Clock, B: Callback>(
     lines: &[Line],
 ) -> Result<Names, Stopped>
     requires client { IsFree desk.old.shared.now desk.old.client }
-    requires own { KnowsItsOwn desk.old.client }
     requires note { IsNoteOf desk.old.shared.now hub.old.note }
     requires size { desk.old.shared.now.fixed.journal < 2 ^ 64 }
     ensures desk { IsStillAt desk.old.shared.now desk.old.client desk.new.shared.now desk.new.client }
-    ensures timed { IsTimed (mine_of desk.old.client) (C.given desk.old.clock) → IsTimed (mine_of desk.new.client) (C.given desk.new.clock) }
+    ensures timed { StaysTimed (mine_of desk.old.client) (C.given desk.old.clock) (mine_of desk.new.client) (C.given desk.new.clock) }
     ensures ok { IfOk result (λ after. PlayedLines script.now [] lines.now 0 (mine_of desk.old.client) (mine_of desk.new.client) after (C.least desk.new.clock)) }
     ensures err { IfErr result (λ why. StopsLines desk.old.shared.now.fixed script.now [] lines.now 0 desk.old.client desk.new.client (C.given desk.old.clock) (C.given desk.new.clock) why) }
     ensures hub { RegistersOn B.counted B.told desk.old.shared.now hub.old desk.old.client hub.new desk.new.client }
@@ -94,11 +93,10 @@ pub fn play_setup<R: Wait + Pause, C: Clock, B: Callback>(
     hub: &mut Hub<B>,
 ) -> Result<Names, Stopped>
     requires client { IsFree desk.old.shared.now desk.old.client }
-    requires own { KnowsItsOwn desk.old.client }
     requires note { IsNoteOf desk.old.shared.now hub.old.note }
     requires size { desk.old.shared.now.fixed.journal < 2 ^ 64 }
     ensures desk { IsStillAt desk.old.shared.now desk.old.client desk.new.shared.now desk.new.client }
-    ensures timed { IsTimed (mine_of desk.old.client) (C.given desk.old.clock) → IsTimed (mine_of desk.new.client) (C.given desk.new.clock) }
+    ensures timed { StaysTimed (mine_of desk.old.client) (C.given desk.old.clock) (mine_of desk.new.client) (C.given desk.new.clock) }
     ensures ok { IfOk result (λ after. PlayedLines script.now [] (lines_of script.now.setup) 0 (mine_of desk.old.client) (mine_of desk.new.client) after (C.least desk.new.clock)) }
     ensures err { IfErr result (λ why. StopsLines desk.old.shared.now.fixed script.now [] (lines_of script.now.setup) 0 desk.old.client desk.new.client (C.given desk.old.clock) (C.given desk.new.clock) why) }
     ensures hub { RegistersOn B.counted B.told desk.old.shared.now hub.old desk.old.client hub.new desk.new.client }

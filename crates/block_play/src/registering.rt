@@ -1,7 +1,6 @@
 //! The play of a line of the setup block, which may register a callback.
 ghost use Rattle.std.specs.Prelude.{◌<◌, ◌^◌};
 ghost use Rattle.turn_lock.specs.Tokens.{IsFree};
-ghost use Rattle.call_history.specs.Clients.{KnowsItsOwn};
 ghost use Rattle.notify_hub.specs.Hubs.{IsNoteOf, RegistersOn};
 ghost use Rattle.script_lines.specs.declared.lines.Line.TheVariants as line;
 ghost use Rattle.script_text.specs.declared.scripts.Script.{Script};
@@ -32,7 +31,6 @@ fn play_register<R: Wait, C: Clock, B: Callback>(
     names: Names,
 ) -> Result<Names, Stopped>
     requires client { IsFree desk.old.shared.now desk.old.client }
-    requires own { KnowsItsOwn desk.old.client }
     requires note { IsNoteOf desk.old.shared.now hub.old.note }
     requires size { desk.old.shared.now.fixed.journal < 2 ^ 64 }
     ensures line { (script : Script) → LeftByLine C.given C.least script names line.Register desk.old desk.new result }
@@ -62,7 +60,6 @@ pub(crate) fn play_first_line<R: Wait + Pause, C: Clock, B: Callback>(
     line: &Line,
 ) -> Result<Names, Stopped>
     requires client { IsFree desk.old.shared.now desk.old.client }
-    requires own { KnowsItsOwn desk.old.client }
     requires note { IsNoteOf desk.old.shared.now hub.old.note }
     requires size { desk.old.shared.now.fixed.journal < 2 ^ 64 }
     ensures line { LeftByLine C.given C.least script.now names line.now desk.old desk.new result }

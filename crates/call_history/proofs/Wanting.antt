@@ -157,10 +157,19 @@ full-plain config before after old new c n other adds is =
     (is-some (overfull (advance (replay config (seen_of new)) is.at)) n is.told)))
 
 -- each of the two
-pub plain-refused : (config : Config) (before after : Dial) (old new : Seat) (c : Call) (size : Option ℕ) (reason : Refusal) → reason ≡ shortage size
+plain-refused : (config : Config) (before after : Dial) (old new : Seat) (c : Call) (size : Option ℕ) (reason : Refusal) → reason ≡ shortage size
     → is_run_report (kept c) ≡ false → is_answered (kind_of_call (kept c)) ≡ true → ((w : World) (at : ℕ) → AddsOne (advance w at) (answer w at (kept c)))
     → IsLookedAt config before old question.Full (told.Full size) after new → IsRefused config before old c reason after new
 plain-refused config before after old new c None reason same other one adds is =
     subst (λ (r : Refusal). IsRefused config before old c r after new) (sym same) (short-plain config before after old new c other one adds is)
 plain-refused config before after old new c (Some n) reason same other one adds is =
     subst (λ (r : Refusal). IsRefused config before old c r after new) (sym same) (full-plain config before after old new c n other adds is)
+
+-- what is short is what the look at the journal told
+pub looked-refused : (config : Config) (before after : Dial) (old new : Seat) (c : Call) (looked : Answer) (reason : Refusal) → ((size : Option ℕ) → looked ≡ told.Full size → reason ≡ shortage size)
+    → is_run_report (kept c) ≡ false → is_answered (kind_of_call (kept c)) ≡ true → ((w : World) (at : ℕ) → AddsOne (advance w at) (answer w at (kept c)))
+    → IsLookedAt config before old question.Full looked after new → IsRefused config before old c reason after new
+looked-refused config before after old new c looked reason tells other one adds is =
+    let size : Option ℕ = overfull (advance (replay config (seen_of new)) is.at) in
+    plain-refused config before after old new c size reason (tells size is.told) other one adds
+    (subst (λ (a : Answer). IsLookedAt config before old question.Full a after new) is.told is)

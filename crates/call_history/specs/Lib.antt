@@ -2,6 +2,7 @@ pub mod Callers
 pub mod Clients
 pub mod ClientLaws
 pub mod Clocks
+pub mod ClockLaws
 pub mod Calls
 pub mod Turns
 pub mod Refused

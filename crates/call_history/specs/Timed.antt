@@ -1,6 +1,7 @@
 -- Which readings of a clock stand in entries: our profile.
 use Rattle.std.specs.Prelude.{◌≡◌, ℕ, List, [], ◌∷◌, ◌++◌, Option, Some, None}
 use Rattle.std.specs.List.{flat_map}
+use Rattle.drmaa_types.specs.Readings.{Readings}
 use Rattle.drmaa_model.specs.declared.calls.Call.{Call}
 use Rattle.drmaa_model.specs.declared.calls.Call.TheVariants as call
 use Rattle.drmaa_model.specs.declared.entries.Entry.{Entry}
@@ -57,7 +58,17 @@ abbrev pub StandsIn : List ℕ → List ℕ → Type 0
 StandsIn [] readings = Unit {0}
 StandsIn (m ∷ ms) readings = (front : List ℕ) × (back : List ℕ) × (readings ≡ front ++ m ∷ back) × StandsIn ms back
 
--- The moments of these entries stand among the readings of a clock, in order, where it tells them.
-unfoldable pub IsTimed : List Entry → Option (List ℕ) → Type 0
-IsTimed es None = Unit {0}
-IsTimed es (Some readings) = StandsIn (moments_of es) readings
+-- the moments of these entries stand among what a clock tells, in order, where it tells its readings
+abbrev pub HaveStood : List Entry → Option (List ℕ) → Type 0
+HaveStood es None = Unit {0}
+HaveStood es (Some readings) = StandsIn (moments_of es) readings
+
+-- It is the clock of this caller (None: of nobody), and the moments of these entries stand among its readings, in order, where it
+-- tells them.
+pub record IsTimed (whose : Option ℕ) (es : List Entry) (readings : Readings) : Type 0 where
+  pub caller : readings.caller ≡ whose
+  pub moments : HaveStood es readings.told
+
+-- Whosever clock it was, if the moments of the earlier entries stood among its readings, it still is, and those of all entries do.
+abbrev pub StaysTimed : List Entry → Readings → List Entry → Readings → Type 0
+StaysTimed before early after late = (caller : Option ℕ) → IsTimed caller before early → IsTimed caller after late

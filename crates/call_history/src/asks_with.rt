@@ -35,7 +35,7 @@ impl<'a, C: Clock> Desk<'a, C> {
         ensures err { IfErr result (λ why. IsRefused self.old.shared.now.fixed (dial (C.given self.old.clock) (C.least self.old.clock)) self.old.client
             (Call.RunJob session template) why (dial (C.given self.new.clock) (C.least self.new.clock)) self.new.client) }
     {
-        match self.shared.own(template) {
+        match self.shared.share(template) {
             Ok(template) => self.ask_for::<R, JobId>(rt, Call::RunJob { session, template }),
             Err(_) => Err(self.give_up_submission(rt)),
         }
@@ -60,7 +60,7 @@ impl<'a, C: Clock> Desk<'a, C> {
         ensures err { IfErr result (λ why. IsRefused self.old.shared.now.fixed (dial (C.given self.old.clock) (C.least self.old.clock)) self.old.client
             (Call.RunBulk session template indices) why (dial (C.given self.new.clock) (C.least self.new.clock)) self.new.client) }
     {
-        match self.shared.own(template) {
+        match self.shared.share(template) {
             Ok(template) => self.ask_for::<R, SubmittedArray>(
                 rt,
                 Call::RunBulk {

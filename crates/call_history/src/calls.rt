@@ -107,7 +107,8 @@ impl SharedMachine {
         }
     }
 
-    /// Answers a question at one reading of the clock, once the turn has come. It makes no entry and takes no memory.
+    /// Answers a question at one reading of the clock, once the turn has come. It makes no entry, and takes memory for the name of a
+    /// session alone.
     pub fn look<R: Wait, C: Clock>(
         &self,
         rt: &R,

@@ -6,7 +6,7 @@ ghost use Rattle.turn_lock.specs.Tokens.{IsFree};
 ghost use Rattle.call_history.specs.Clients.{seen_of, mine_of, number_of, KnowsItsOwn};
 ghost use Rattle.call_history.specs.Clocks.{dial};
 ghost use Rattle.call_history.specs.Calls.{IsServed, IsUnserved, IsLookedAt, IsTriedInVain};
-ghost use Rattle.call_history.specs.Timed.{begun_in, IsTimed};
+ghost use Rattle.call_history.specs.Timed.{begun_in, StaysTimed};
 
 use crate::bells::{Bell, News};
 use crate::machines::{Client, SharedMachine};
@@ -42,7 +42,7 @@ impl<'a, C: Clock> Desk<'a, C> {
         ensures own { KnowsItsOwn self.new.client }
         ensures legal { IsLegal self.old.shared.now.fixed (seen_of self.new.client) }
         ensures begins { BeginsWith (seen_of self.new.client) (seen_of self.old.client) }
-        ensures timed { begun_in call ≡ [] → IsTimed (mine_of self.old.client) (C.given self.old.clock) → IsTimed (mine_of self.new.client) (C.given self.new.clock) }
+        ensures timed { begun_in call ≡ [] → StaysTimed (mine_of self.old.client) (C.given self.old.clock) (mine_of self.new.client) (C.given self.new.clock) }
     {
         let news = News::of(&call);
         let served = self
@@ -84,7 +84,7 @@ impl<'a, C: Clock> Desk<'a, C> {
             (dial (C.given self.new.clock) (C.least self.new.clock)) self.new.client }
         ensures own { KnowsItsOwn self.new.client }
         ensures legal { IsLegal self.old.shared.now.fixed (seen_of self.new.client) }
-        ensures timed { IsTimed (mine_of self.old.client) (C.given self.old.clock) → IsTimed (mine_of self.new.client) (C.given self.new.clock) }
+        ensures timed { StaysTimed (mine_of self.old.client) (C.given self.old.clock) (mine_of self.new.client) (C.given self.new.clock) }
     {
         self.shared
             .look(rt, &mut self.client, &mut self.clock, question)

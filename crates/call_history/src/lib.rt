@@ -7,6 +7,7 @@ mod bells;
 mod calls;
 mod desks;
 mod machines;
+mod particulars;
 mod shortages;
 mod told;
 mod tries;

@@ -11,7 +11,7 @@ ghost use Rattle.call_history.specs.Callers.{calls_of};
 ghost use Rattle.call_history.specs.Clients.{seen_of, mine_of, number_of, retired_of, KnowsItsOwn};
 
 use drmaa_machine::{Config, Machine};
-use drmaa_types::{Boxed, Chronicle, Refusal};
+use drmaa_types::{Boxed, Chronicle, Refusal, Shared};
 use std::alloc::{AllocError, Global};
 use std::marker::Model;
 use turn_lock::{NotePass, Opener, Pass, TurnLock};
@@ -73,7 +73,7 @@ impl SharedMachine {
         Ok((SharedMachine { lock, alloc }, opener))
     }
 
-    /// This value in memory of its own, as a call holds a template or a filter.
+    /// This value in memory of its own, as a call holds the template of a reservation or a filter.
     ///
     /// # Errors
     ///
@@ -82,6 +82,17 @@ impl SharedMachine {
         ensures { IfOk result (λ b. b ≡ value) }
     {
         Boxed::new(self.alloc, value)
+    }
+
+    /// This value in memory that several may share, as a call holds the template of a job.
+    ///
+    /// # Errors
+    ///
+    /// Want of memory.
+    pub(crate) fn share<T: Drop>(&self, value: T) -> Result<Shared<T>, AllocError>
+        ensures { IfOk result (λ s. s ≡ value) }
+    {
+        Shared::new(self.alloc, value)
     }
 
     /// The next client: its number is the next one, from 0. It has seen what the opener has, and made nothing. It takes no memory.
@@ -122,6 +133,7 @@ impl SharedMachine {
     pub fn note(&self, client: &mut Client) -> Note
         requires { IsFree self.now client.old }
         ensures client { client.new ≡ client.old }
+        ensures own { KnowsItsOwn client.new }
         ensures note { BelongsTo self.now result }
         ensures seen { seen_of result ≡ seen_of client.old }
     {

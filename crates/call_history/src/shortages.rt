@@ -1,9 +1,10 @@
 //! Calls that can't be made, since the memory for what they ask with is wanting.
-ghost use Rattle.std.specs.Prelude.{◌≡◌};
+ghost use Rattle.std.specs.Prelude.{◌≡◌, ℕ, Option};
 ghost use Rattle.drmaa_types.specs.declared.identifiers.SessionId.{SessionId};
 ghost use Rattle.drmaa_types.specs.declared.filters.JobFilter.{JobFilter};
 ghost use Rattle.drmaa_model.specs.declared.calls.Call.{Call};
 ghost use Rattle.drmaa_model.specs.declared.calls.Indices.{Indices};
+ghost use Rattle.drmaa_model.specs.declared.looks.Answer.{Answer};
 ghost use Rattle.job_template.specs.declared.templates.JobTemplate.{JobTemplate};
 ghost use Rattle.job_template.specs.declared.templates.ReservationTemplate.{ReservationTemplate};
 ghost use Rattle.turn_lock.specs.Tokens.{IsFree};
@@ -47,9 +48,20 @@ impl<'a, C: Clock> Desk<'a, C> {
             IsRefused self.old.shared.now.fixed (dial (C.given self.old.clock) (C.least self.old.clock)) self.old.client
             (Call.RequestReservation session template) result (dial (C.given self.new.clock) (C.least self.new.clock)) self.new.client }
     {
-        match self.look(rt, Question::Full) {
-            Answer::Full(size) => shortage(size),
-            _ => Refusal::OutOfMemory,
+        let answer = self.look(rt, Question::Full);
+        shortage_in(answer)
+    }
+}
+
+/// What is short, where this is the answer to whether the journal is full.
+fn shortage_in(answer: Answer) -> Refusal
+    ensures { (size : Option ℕ) → answer ≡ Answer.Full size → result ≡ shortage size }
+{
+    match answer {
+        Answer::Full(size) => shortage(size),
+        other => {
+            drop(other);
+            Refusal::OutOfMemory
         }
     }
 }

@@ -1,7 +1,8 @@
 -- Waits one after another: what comes to the jobs that are left comes to all.
-use Rattle.std.proofs.Common.{◌≡◌, ℕ, ◌⊎◌, inl, inr, List, ◌∷◌, Option, refl, ap, subst, ◌∙◌}
+use Rattle.std.proofs.Common.{◌≡◌, ℕ, ◌⊎◌, inl, inr, List, ◌∷◌, refl, ap, subst, ◌∙◌}
 use Rattle.drmaa_types.specs.declared.refusals.Refusal.{Refusal}
 use Rattle.drmaa_types.specs.declared.refusals.Refusal.TheVariants.{OutOfMemory}
+use Rattle.drmaa_types.specs.Readings.{Readings}
 use Rattle.drmaa_model.specs.declared.calls.Call.{Call}
 use Rattle.drmaa_model.specs.declared.configs.Config.{Config}
 use Rattle.turn_lock.specs.Histories.{BeginsWith}
@@ -78,7 +79,7 @@ module _ (shared next : Named Config) (same : next ≡ shared) (asked : Job → 
   left-stops reason l s = (here l).stopped reason later then (inl (subst (λ (n : Named Config). IsStopped n.fixed (asked job) clock client reason later then) same s))
 
 -- why the wait for one job came to nothing
-pub stopped : {C : Type 0} (given : C → Option (List ℕ)) (least : C → ℕ) (config : Config) (asked : ℕ → Call) (reason : Refusal) (P : Type 0) (old new : Desk C)
+pub stopped : {C : Type 0} (given : C → Readings) (least : C → ℕ) (config : Config) (asked : ℕ → Call) (reason : Refusal) (P : Type 0) (old new : Desk C)
     → (P × IsWaited config (dial (given old.clock) (least old.clock)) old.client asked (Refuses config old.client reason new.client) (dial (given new.clock) (least new.clock)) new.client)
     ⊎ ((reason ≡ OutOfMemory) × (new ≡ old))
     → IsStopped config asked (dial (given old.clock) (least old.clock)) old.client reason (dial (given new.clock) (least new.clock)) new.client

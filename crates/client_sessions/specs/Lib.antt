@@ -4,3 +4,4 @@ pub mod Lists
 pub mod Machines
 pub mod Templates
 pub mod Tries
+pub mod Particulars

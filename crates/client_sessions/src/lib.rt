@@ -1,5 +1,5 @@
 //! What a client of a shared machine calls: typed sessions, jobs, arrays and reservations. Each call is one entry of the
-//! machine's history, and a wait for all of several jobs is one for each.
+//! machine's history, and a wait for all of several jobs is one for each; names and templates are told without one.
 #![tactic(auto)]
 
 mod all_waits;
@@ -9,6 +9,7 @@ mod jobs;
 mod lists;
 mod machines;
 mod managers;
+mod particulars;
 mod reservation_sessions;
 mod reservations;
 mod templates;

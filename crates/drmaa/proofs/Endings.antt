@@ -1,42 +1,22 @@
 -- How launcher and reaper end.
-use Rattle.std.proofs.Common.{◌≡◌, ℕ, List, [], Option, Some, None, refl, sym, subst, append-nil, arith}
+use Rattle.std.proofs.Common.{◌≡◌, ℕ, List, Option, refl, sym, subst}
 use Rattle.std.specs.Prelude.{Result, Ok, Err, IfErr, IsOk}
 use Rattle.child_spawner.specs.declared.fates.Asked.{Asked}
 use Rattle.child_spawner.specs.declared.fates.Fate.{Fate}
 use Rattle.child_spawner.specs.Children.{Told}
 use Rattle.drmaa_types.specs.declared.refusals.Refusal.{Refusal}
+use Rattle.drmaa_types.specs.Readings.{Readings}
 use Rattle.drmaa_model.specs.declared.configs.Config.{Config}
-use Rattle.turn_lock.specs.Tokens.{Named, IsFree}
-use Rattle.call_history.specs.Clients.{mine_of}
-use Rattle.call_history.specs.ClientLaws.{begins-itself}
+use Rattle.turn_lock.specs.Tokens.{Named}
+use Rattle.attendant.specs.declared.pairs.Pair.{Pair}
 use Rattle.attendant.specs.declared.reaper.Held.{Held}
 use Rattle.attendant.specs.declared.reaper.Hand.{Hand}
-use Rattle.attendant.specs.Posts.{Post, Gives, IsStillAt}
+use Rattle.attendant.specs.Posts.{Post}
 use Rattle.attendant.specs.Outside.{IsHeldUp, out_of_memory, full_at_launch, full_at_order, full_at_answer}
-use Rattle.drmaa.specs.declared.pairs.Pair.{Pair}
+use Rattle.attendant.specs.PairLaws.{post-itself}
+use Rattle.attendant.specs.Pairs.{launcher_at, reaping_at, ArePlaced, HasAttended, HasSettled}
 use Rattle.drmaa.specs.Closed.{IsShort, of_memory, of_journal}
-use Rattle.drmaa.specs.Pairs.{launcher_at, reaping_at, ArePlaced, HasAttended, HasSettled, HasEnded}
-
-gives-none : (before : Option (List ℕ)) → Gives before [] before
-gives-none None = tt
-gives-none (Some before) = sym (append-nil before)
-
--- nothing happened at a desk
-post-itself : (p : Post) → IsFree p.shared p.client → IsStillAt p p
-post-itself p free = record {
-  shared_is = refl;
-  client = free;
-  number = refl;
-  begins = begins-itself _;
-  own = λ o. o;
-  legal = λ l. l;
-  least = (let l = p.clock.least in omega arith);
-  readings = [];
-  gave = gives-none p.clock.given;
-  added = [];
-  mine = sym (append-nil (mine_of p.client));
-  timed = tt;
-}
+use Rattle.drmaa.specs.Pairs.{HasEnded}
 
 held-short : (l0 l1 r0 r1 : Post) (K : Type 0) (why : Refusal) → IsHeldUp l0 l1 r0 r1 K why → IsShort why
 held-short l0 l1 r0 r1 K why (out_of_memory w) = of_memory w
@@ -49,7 +29,7 @@ pub refused-short : (l0 l1 r0 r1 : Post) (K : Type 0) (r : Result (Unit {0}) Ref
 refused-short l0 l1 r0 r1 K (Ok a) held = tt
 refused-short l0 l1 r0 r1 K (Err why) held = held-short l0 l1 r0 r1 K why held
 
-module _ {C T : Type 0} (given : C → Option (List ℕ)) (least : C → ℕ) (told : T → Option Told) (shared : Named Config) where
+module _ {C T : Type 0} (given : C → Readings) (least : C → ℕ) (told : T → Option Told) (shared : Named Config) where
   -- they were refused before
   pub ended-before : (p : Pair C) (asked : Option (List Asked)) (fate : ℕ → Fate) (at : ℕ → Option (Held T)) (hand : Option Hand) (before : Result (Unit {0}) Refusal) (why : Refusal) → before ≡ Err why → ArePlaced shared p
       → HasEnded given least told shared p p asked asked fate fate at at hand hand before (Err why)

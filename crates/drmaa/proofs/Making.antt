@@ -6,6 +6,7 @@ use Rattle.child_spawner.specs.declared.fates.Fate.{Fate}
 use Rattle.child_spawner.specs.Children.{Told}
 use Rattle.drmaa_types.specs.declared.changes.Notification.{Notification}
 use Rattle.drmaa_types.specs.declared.refusals.Refusal.{Refusal}
+use Rattle.drmaa_types.specs.Readings.{Readings}
 use Rattle.drmaa_model.specs.declared.configs.Config.{Config}
 use Rattle.drmaa_model.specs.declared.entries.Entry.{Entry}
 use Rattle.turn_lock.specs.Histories.{BeginsWith}
@@ -13,17 +14,18 @@ use Rattle.turn_lock.specs.Tokens.{Named}
 use Rattle.call_history.specs.Clients.{Seat, seen_of, mine_of, number_of, KnowsItsOwn}
 use Rattle.call_history.specs.ClientLaws.{begins-both}
 use Rattle.attendant.specs.Acts.{Act, acts_of, own_acts}
+use Rattle.attendant.specs.declared.pairs.Pair.{Pair}
 use Rattle.attendant.specs.declared.reaper.Held.{Held}
 use Rattle.attendant.specs.declared.reaper.Hand.{Hand}
 use Rattle.attendant.specs.Outside.{Tends, Keeps, AgreesOf}
+use Rattle.attendant.specs.Pairs.{launcher_at, reaping_at, HasAttended}
 use Rattle.notify_hub.specs.Hubs.{Following}
 use Rattle.notify_hub.specs.Places.{HavePlaces}
 use Rattle.drmaa.specs.declared.crews.Crew.{Crew}
-use Rattle.drmaa.specs.declared.pairs.Pair.{Pair}
 use Rattle.drmaa.specs.Closed.{RegistersFrom}
 use Rattle.drmaa.specs.Crews.{IsOpened, AreBack, IsLeft}
 use Rattle.drmaa.specs.Hubs.{FollowsAll, IsStillBeside, GoesOn, HaveRegistered}
-use Rattle.drmaa.specs.Pairs.{launcher_at, reaping_at, HasAttended, HasEnded}
+use Rattle.drmaa.specs.Pairs.{HasEnded}
 use Rattle.drmaa.proofs.Endings.{refused-short}
 
 -- before the first round all is kept
@@ -32,7 +34,7 @@ pub record Nothing {T : Type 0} (told : T → Option Told) (at : ℕ → Option 
   pub keeps : (fate : ℕ → Fate) → Keeps told (Some []) fate [] [] at None
   pub agrees : (fate : ℕ → Fate) → AgreesOf (Some []) fate [] []
 
-module _ {B C T : Type 0} (counted : B → ℕ) (told : B → Option (List Notification)) (tells : T → Option Told) (given : C → Option (List ℕ)) (least : C → ℕ) (Does : List Entry → Type 0) (shared : Named Config)
+module _ {B C T : Type 0} (counted : B → ℕ) (told : B → Option (List Notification)) (tells : T → Option Told) (given : C → Readings) (least : C → ℕ) (Does : List Entry → Type 0) (shared : Named Config)
     (o p : Seat) (crew : Crew C) (opened : IsOpened shared o crew) (h0 h1 h2 h3 : Following B) (pass1 pass2 told_pass pass3 worker own : Seat) (pb pc pd last : Pair C) (count : ℕ)
     (asked asked1 asked2 : Option (List Asked)) (fate fate1 fate2 : ℕ → Fate) (at0 at1 at2 : ℕ → Option (Held T)) (hand0 hand1 hand2 : Option Hand) (before ended : Result (Unit {0}) Refusal)
     (reg : HaveRegistered counted told shared h0 crew.pass.client count h1 pass1)

@@ -3,16 +3,15 @@ ghost use Rattle.std.specs.Prelude.{◌≡◌, ◌<◌, ◌^◌, [], length, IfS
 ghost use Rattle.slab.specs.Slab.{get};
 ghost use Rattle.turn_lock.specs.Tokens.{BelongsTo, IsFree};
 ghost use Rattle.call_history.specs.Clients.{seen_of, mine_of, retired_of};
+ghost use Rattle.attendant.specs.Pairs.{ArePlaced, HasAttended};
 ghost use Rattle.notify_hub.specs.Hubs.{IsNoteOf};
 ghost use Rattle.drmaa.specs.Crews.{IsSeated, IsOpened};
 ghost use Rattle.drmaa.specs.Hubs.{GoesOn};
-ghost use Rattle.drmaa.specs.Pairs.{ArePlaced, HasAttended};
 ghost use Rattle.drmaa.specs.Works.{Begins};
 
-use crate::pairs::{Attended, Pair, attend_there};
 use crate::passes::{Seated, follow};
 use crate::works::{Worked, work_there};
-use attendant::{Done, Reaper};
+use attendant::{Attended, Done, Pair, Reaper, attend_there};
 use call_history::{Bell, Desk, MachineOpener, SharedMachine};
 use child_spawner::Spawner;
 use drmaa_types::{CallerId, Clock, Clocks};

@@ -3,12 +3,12 @@ ghost use Rattle.std.specs.Prelude.{◌≡◌, ◌∷◌, [], None};
 ghost use Rattle.turn_lock.specs.Histories.{BeginsWith};
 ghost use Rattle.turn_lock.specs.Tokens.{BelongsTo, IsFree};
 ghost use Rattle.call_history.specs.Clients.{seen_of, number_of, retired_of, KnowsItsOwn};
+ghost use Rattle.attendant.specs.Pairs.{ArePlaced};
 ghost use Rattle.drmaa.specs.Crews.{AreBack};
 ghost use Rattle.drmaa.specs.Hubs.{IsStillBeside};
-ghost use Rattle.drmaa.specs.Pairs.{ArePlaced};
 
-use crate::pairs::Pair;
 use crate::passes::Seated;
+use attendant::Pair;
 use call_history::{Client, MachineOpener, SharedMachine};
 
 /// Lets the launcher's client know what those of the work and of the hub have seen.

@@ -17,10 +17,10 @@ pub use client_sessions::{
     Version, plain_command, plain_job,
 };
 pub use drmaa_types::{
-    ArrayId, Attribute, Capability, Clock, Clocks, Exit, IdList, InfoList, JobFilter, JobId,
-    JobInfo, JobState, Limit, ListOf, MachineInfo, Moment, Notification, QueueList, QueueSpec,
-    Refusal, ReservationId, ReservationInfo, ReservationList, Reserved, SessionId, StepClock, Text,
-    TextList, Timeout, Which, are_queues,
+    ArrayId, Attribute, Bytes, CallersClock, Capability, Clock, Clocks, Exit, IdList, InfoList,
+    JobFilter, JobId, JobInfo, JobState, Limit, ListOf, MachineInfo, Moment, Notification,
+    QueueList, QueueSpec, Refusal, ReservationId, ReservationInfo, ReservationList, Reserved,
+    SessionId, Shared, StepClock, Text, TextList, Timeout, Which, are_queues,
 };
 pub use job_template::{JobTemplate, ReservationTemplate, Start};
 pub use journal_text::{journal_bytes, print_journal};

@@ -16,10 +16,10 @@ ghost use Rattle.drmaa.specs.Works.{Begins};
 
 use crate::crews::{Crew, open_crew, work_beside};
 use crate::ends::{release, tell_launcher};
-use crate::pairs::{Attended, attend_last};
+use crate::pairs::attend_last;
 use crate::passes::{Seated, pump_last, register_all};
 use crate::works::Worked;
-use attendant::{Reaper, nothing_is_kept, the_outside_agrees};
+use attendant::{Attended, Reaper, nothing_is_kept, the_outside_agrees};
 use call_history::{Bell, Client, Config, Desk, Machine, MachineOpener, SharedMachine};
 use child_spawner::Spawner;
 use drmaa_model::{a_legal_history_leads_to_a_consistent_world, a_settled_plan_is_quiet};

@@ -3,13 +3,12 @@ ghost use Rattle.std.specs.Prelude.{◌≡◌, ◌<◌, ◌^◌, [], IfErr, OnOk
 ghost use Rattle.turn_lock.specs.Histories.{BeginsWith};
 ghost use Rattle.turn_lock.specs.Tokens.{IsFree};
 ghost use Rattle.call_history.specs.Clients.{seen_of, mine_of, KnowsItsOwn};
+ghost use Rattle.attendant.specs.Pairs.{ArePlaced};
 ghost use Rattle.notify_hub.specs.Hubs.{IsNoteOf};
 ghost use Rattle.drmaa.specs.Closed.{CannotBegin};
 ghost use Rattle.drmaa.specs.Hubs.{FollowsAll, GoesOn, HasRegistered, HaveRegistered, IsStillBeside};
-ghost use Rattle.drmaa.specs.Pairs.{ArePlaced};
 
-use crate::pairs::Pair;
-use attendant::Done;
+use attendant::{Done, Pair};
 use call_history::{Bell, Client, Pace, SharedMachine};
 use drmaa_types::{Clock, Limit, Refusal, WaitKind};
 use notify_hub::{Callback, Hub};

@@ -30,9 +30,9 @@ use Rattle.drmaa_model.specs.World.{World}
 use Rattle.drmaa_machine.specs.Applying.{IsOver, IsRefusedFor}
 use Rattle.call_history.specs.Calls.{entry_by}
 use Rattle.call_history.specs.Clients.{Seat, seen_of, number_of}
-use Rattle.call_history.specs.Clocks.{Dial, IsReading}
+use Rattle.call_history.specs.Clocks.{Dial, HasGiven, IsReading}
 use Rattle.call_history.specs.Refused.{refusal_of}
-use Rattle.wait_calls.specs.Waited.{Gives, IsWaited, IsReached, Answers, Reaches, Refuses, readings_of}
+use Rattle.wait_calls.specs.Waited.{IsWaited, IsReached, Answers, Reaches, Refuses, readings_of}
 use Rattle.wait_calls.specs.Waited.Refuses.{by_entry as decided_by_entry, by_fault as decided_by_fault}
 use Rattle.drmaa1_face.specs.Answers.{IsLate}
 use Rattle.drmaa1_face.specs.FaceEntries.{left_of}
@@ -102,7 +102,7 @@ reached-only w at session job begun timeout told r =
 
 -- ---- a wait whose time is over
 
-ends-with : (before after : Option (List ℕ)) (xs : List ℕ) (last : ℕ) → Gives before (xs ++ last ∷ []) after → EndsWith after last
+ends-with : (before after : Option (List ℕ)) (xs : List ℕ) (last : ℕ) → HasGiven before (xs ++ last ∷ []) after → EndsWith after last
 ends-with before None xs last g = tt
 ends-with None (Some a) xs last g = absurd g
 ends-with (Some b) (Some a) xs last g = (b ++ xs, g ∙ sym (append_assoc b xs (last ∷ [])))
@@ -153,7 +153,7 @@ module _ (config : Config) (old new : Post) (session : SessionId) (job first rea
         seconds = limit.seconds;
         limited = limit.limited;
         last = w.last;
-        ends = ends-with old.clock.given new.clock.given (w.begun ∷ readings_of w.looks) w.last w.gave;
+        ends = ends-with old.clock.given.told new.clock.given.told (w.begun ∷ readings_of w.looks) w.last w.gave.told;
         over = limit.over;
         session = session;
         job = job;

@@ -85,7 +85,7 @@ pub record IsLate (config : Config) (first : ℕ) (timeout : Timeout) (number : 
   pub seconds : ℕ
   pub limited : timeout ≡ Seconds seconds
   pub last : ℕ
-  pub ends : EndsWith new.clock.given last
+  pub ends : EndsWith new.clock.given.told last
   pub over : min (first + seconds) greatest ≤ last
   pub session : SessionId
   pub job : ℕ

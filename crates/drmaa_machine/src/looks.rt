@@ -1,18 +1,22 @@
 //! Questions that make no entry, and memory that is taken ahead.
-ghost use Rattle.std.specs.Prelude.{◌≡◌, ◌≤◌, ◌↔◌, OnOk, IfErr, IsTrue, take, drop, map, IfOk};
+ghost use Rattle.std.specs.Prelude.{◌≡◌, ◌⊎◌, ◌≤◌, ◌↔◌, OnOk, IfErr, IsTrue, take, drop, map, IfOk};
 ghost use Rattle.drmaa_model.specs.Infos.{infos, reservation_info};
 ghost use Rattle.drmaa_model.specs.Size.{size};
 ghost use Rattle.drmaa_model.specs.Effects.{not_yet};
 ghost use Rattle.drmaa_model.specs.Steps.{answer};
 ghost use Rattle.machine_readings.specs.Stores.{world_of, world_at, IsKept};
-ghost use Rattle.drmaa_machine.specs.Looks.{IsAnswer, overfull};
+ghost use Rattle.drmaa_model.specs.declared.looks.Answer.{Answer};
+ghost use Rattle.drmaa_machine.specs.Looks.{IsAnswer, overfull, template_of, opened_name};
 ghost use Rattle.drmaa_machine.specs.Waits.{call_of};
 ghost use Rattle.machine_calls.specs.Serving.{Keeps, spare_of};
 
 use crate::waits::Awaited;
 use drmaa_model::{Answer, Question};
-use drmaa_types::{Change, ChangeBatch, InfoList, Moment, Refusal, ReservationList};
+use drmaa_types::{
+    Change, ChangeBatch, InfoList, JobId, Moment, Refusal, ReservationList, SessionId, Text,
+};
 use machine_readings::{Store, is_timed_out};
+use std::alloc::AllocError;
 
 /// The most changes of one answer.
 const MOST_CHANGES: usize = 64;
@@ -90,6 +94,43 @@ pub fn look_in(store: &Store, at: Moment, question: Question) -> Answer
         Question::Held => Answer::Held(store.core.held()),
         Question::Changes { from } => Answer::Changes(batch(store.core.changes(), from)),
         Question::Full => Answer::Full(overfull(store)),
+        Question::Template { job } => template_answer(store, job),
+        Question::SessionName { session } => name_answer(store, session),
+    }
+}
+
+/// The template of a kept job, shared with the machine.
+fn template_answer(store: &Store, job: JobId) -> Answer
+    requires { IsKept store.now }
+    ensures { (result ≡ Answer.Template (template_of job (world_of store.now).plan.rows)) ⊎ (result ≡ Answer.OutOfMemory) }
+{
+    match store.core.template(job) {
+        Ok(template) => Answer::Template(template),
+        Err(_) => Answer::OutOfMemory,
+    }
+}
+
+/// The name of the session that a number was opened on.
+fn name_answer(store: &Store, session: SessionId) -> Answer
+    requires { IsKept store.now }
+    ensures { (result ≡ Answer.SessionName (opened_name session (world_of store.now).sessions)) ⊎ (result ≡ Answer.OutOfMemory) }
+{
+    match opened_name(store, session) {
+        Ok(name) => Answer::SessionName(name),
+        Err(_) => Answer::OutOfMemory,
+    }
+}
+
+fn opened_name(store: &Store, session: SessionId) -> Result<Option<Text>, AllocError>
+    requires { IsKept store.now }
+    ensures { IfOk result (λ name. name ≡ opened_name session (world_of store.now).sessions) }
+{
+    let Some(home) = store.home_in(session) else {
+        return Ok(None);
+    };
+    match store.sessions.name(home) {
+        Some(name) => Ok(Some(name.clone()?)),
+        None => Ok(None),
     }
 }
 

@@ -172,7 +172,8 @@ impl Machine {
         reserve_in(&mut self.store, n)
     }
 
-    /// Answers a question at the greater of this moment and the machine's. It takes no memory and makes no entry.
+    /// Answers a question at the greater of this moment and the machine's. It makes no entry, and takes memory for the name of a
+    /// session alone.
     pub fn look(&self, at: Moment, question: Question) -> Answer
         ensures { IsAnswer (advance (now_of self.now.ledger) at) (now_of self.now.ledger) question result }
     {

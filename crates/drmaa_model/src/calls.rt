@@ -1,7 +1,7 @@
 //! The calls that a machine serves.
 use drmaa_types::{
     ArrayId, Boxed, Control, Exit, IdList, JobFilter, JobId, Moment, ReservationId, SessionId,
-    SignalKind, Text, Timeout, WaitKind,
+    Shared, SignalKind, Text, Timeout, WaitKind,
 };
 use job_template::{JobTemplate, ReservationTemplate};
 
@@ -55,7 +55,7 @@ pub enum Report {
 }
 
 /// A call. Each that is served is one entry of the history. A template or a filter lies in memory of its own, so that an entry
-/// is not as large as the largest of them.
+/// is not as large as the largest of them, and calls that submit the same job template may share it.
 #[derive(Drop)]
 pub enum Call {
     /// Makes a job session and opens it (GFD.231, SessionManager, as the seven that follow).
@@ -89,12 +89,12 @@ pub enum Call {
     /// Submits a job (GFD.231, JobSession, as the three that follow).
     RunJob {
         session: SessionId,
-        template: Boxed<JobTemplate>,
+        template: Shared<JobTemplate>,
     },
     /// Submits an array of jobs.
     RunBulk {
         session: SessionId,
-        template: Boxed<JobTemplate>,
+        template: Shared<JobTemplate>,
         indices: Indices,
     },
     GetJobs {

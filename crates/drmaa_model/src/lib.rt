@@ -14,6 +14,7 @@ mod replies;
 mod reservations;
 mod rows;
 mod runs;
+mod same;
 
 pub use answers::{
     a_launch_is_the_next, a_refusal_changes_nothing_but_time, a_refusal_is_the_first_that_holds,

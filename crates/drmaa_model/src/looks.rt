@@ -1,5 +1,6 @@
 //! What can be asked of a machine without an entry.
-use drmaa_types::ChangeBatch;
+use drmaa_types::{ChangeBatch, JobId, SessionId, Shared, Text};
+use job_template::JobTemplate;
 
 /// A question that makes no entry.
 #[derive(Clone, Copy, Debug, PartialEq, Eq)]
@@ -12,6 +13,10 @@ pub enum Question {
     Changes { from: u64 },
     /// The size that the journal would have with one entry more that brings no change, where that is above the greatest.
     Full,
+    /// The template of a job, its placeholders replaced (GFD.231, Job, jobTemplate).
+    Template { job: JobId },
+    /// The name of the session that this number was opened on (GFD.231, JobSession and ReservationSession, sessionName).
+    SessionName { session: SessionId },
 }
 
 /// Its answer.
@@ -21,4 +26,10 @@ pub enum Answer {
     Held(u32),
     Changes(ChangeBatch),
     Full(Option<u64>),
+    /// None exactly where the job is not kept.
+    Template(Option<Shared<JobTemplate>>),
+    /// None exactly where the number is not one of a named session, or no longer.
+    SessionName(Option<Text>),
+    /// Memory is wanted for the template or the name.
+    OutOfMemory,
 }

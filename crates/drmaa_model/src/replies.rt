@@ -1,7 +1,7 @@
 //! What a machine answers.
 use drmaa_types::{
     ArrayId, Boxed, IdList, InfoList, JobId, JobInfo, JobState, MachineInfo, Refusal,
-    ReservationInfo, ReservationList, Reserved, SessionId, SignalKind, TextList,
+    ReservationInfo, ReservationList, Reserved, SessionId, Shared, SignalKind, TextList,
 };
 
 /// A job that is to be started.
@@ -12,8 +12,8 @@ pub struct Launch {
     pub attempt: u32,
     /// How many slots it holds.
     pub slots: u32,
-    /// The words that start it.
-    pub words: Boxed<TextList>,
+    /// The words that start it, which launches of the same words may share.
+    pub words: Shared<TextList>,
 }
 
 /// A signal that is to be sent to the process of a job's last launch.

@@ -5,8 +5,8 @@ ghost use Rattle.std.specs.Prelude.{◌≡◌};
 ghost use Rattle.turn_lock.specs.Tokens.{IsFree};
 
 use drmaa::{
-    Callbacks, Clock, Desk, Ended, JobState, JobTemplate, MemoryCallback, Refusal, SessionManager,
-    SystemClock, Text, Timeout, plain_config, with_local_machine,
+    Bytes, Callbacks, Clock, Desk, Ended, JobState, JobTemplate, MemoryCallback, Refusal,
+    SessionManager, SystemClock, Text, Timeout, journal_bytes, plain_config, with_local_machine,
 };
 use std::alloc::Global;
 use std::fs;
@@ -17,27 +17,7 @@ use std::time::Clock as Pause;
 
 /// A job that runs a line of `sh`.
 fn shell(alloc: Global, line: &str) -> Result<JobTemplate, Refusal> {
-    let made = JobTemplate::command(alloc, "sh").and_then(|job| job.args(&["-c", line]));
-    match made {
-        Ok(job) => Ok(job),
-        Err(_) => Err(Refusal::OutOfMemory),
-    }
-}
-
-/// The folder in which the program runs.
-fn folder(alloc: Global) -> Result<Text, Refusal> {
-    match Text::of(alloc, ".") {
-        Ok(folder) => Ok(folder),
-        Err(_) => Err(Refusal::OutOfMemory),
-    }
-}
-
-/// What a refusal says.
-fn said(alloc: Global, refusal: &Refusal) -> Result<String, Refusal> {
-    match format!(in alloc; "{refusal}") {
-        Ok(text) => Ok(text),
-        Err(_) => Err(Refusal::OutOfMemory),
-    }
+    Ok(JobTemplate::command(alloc, "sh")?.args(&["-c", line])?)
 }
 
 /// How the last job ended, and what is said of an array that ends before it begins.
@@ -66,23 +46,24 @@ fn squares<R: Wait + Pause, C: Clock>(
     let last = job.get_state(rt, desk)?;
     let refused = match session.run_bulk_jobs(rt, desk, shell(alloc, "true")?, 10, 1, 1, None) {
         Ok(_) => String::new(alloc),
-        Err(refusal) => said(alloc, &refusal)?,
+        Err(refusal) => format!(in alloc; "{refusal}")?,
     };
     Ok(Report { last, refused })
 }
 
-/// Does the work on a machine of its own with eight slots, in this folder. Its report, and how many entries its history has then.
+/// Does the work on a machine of its own with eight slots, in this folder. Its report, how many entries the machine's history has
+/// then, and its journal.
 fn run<E: Threads + Wait + Pause + Sync>(
     threads: &E,
     rt: HostRuntime,
-) -> Result<(Report, usize), Refusal> {
+) -> Result<(Report, usize, Bytes), Refusal> {
     let alloc = rt.alloc();
     let callbacks: Callbacks<MemoryCallback> = Callbacks::new(alloc);
     let ended = with_local_machine(
         threads,
         rt,
         plain_config(alloc, 8, "local")?,
-        folder(alloc)?,
+        Text::of(alloc, ".")?,
         callbacks,
         |desk: &mut Desk<SystemClock>| -> Result<Report, Refusal>
             requires { IsFree desk.old.shared.now desk.old.client }
@@ -90,11 +71,13 @@ fn run<E: Threads + Wait + Pause + Sync>(
         { squares(threads, alloc, desk) },
     )?;
     let Ended { value, machine, .. } = ended;
-    Ok((value?, machine.entries().len()))
+    let journal = journal_bytes(alloc, machine.config(), machine.entries())?;
+    Ok((value?, machine.entries().len(), journal))
 }
 
 fn main(rt: HostRuntime) -> Result<(), Fail> {
-    let (Report { last, refused }, entries) = run(&rt, rt)?;
+    let (Report { last, refused }, entries, journal) = run(&rt, rt)?;
+    fs::write(&rt, "journal", journal.as_slice())?;
     print!(rt; "{}", fs::read_to_string(&rt, "squares")?)?;
     println!(rt; "the last job: {last}")?;
     println!(rt; "refused: {refused}")?;

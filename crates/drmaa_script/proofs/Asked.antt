@@ -1,19 +1,22 @@
 -- Words ask for one command; and how a command ends for which memory ran out before anything was read.
-use Rattle.std.proofs.Common.{◌≡◌, ℕ, Bool, false, List, Option, Some, None, inl, inr, refl, sym, subst}
+use Rattle.std.proofs.Common.{◌≡◌, ◌⊎◌, ℕ, Bool, false, List, [], Option, Some, None, inl, inr, refl, sym, subst}
 use Rattle.std.specs.Prelude.{IfSome, MatchBool, MatchOption}
 use Rattle.command_words.specs.Commands.{AsksFor}
 use Rattle.command_words.specs.CommandLaws.{one_command}
 use Rattle.command_words.specs.declared.commands.Command.{Command}
 use Rattle.command_words.specs.declared.commands.Command.TheVariants.{Serial, Threads, Table, Check, Migrate, Json, Forecast, Continue, Recur, Soak}
+use Rattle.drmaa_types.specs.Readings.{Readings}
 use Rattle.drmaa_types.specs.declared.changes.Notification.{Notification}
 use Rattle.journal_commands.specs.declared.status.Status.{Status}
-use Rattle.journal_commands.specs.declared.status.Status.TheVariants.{Memory}
+use Rattle.journal_commands.specs.declared.status.Status.TheVariants.{Done, Text, Words, ReadFault, WriteFault, Memory, JournalFull, NotLegal}
 use Rattle.script_asks.specs.Plays.{serial_play}
 use Rattle.script_play.specs.Callbacks.{HearFront}
 use Rattle.script_text.specs.declared.scripts.Mode.TheVariants as mode
 use Rattle.script_text.specs.declared.scripts.Script.{Script}
 use Rattle.drmaa_script.specs.Commands.{Asks, CanRun, NamesNone}
-use Rattle.drmaa_script.specs.Endings.{IsWhole, MayEnd}
+use Rattle.drmaa_script.specs.Endings.{IsWhole, MayEnd, HandsClocks}
+use Rattle.drmaa_script.specs.Runs.{AreCallersClocks}
+use Rattle.drmaa_script.proofs.Ran.{none_whose}
 use Rattle.script_commands.specs.Outcomes.{IsScriptText}
 use Rattle.script_commands.proofs.Kept.{same_front}
 
@@ -69,3 +72,27 @@ pub short_front : {B : Type 0} (counted : B → ℕ) (told : B → Option (List 
     → IfSome left (λ (bytes : List ℕ). (script : Script) → IsScriptText mode.Serial bytes script → HearFront counted told script.config (serial_play script).entries callbacks after)
 short_front counted told None callbacks after same = tt
 short_front counted told (Some bytes) callbacks after same = λ script t. same_front counted told script.config (serial_play script).entries callbacks after same
+
+-- whether clocks come back
+hands_or_not : (command : Command) (status : Status) → HandsClocks command status ⊎ (HandsClocks command status → ⊥)
+hands_or_not Serial status = inr (λ hands. hands)
+hands_or_not Threads Done = inl tt
+hands_or_not Threads (Text line) = inr (λ hands. hands)
+hands_or_not Threads Words = inr (λ hands. hands)
+hands_or_not Threads ReadFault = inr (λ hands. hands)
+hands_or_not Threads WriteFault = inr (λ hands. hands)
+hands_or_not Threads Memory = inr (λ hands. hands)
+hands_or_not Threads (JournalFull size) = inl tt
+hands_or_not Threads (NotLegal entry given machine) = inr (λ hands. hands)
+hands_or_not Table status = inr (λ hands. hands)
+hands_or_not Check status = inr (λ hands. hands)
+hands_or_not Migrate status = inr (λ hands. hands)
+hands_or_not Json status = inr (λ hands. hands)
+hands_or_not Forecast status = inr (λ hands. hands)
+hands_or_not Continue status = inr (λ hands. hands)
+hands_or_not (Recur words) status = inr (λ hands. hands)
+hands_or_not (Soak words) status = inr (λ hands. hands)
+
+-- those that come back are their callers', and where none do all are
+pub all_whose : {C : Type 0} (given : C → Readings) (clocks : List C) (command : Command) (status : Status) → ((HandsClocks command status → ⊥) → clocks ≡ []) → (HandsClocks command status → AreCallersClocks given clocks) → AreCallersClocks given clocks
+all_whose given clocks command status none some = elim (hands_or_not command status) as (λ _. AreCallersClocks given clocks) [ inl hands ↦ some hands | inr not ↦ none_whose given clocks (none not) ]

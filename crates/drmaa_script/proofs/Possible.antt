@@ -1,5 +1,5 @@
 -- To which statuses a command on a journal can come, by what it writes and refuses.
-use Rattle.std.proofs.Common.{◌≡◌, ℕ, List, Option, Some, None}
+use Rattle.std.proofs.Common.{◌≡◌, ℕ, Some, None}
 use Rattle.journal_commands.specs.Commands.{OfLegal, WritesCount, WritesSecond, WritesJson, RefusesFault, RefusesNone}
 use Rattle.journal_commands.specs.Outcomes.{CameTo}
 use Rattle.journal_commands.specs.declared.status.Status.{Status}

@@ -1,9 +1,11 @@
 -- How a run in threads ends, and what was written and heard then.
-use Rattle.std.proofs.Common.{◌≡◌, ℕ, ◌≤◌, List, length, Option, Some, None, refl, sym, ap, ◌∙◌, subst}
+use Rattle.std.proofs.Common.{◌≡◌, ◌⊎◌, inl, inr, ℕ, ◌≤◌, List, [], length, Option, Some, None, refl, sym, ap, ◌∙◌, subst, arith}
+use Rattle.std.proofs.lemmas.Option.{slice_get_within}
 use Rattle.std.specs.Io.KnownBytes.{Appends}
 use Rattle.byte_streams.specs.Streams.{AppendsFront}
 use Rattle.child_spawner.specs.declared.fates.Asked.{Asked}
 use Rattle.child_spawner.specs.declared.fates.Fate.{Fate}
+use Rattle.drmaa_types.specs.Readings.{Readings}
 use Rattle.drmaa_types.specs.declared.changes.Notification.{Notification}
 use Rattle.drmaa_model.specs.declared.configs.Config.{Config}
 use Rattle.drmaa_model.specs.declared.entries.Entry.{Entry}
@@ -14,16 +16,16 @@ use Rattle.script_play.specs.Callbacks.{HearHistory}
 use Rattle.script_text.specs.declared.scripts.Mode.TheVariants as mode
 use Rattle.script_text.specs.declared.scripts.Script.{Script}
 use Rattle.thread_play.specs.Hubs.{HearRun}
-use Rattle.thread_play.specs.Runs.{IsWhole}
+use Rattle.thread_play.specs.Runs.{IsWhole, IsStopped, in_setup, behind_setup}
 use Rattle.journal_commands.specs.declared.status.Status.{Status}
 use Rattle.journal_commands.specs.declared.status.Status.TheVariants.{Done, Text, Words, ReadFault, WriteFault, Memory, JournalFull, NotLegal}
 use Rattle.script_commands.specs.Outcomes.{IsScriptText, IsOfScript}
 use Rattle.script_commands.specs.Registers.{registers_of}
 use Rattle.drmaa_script.specs.Running.{IsTextOfRun, RanEnds}
-use Rattle.drmaa_script.specs.Runs.{RunEnds, IsRunEnd, LeavesClocks}
+use Rattle.drmaa_script.specs.Runs.{RunEnds, IsRunEnd, LeavesClocks, AreCallersClocks, HadCallers}
 use Rattle.journal_commands.specs.Statuses.{IsUnread, ended_as}
 
-module _ {C : Type 0} (given : C → Option (List ℕ)) (s : Script) (old new : Option (List ℕ)) (asked asked_after : Option (List Asked)) (fate : ℕ → Fate) (clocks : List C) where
+module _ {C : Type 0} (given : C → Readings) (s : Script) (old new : Option (List ℕ)) (asked asked_after : Option (List Asked)) (fate : ℕ → Fate) (clocks : List C) where
   -- the text of a run was written
   pub ran_written : (callbacks : ℕ) (hears : List Entry → Type 0) (bytes : List ℕ) (full : Option ℕ) → registers_of s ≤ callbacks → IsTextOfRun given s bytes asked asked_after fate clocks full hears → Appends old new bytes
       → RanEnds given s callbacks hears old new asked asked_after fate clocks (ended_as full)
@@ -88,7 +90,7 @@ module _ {C : Type 0} (given : C → Option (List ℕ)) (s : Script) (old new : 
   ran_ends counted told bytes before after (NotLegal entry was machine) spelled ends = absurd ends
 
 -- why a script for threads was not run
-pub unread_run : {B C : Type 0} (counted : B → ℕ) (told : B → Option (List Notification)) (given : C → Option (List ℕ)) (bytes : List ℕ) (old new : Option (List ℕ)) (asked asked_after : Option (List Asked)) (fate : ℕ → Fate) (clocks : List C) (before after : List B) (status : Status) → IsUnread status
+pub unread_run : {B C : Type 0} (counted : B → ℕ) (told : B → Option (List Notification)) (given : C → Readings) (bytes : List ℕ) (old new : Option (List ℕ)) (asked asked_after : Option (List Asked)) (fate : ℕ → Fate) (clocks : List C) (before after : List B) (status : Status) → IsUnread status
     → ((n : ℕ) → status ≡ Text n → RunEnds counted told given bytes old new asked asked_after fate clocks before after (Text n)) → RunEnds counted told given bytes old new asked asked_after fate clocks before after status
 unread_run counted told given bytes old new asked asked_after fate clocks before after Done is line = absurd is
 unread_run counted told given bytes old new asked asked_after fate clocks before after (Text n) is line = line n refl
@@ -109,6 +111,48 @@ hub_hears {B = B} counted told config hub before back begun heard take history r
     subst (λ (bs : List B). HaveHeardAll counted told config history hub.ears.places bs back) begun (subst (λ (h : List Entry). HaveHeardAll counted told config h hub.ears.places hub.ears.begun back) r.noted_is all) in
     record { as_many = here.as_many; each = λ i d inside. here.each i d inside (r.places.each i) }
 
+-- no clock is the clock of its place
+pub none_whose : {C : Type 0} (given : C → Readings) (clocks : List C) → clocks ≡ [] → AreCallersClocks given clocks
+none_whose given clocks none = λ caller clock at. absurd (let within = slice_get_within clocks caller clock at in let size = ap length none in omega arith)
+
+module _ {C : Type 0} (given : C → Readings) (s : Script) (old new : Option (List ℕ)) (asked asked_after : Option (List Asked)) (fate : ℕ → Fate) (clocks : List C) (callbacks : ℕ) (hears : List Entry → Type 0) where
+  -- whose clocks a run hands back
+  pub ran_whose : (status : Status) → RanEnds given s callbacks hears old new asked asked_after fate clocks status → ((LeavesClocks status → ⊥) → clocks ≡ []) → AreCallersClocks given clocks
+  ran_whose Done (enough, w) none = λ caller clock at. (w.run.run.timed caller clock at).caller
+  ran_whose (Text line) ends none = none_whose given clocks (none (λ leaves. leaves))
+  ran_whose Words ends none = none_whose given clocks (none (λ leaves. leaves))
+  ran_whose ReadFault ends none = none_whose given clocks (none (λ leaves. leaves))
+  ran_whose WriteFault ends none = none_whose given clocks (none (λ leaves. leaves))
+  ran_whose Memory ends none = none_whose given clocks (none (λ leaves. leaves))
+  ran_whose (JournalFull size) (enough, w) none = λ caller clock at. (w.run.run.timed caller clock at).caller
+  ran_whose (NotLegal entry was machine) ends none = none_whose given clocks (none (λ leaves. leaves))
+
+  stopped_callers : (history : List Entry) (size : ℕ) → IsStopped given clocks s history asked asked_after size → (length clocks ≡ 1) ⊎ (4 ≤ length clocks)
+  stopped_callers history size (in_setup cut alone unasked callers) = inl callers
+  stopped_callers history size (behind_setup setup clients met launched callers) = inr (omega arith)
+
+  -- and how many
+  pub ran_callers : (status : Status) → RanEnds given s callbacks hears old new asked asked_after fate clocks status → ((LeavesClocks status → ⊥) → clocks ≡ []) → HadCallers status (length clocks)
+  ran_callers Done (enough, w) none = (let whole : IsWhole given s w.history asked asked_after fate clocks = w.run.run.ends in let callers = whole.callers in omega arith)
+  ran_callers (Text line) ends none = ap length (none (λ leaves. leaves))
+  ran_callers Words ends none = ap length (none (λ leaves. leaves))
+  ran_callers ReadFault ends none = ap length (none (λ leaves. leaves))
+  ran_callers WriteFault ends none = ap length (none (λ leaves. leaves))
+  ran_callers Memory ends none = ap length (none (λ leaves. leaves))
+  ran_callers (JournalFull size) (enough, w) none = stopped_callers w.history size w.run.run.ends
+  ran_callers (NotLegal entry was machine) ends none = ap length (none (λ leaves. leaves))
+
+-- a script that was not read leaves none
+pub unread_callers : (status : Status) (n : ℕ) → IsUnread status → n ≡ 0 → HadCallers status n
+unread_callers Done n is none = absurd is
+unread_callers (Text line) n is none = none
+unread_callers Words n is none = none
+unread_callers ReadFault n is none = none
+unread_callers WriteFault n is none = none
+unread_callers Memory n is none = none
+unread_callers (JournalFull size) n is none = absurd is
+unread_callers (NotLegal entry was machine) n is none = none
+
 -- what is true of a run whose journal was written
 pub ended_run : (full : Option ℕ) → IsRunEnd (ended_as full)
 ended_run None = tt
@@ -118,11 +162,11 @@ pub ended_clocks : (full : Option ℕ) → LeavesClocks (ended_as full)
 ended_clocks None = tt
 ended_clocks (Some size) = tt
 
-pub ran_no_fault : {C : Type 0} (given : C → Option (List ℕ)) (s : Script) (old new : Option (List ℕ)) (asked asked_after : Option (List Asked)) (fate : ℕ → Fate) (clocks : List C) (callbacks : ℕ) (hears : List Entry → Type 0) (status : Status)
+pub ran_no_fault : {C : Type 0} (given : C → Readings) (s : Script) (old new : Option (List ℕ)) (asked asked_after : Option (List Asked)) (fate : ℕ → Fate) (clocks : List C) (callbacks : ℕ) (hears : List Entry → Type 0) (status : Status)
     → RanEnds given s callbacks hears old new asked asked_after fate clocks status → status ≡ ReadFault → ⊥
 ran_no_fault given s old new asked asked_after fate clocks callbacks hears status ends is = subst (λ (x : Status). RanEnds given s callbacks hears old new asked asked_after fate clocks x) is ends
 
-pub ran_possible : {C : Type 0} (given : C → Option (List ℕ)) (s : Script) (old new : Option (List ℕ)) (asked asked_after : Option (List Asked)) (fate : ℕ → Fate) (clocks : List C) (callbacks : ℕ) (hears : List Entry → Type 0) (status : Status)
+pub ran_possible : {C : Type 0} (given : C → Readings) (s : Script) (old new : Option (List ℕ)) (asked asked_after : Option (List Asked)) (fate : ℕ → Fate) (clocks : List C) (callbacks : ℕ) (hears : List Entry → Type 0) (status : Status)
     → RanEnds given s callbacks hears old new asked asked_after fate clocks status → IsOfScript status
 ran_possible given s old new asked asked_after fate clocks callbacks hears Done ends = tt
 ran_possible given s old new asked asked_after fate clocks callbacks hears (Text line) ends = tt

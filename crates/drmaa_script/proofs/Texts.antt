@@ -4,6 +4,7 @@ use Rattle.std.specs.Prelude.{IfOk, OnOk}
 use Rattle.std.specs.declared.alloc.AllocError.{AllocError}
 use Rattle.child_spawner.specs.declared.fates.Asked.{Asked}
 use Rattle.child_spawner.specs.declared.fates.Fate.{Fate}
+use Rattle.drmaa_types.specs.Readings.{Readings}
 use Rattle.drmaa_model.specs.declared.configs.Config.{Config}
 use Rattle.drmaa_model.specs.declared.entries.Entry.{Entry}
 use Rattle.script_text.specs.declared.scripts.Script.{Script}
@@ -17,7 +18,7 @@ moved : (P : Config → List Entry → Type 0) (a b : Config) (g h : List Entry)
 moved P a b g h e f p = subst (λ (x : Config). P x g) (sym e) (subst (λ (y : List Entry). P b y) (sym f) p)
 
 -- the bytes that were printed of a run's machine are the journal of the run
-pub printed_run : {C : Type 0} (given : C → Option (List ℕ)) (s : Script) (history : List Entry) (asked asked_after : Option (List Asked)) (fate : ℕ → Fate) (clocks : List C) (full : Option ℕ) (hears : List Entry → Type 0)
+pub printed_run : {C : Type 0} (given : C → Readings) (s : Script) (history : List Entry) (asked asked_after : Option (List Asked)) (fate : ℕ → Fate) (clocks : List C) (full : Option ℕ) (hears : List Entry → Type 0)
     (config : Config) (entries : List Entry) (printed : Result (List ℕ) AllocError) (bytes : List ℕ) (clocks_left : List C) (full_left : Option ℕ)
     → config ≡ s.config → entries ≡ history → IsPrintable s.config history → (IsPrintable config entries → OnOk printed (IsWritable config entries))
     → (IsWritable config entries → IfOk printed (λ b. b ≡ journal_text config entries)) → printed ≡ Ok bytes

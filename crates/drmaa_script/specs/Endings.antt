@@ -2,6 +2,7 @@
 use Rattle.std.specs.Prelude.{◌≢◌, ℕ, List, length, Option}
 use Rattle.child_spawner.specs.declared.fates.Asked.{Asked}
 use Rattle.child_spawner.specs.declared.fates.Fate.{Fate}
+use Rattle.drmaa_types.specs.Readings.{Readings}
 use Rattle.drmaa_types.specs.declared.changes.Notification.{Notification}
 use Rattle.command_words.specs.declared.commands.Command.{Command}
 use Rattle.command_words.specs.declared.commands.Command.TheVariants.{Serial, Threads, Table, Check, Migrate, Json, Forecast, Continue, Recur, Soak}
@@ -15,7 +16,7 @@ use Rattle.drmaa_script.specs.Soaking.{SoakEnds}
 use Rattle.drmaa_script.specs.Runs.{RunEnds, RunIsWhole, LeavesClocks}
 
 -- what each command comes to, by its bytes, the sink, the spawner, the clocks, and the callbacks before and then
-abbrev pub Ends : {B C : Type 0} → (B → ℕ) → (B → Option (List Notification)) → (C → Option (List ℕ)) → Command → List ℕ → Option (List ℕ) → Option (List ℕ) → Option (List Asked) → Option (List Asked) → (ℕ → Fate) → List C → List B → List B → Status → Type 0
+abbrev pub Ends : {B C : Type 0} → (B → ℕ) → (B → Option (List Notification)) → (C → Readings) → Command → List ℕ → Option (List ℕ) → Option (List ℕ) → Option (List Asked) → Option (List Asked) → (ℕ → Fate) → List C → List B → List B → Status → Type 0
 Ends counted told given Serial bytes old new asked asked_after fate clocks callbacks callbacks_after status = PlayEnds journal_of (length callbacks) bytes status old new
 Ends counted told given Threads bytes old new asked asked_after fate clocks callbacks callbacks_after status = RunEnds counted told given bytes old new asked asked_after fate clocks callbacks callbacks_after status
 Ends counted told given Table bytes old new asked asked_after fate clocks callbacks callbacks_after status = PlayEnds listing_of (length callbacks) bytes status old new

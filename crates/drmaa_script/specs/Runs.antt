@@ -5,6 +5,7 @@ use Rattle.std.specs.Io.KnownBytes.{Appends}
 use Rattle.byte_streams.specs.Streams.{AppendsFront}
 use Rattle.child_spawner.specs.declared.fates.Asked.{Asked}
 use Rattle.child_spawner.specs.declared.fates.Fate.{Fate}
+use Rattle.drmaa_types.specs.Readings.{Readings}
 use Rattle.drmaa_types.specs.declared.changes.Notification.{Notification}
 use Rattle.drmaa_types.specs.declared.identifiers.JobId.{JobId}
 use Rattle.drmaa_model.specs.declared.entries.Entry.{Entry}
@@ -40,7 +41,7 @@ use Rattle.journal_commands.specs.Statuses.{IsRefused}
 -- Of what a client had seen the bytes show this alone: the history begins with the entries of setup, which all others had seen before
 -- their first calls. Within the run each call is one of SharedMachine::call or, of a register line, SharedMachine::call_numbered,
 -- whose clauses have its entry stand behind the whole list that its client had seen.
-pub record OneLegalJournal {B C : Type 0} (counted : B → ℕ) (told : B → Option (List Notification)) (given : C → Option (List ℕ)) (bytes : List ℕ) (old new : Option (List ℕ)) (asked asked_after : Option (List Asked)) (fate : ℕ → Fate) (clocks : List C) (callbacks callbacks_after : List B) : Type 0 where
+pub record OneLegalJournal {B C : Type 0} (counted : B → ℕ) (told : B → Option (List Notification)) (given : C → Readings) (bytes : List ℕ) (old new : Option (List ℕ)) (asked asked_after : Option (List Asked)) (fate : ℕ → Fate) (clocks : List C) (callbacks callbacks_after : List B) : Type 0 where
   -- all bytes that were read spell this script for threads
   pub script : Script
   pub spelled : IsScriptText mode.Threads bytes script
@@ -66,13 +67,14 @@ pub record OneLegalJournal {B C : Type 0} (counted : B → ℕ) (told : B → Op
       → is_launched job attempt (acts_of (calls_of history (launcher_of script))) ≡ true
   -- nobody else makes a call
   pub strangers : (caller : ℕ) → reaper_of script < caller → calls_of history caller ≡ []
-  -- there is a clock for each caller, and the moments of a caller's entries are readings of its clock, in their order, where it tells them
+  -- there is a clock for each caller, one that was handed out to it, and the moments of a caller's entries are readings of that clock,
+  -- in their order, where it tells them
   pub callers : length clocks ≡ hub_of script + 1
-  pub moments : (caller : ℕ) (clock : C) → slice_get clocks caller ≡ Some clock → IsTimed (calls_of history caller) (given clock)
+  pub moments : (caller : ℕ) (clock : C) → slice_get clocks caller ≡ Some clock → IsTimed (Some caller) (calls_of history caller) (given clock)
   -- at the end no job holds slots and no order stands, and the machine is settled at the last reading of the launcher's clock, where it
   -- tells them
   pub quiet : IsQuiet (replay script.config history).plan
-  pub rest : (clock : C) → slice_get clocks (launcher_of script) ≡ Some clock → IfSome (given clock) (IsSettledAt script.config history)
+  pub rest : (clock : C) → slice_get clocks (launcher_of script) ≡ Some clock → IfSome (given clock).told (IsSettledAt script.config history)
   -- the journal agrees with the children, where the spawner tells and nothing had been asked of it
   pub outside : asked ≡ Some [] → IfSome asked_after (λ starts. AgreesWithOutside starts fate (acts_of history))
   -- there is a callback for each line that registers one, and each heard exactly what the history has for its number
@@ -80,12 +82,12 @@ pub record OneLegalJournal {B C : Type 0} (counted : B → ℕ) (told : B → Op
   pub heard : HearHistory counted told script.config history callbacks callbacks_after
 
 -- The journal of a run is writable, and says how it went.
-pub record IsRunOf {C : Type 0} (given : C → Option (List ℕ)) (script : Script) (history : List Entry) (asked asked_after : Option (List Asked)) (fate : ℕ → Fate) (clocks : List C) (full : Option ℕ) : Type 0 where
+pub record IsRunOf {C : Type 0} (given : C → Readings) (script : Script) (history : List Entry) (asked asked_after : Option (List Asked)) (fate : ℕ → Fate) (clocks : List C) (full : Option ℕ) : Type 0 where
   pub readable : journals.IsWritable script.config history
   pub run : HasRun given script history asked asked_after fate clocks full
 
 -- What was written is the whole text of such a journal, and the callbacks heard its history.
-pub record WritesRun {B C : Type 0} (counted : B → ℕ) (told : B → Option (List Notification)) (given : C → Option (List ℕ)) (bytes : List ℕ) (old new : Option (List ℕ)) (asked asked_after : Option (List Asked)) (fate : ℕ → Fate) (clocks : List C) (full : Option ℕ)
+pub record WritesRun {B C : Type 0} (counted : B → ℕ) (told : B → Option (List Notification)) (given : C → Readings) (bytes : List ℕ) (old new : Option (List ℕ)) (asked asked_after : Option (List Asked)) (fate : ℕ → Fate) (clocks : List C) (full : Option ℕ)
     (callbacks callbacks_after : List B) : Type 0 where
   pub script : Script
   pub spelled : IsScriptText mode.Threads bytes script
@@ -96,7 +98,7 @@ pub record WritesRun {B C : Type 0} (counted : B → ℕ) (told : B → Option (
   pub heard : HearHistory counted told script.config history callbacks callbacks_after
 
 -- What was written is a front of the text of such a journal, and the callbacks heard all of its history.
-pub record WritesFront {B C : Type 0} (counted : B → ℕ) (told : B → Option (List Notification)) (given : C → Option (List ℕ)) (bytes : List ℕ) (old new : Option (List ℕ)) (asked asked_after : Option (List Asked)) (fate : ℕ → Fate) (callbacks callbacks_after : List B) : Type 0 where
+pub record WritesFront {B C : Type 0} (counted : B → ℕ) (told : B → Option (List Notification)) (given : C → Readings) (bytes : List ℕ) (old new : Option (List ℕ)) (asked asked_after : Option (List Asked)) (fate : ℕ → Fate) (callbacks callbacks_after : List B) : Type 0 where
   pub script : Script
   pub spelled : IsScriptText mode.Threads bytes script
   pub history : List Entry
@@ -114,7 +116,7 @@ pub record LacksCallbacks (bytes : List ℕ) (callbacks : ℕ) : Type 0 where
   pub few : callbacks < registers_of script
 
 -- For each status: what the bytes are, what was written, by what the sink had before and has then, and what the callbacks heard.
-abbrev pub RunEnds : {B C : Type 0} → (B → ℕ) → (B → Option (List Notification)) → (C → Option (List ℕ)) → List ℕ → Option (List ℕ) → Option (List ℕ) → Option (List Asked) → Option (List Asked) → (ℕ → Fate) → List C → List B → List B → Status → Type 0
+abbrev pub RunEnds : {B C : Type 0} → (B → ℕ) → (B → Option (List Notification)) → (C → Readings) → List ℕ → Option (List ℕ) → Option (List ℕ) → Option (List Asked) → Option (List Asked) → (ℕ → Fate) → List C → List B → List B → Status → Type 0
 RunEnds counted told given bytes old new asked asked_after fate clocks callbacks callbacks_after Done = OneLegalJournal counted told given bytes old new asked asked_after fate clocks callbacks callbacks_after
 RunEnds counted told given bytes old new asked asked_after fate clocks callbacks callbacks_after (Text line) = IsFirstBad (SpellsScript mode.Threads) 16_777_216 bytes line
 RunEnds counted told given bytes old new asked asked_after fate clocks callbacks callbacks_after Words = LacksCallbacks bytes (length callbacks)
@@ -152,3 +154,19 @@ LeavesClocks WriteFault = ⊥
 LeavesClocks Memory = ⊥
 LeavesClocks (JournalFull size) = Unit {0}
 LeavesClocks (NotLegal entry given machine) = ⊥
+
+-- the clock at each place is one that was handed out to the caller of this number
+abbrev pub AreCallersClocks : {C : Type 0} → (C → Readings) → List C → Type 0
+AreCallersClocks {C} given clocks = (caller : ℕ) (clock : C) → slice_get clocks caller ≡ Some clock → (given clock).caller ≡ Some caller
+
+-- How many clocks come back, whatever the script is: where all was played, those of setup, launcher, reaper and hub, and of the clients;
+-- where the journal was full, these too, or that of setup alone, in which it was; else none.
+abbrev pub HadCallers : Status → ℕ → Type 0
+HadCallers Done n = 4 ≤ n
+HadCallers (Text line) n = n ≡ 0
+HadCallers Words n = n ≡ 0
+HadCallers ReadFault n = n ≡ 0
+HadCallers WriteFault n = n ≡ 0
+HadCallers Memory n = n ≡ 0
+HadCallers (JournalFull size) n = (n ≡ 1) ⊎ (4 ≤ n)
+HadCallers (NotLegal entry given machine) n = n ≡ 0

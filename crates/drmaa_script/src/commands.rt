@@ -12,6 +12,7 @@ ghost use Rattle.command_words.specs.Commands.{IsRanged, begins_dash};
 ghost use Rattle.command_words.specs.declared.commands.SoakWords.{SoakWords};
 ghost use Rattle.journal_commands.specs.Outcomes.{CameTo, JournalEnds, JournalIsWhole};
 ghost use Rattle.drmaa_script.specs.Commands.{Asks, CanRun, NamesNone};
+ghost use Rattle.drmaa_script.specs.Runs.{AreCallersClocks, HadCallers};
 ghost use Rattle.drmaa_script.specs.Soaking.{SoakEnds};
 ghost use Rattle.drmaa_script.specs.Endings.{Ends, IsWhole, MayEnd, PlaysAlone, IsDeaf, Reads, limit_of, WritesJournal, HandsClocks, Starts};
 ghost use Rattle.script_commands.specs.Outcomes.{IsScriptText, IsWritten};
@@ -126,6 +127,8 @@ fn run_command<
         → IfSome (R.left source.old) (λ bytes. IsWhole command (length callbacks) bytes result.status) }
     ensures writable { WritesJournal command result.status → IfSome (R.left source.old) (λ bytes. (script : Script) → IsScriptText mode.Serial bytes script → IsWritten script) }
     ensures clocks { (HandsClocks command result.status → ⊥) → result.clocks ≡ [] }
+    ensures whose { HandsClocks command result.status → AreCallersClocks K.One.given result.clocks }
+    ensures callers { HandsClocks command result.status → HadCallers result.status (length result.clocks) }
     ensures unasked { (Starts command → ⊥) → spawner.new ≡ spawner.old }
     ensures unstarted { IsUnstarted result.status → spawner.new ≡ spawner.old }
     ensures fates { S.fate spawner.new ≡ S.fate spawner.old }
@@ -254,9 +257,12 @@ pub fn run<
     ensures writable { (command : Command) → Asks words.now command → WritesJournal command result.status
         → IfSome (R.left source.old) (λ bytes. (script : Script) → IsScriptText mode.Serial bytes script → IsWritten script) }
 
-    // Clocks come back from a run of threads that was played, and only such a run asks the spawner: not one whose words, reading or
-    // text stopped it. Its fates stay.
+    // Clocks come back from a run of threads that was played, whatever the source tells: at each place the one that was handed out to
+    // the caller of this number, and so many. Only such a run asks the spawner: not one whose words, reading or text stopped it. Its
+    // fates stay.
     ensures clocks { ((command : Command) → Asks words.now command → HandsClocks command result.status → ⊥) → result.clocks ≡ [] }
+    ensures whose { AreCallersClocks K.One.given result.clocks }
+    ensures callers { (command : Command) → Asks words.now command → HandsClocks command result.status → HadCallers result.status (length result.clocks) }
     ensures unasked { ((command : Command) → Asks words.now command → Starts command → ⊥) → spawner.new ≡ spawner.old }
     ensures unstarted { IsUnstarted result.status → spawner.new ≡ spawner.old }
     ensures fates { S.fate spawner.new ≡ S.fate spawner.old }

@@ -9,7 +9,7 @@ ghost use Rattle.thread_play.specs.Hubs.{HearRun};
 ghost use Rattle.journal_commands.specs.Texts.{IsReadOut};
 ghost use Rattle.script_commands.specs.Outcomes.{IsSpelled, IsOfScript};
 ghost use Rattle.script_commands.specs.Registers.{registers_of, AreKept};
-ghost use Rattle.drmaa_script.specs.Runs.{RunEnds, RunIsWhole, LeavesClocks, IsRunEnd};
+ghost use Rattle.drmaa_script.specs.Runs.{RunEnds, RunIsWhole, LeavesClocks, AreCallersClocks, HadCallers, IsRunEnd};
 ghost use Rattle.drmaa_script.specs.Running.{IsTextOfRun, RanEnds};
 ghost use Rattle.journal_commands.specs.Statuses.{IsQuiet, HasRead, HasWritten, IsUnstarted};
 
@@ -229,6 +229,8 @@ pub fn run_threads<
     ensures whole { (Rose (R.faults source.old) (R.faults source.new) → ⊥) → (Rose (W.faults sink.old) (W.faults sink.new) → ⊥)
         → IfSome (R.left source.old) (λ bytes. RunIsWhole (length callbacks) bytes result.status) }
     ensures clocks { (LeavesClocks result.status → ⊥) → result.clocks ≡ [] }
+    ensures whose { AreCallersClocks K.One.given result.clocks }
+    ensures callers { HadCallers result.status (length result.clocks) }
     ensures unstarted { IsUnstarted result.status → spawner.new ≡ spawner.old }
     ensures fates { S.fate spawner.new ≡ S.fate spawner.old }
     ensures kept { AreKept B.counted B.told callbacks result.callbacks }

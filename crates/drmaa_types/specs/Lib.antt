@@ -1,6 +1,7 @@
 pub mod Capabilities
 pub mod Counts
 pub mod Filters
+pub mod Infos
 pub mod Moments
 pub mod Notifications
 pub mod Readings

@@ -2,11 +2,31 @@
 use Rattle.std.specs.Prelude.{◌≡◌, ℕ, zero, suc, ◌+◌, ◌-◌, ◌*◌, ◌^◌, min, nat_lt, length, slice_index, List, [], ◌∷◌, ◌++◌, Option, Some, None, if◌then◌else◌}
 use Rattle.drmaa_types.specs.Moments.{greatest}
 
+-- what is known of a clock: the caller whose clock it is, where it was handed out to one, and the readings that it gave, in
+-- order, where it tells them
+pub record Readings : Type 0 where
+  pub caller : Option ℕ
+  pub told : Option (List ℕ)
+
 -- Where a clock tells its readings after one more, it told them before, and they end with that one.
-abbrev pub Reads : Option (List ℕ) → ℕ → Option (List ℕ) → Type 0
-Reads before reading None = Unit {0}
-Reads (Some before) reading (Some after) = after ≡ before ++ reading ∷ []
-Reads None reading (Some after) = ⊥
+abbrev pub GoesOn : Option (List ℕ) → ℕ → Option (List ℕ) → Type 0
+GoesOn before reading None = Unit {0}
+GoesOn (Some before) reading (Some after) = after ≡ before ++ reading ∷ []
+GoesOn None reading (Some after) = ⊥
+
+-- one reading more, of the clock of the same caller
+pub record Reads (before : Readings) (reading : ℕ) (after : Readings) : Type 0 where
+  pub caller : after.caller ≡ before.caller
+  pub told : GoesOn before.told reading after.told
+
+-- the readings of a clock that no caller was given
+abbrev pub nobodys : Option (List ℕ) → Readings
+nobodys told = record { caller = None; told = told }
+
+-- what the clock of one caller is seen as: the number of the caller, and the clock that it reads
+pub record Owned (C : Type 0) : Type 0 where
+  pub caller : ℕ
+  pub clock : C
 
 -- the first readings of a clock whose readings, counted from 0, are these
 abbrev pub first_readings : (ℕ → ℕ) → ℕ → List ℕ

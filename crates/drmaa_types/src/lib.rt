@@ -15,7 +15,9 @@ mod queues;
 mod readings;
 mod refusals;
 mod said;
+mod same;
 mod sessions;
+mod shared;
 mod states;
 mod texts;
 
@@ -29,8 +31,10 @@ pub use infos::{InfoList, JobInfo, MachineInfo, ReservationInfo, ReservationList
 pub use lists::{AttributeList, Bytes, IdList, ListOf, MomentList, PlaceList, TextList};
 pub use moments::{End, Moment, Timeout};
 pub use queues::{MOST_QUEUES, QueueList, QueueSpec, are_queues, place_of, queue_at};
-pub use readings::{Clock, Clocks, ListClock, StepClock};
+pub use readings::{CallersClock, Clock, Clocks, ListClock, StepClock};
 pub use refusals::{Attribute, Limit, Refusal, Which};
+pub use same::Same;
 pub use sessions::SessionKind;
+pub use shared::Shared;
 pub use states::{Control, Event, Exit, JobState, Note, SignalKind, WaitKind};
 pub use texts::Text;

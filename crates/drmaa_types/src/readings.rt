@@ -1,15 +1,15 @@
 //! Clocks, seen by contracts as the readings that they gave.
-ghost use Rattle.std.specs.Prelude.{◌≡◌, ℕ, ◌≤◌, ◌<◌, List, [], length, Option, IfSome};
+ghost use Rattle.std.specs.Prelude.{◌≡◌, ℕ, ◌≤◌, ◌<◌, [], length, Some, IfSome};
 ghost use Rattle.std.specs.List.Sorted.{IsNonDecreasing};
-ghost use Rattle.drmaa_types.specs.Readings.{Reads, told_readings, counted_on, step_reading, list_reading};
+ghost use Rattle.drmaa_types.specs.Readings.{Readings, Reads, nobodys, told_readings, counted_on, step_reading, list_reading};
 
 use crate::{CallerId, Moment, MomentList};
 use std::marker::Model;
 
 /// A source of moments. No reading is below an earlier one.
 pub trait Clock {
-    /// The readings that the clock gave, in order, where it tells them.
-    ghost given: { Self → Option (List ℕ) };
+    /// Whose clock it is, where it was handed out to a caller, and the readings that it gave, in order, where it tells them.
+    ghost given: { Self → Readings };
 
     /// No reading from now on is below this moment.
     ghost least: { Self → ℕ };
@@ -28,7 +28,42 @@ pub trait Clocks {
 
     /// A clock for this caller, that has given no reading yet.
     fn clock(&self, caller: CallerId) -> Self::One
-        ensures { IfSome (Self.One.given result) (λ readings. readings ≡ []) };
+        ensures caller { (Self.One.given result).caller ≡ Some caller.0 }
+        ensures unread { IfSome (Self.One.given result).told (λ readings. readings ≡ []) };
+}
+
+/// The clock of one caller: another clock, with whose it is.
+#[derive(Drop)]
+pub struct CallersClock<C> {
+    caller: CallerId,
+    clock: C,
+}
+
+impl<C> Model for CallersClock<C> {
+    ghost use Rattle.drmaa_types.specs.Readings.{Owned};
+
+    ghost Value = { Owned C };
+
+    ghost view = { λ c. record { caller = c.caller.0; clock = c.clock } };
+}
+
+impl<C: Clock> CallersClock<C> {
+    /// This clock, as the one of this caller.
+    pub fn new(caller: CallerId, clock: C) -> CallersClock<C>
+        ensures { result ≡ record { caller = caller.0; clock = clock } }
+    {
+        CallersClock { caller, clock }
+    }
+}
+
+impl<C: Clock> Clock for CallersClock<C> {
+    ghost given = { λ c. record { caller = Some c.caller; told = (C.given c.clock).told } };
+
+    ghost least = { λ c. C.least c.clock };
+
+    fn now(&mut self) -> Moment {
+        self.clock.now()
+    }
 }
 
 /// A clock that gives `first`, `first` plus `step` and so on, held at the greatest moment.
@@ -66,14 +101,14 @@ impl StepClock {
 }
 
 impl Clock for StepClock {
-    ghost given = { λ c. told_readings (step_reading c.first c.step) c.count };
+    ghost given = { λ c. nobodys (told_readings (step_reading c.first c.step) c.count) };
 
     ghost least = { λ c. step_reading c.first c.step c.count };
 
     /// The next reading. Past 2^64 - 1 readings the last one comes again, and they are told no more.
     fn now(&mut self) -> Moment
-        ensures given { Reads (told_readings (step_reading self.old.first self.old.step) self.old.count) result
-            (told_readings (step_reading self.new.first self.new.step) self.new.count) }
+        ensures given { Reads (nobodys (told_readings (step_reading self.old.first self.old.step) self.old.count)) result
+            (nobodys (told_readings (step_reading self.new.first self.new.step) self.new.count)) }
         ensures least { step_reading self.old.first self.old.step self.old.count ≤ result }
         ensures rising { result ≤ step_reading self.new.first self.new.step self.new.count }
         ensures reading { result ≡ step_reading self.old.first self.old.step self.old.count }
@@ -119,14 +154,14 @@ impl ListClock {
 }
 
 impl Clock for ListClock {
-    ghost given = { λ c. told_readings (list_reading c.readings) c.count };
+    ghost given = { λ c. nobodys (told_readings (list_reading c.readings) c.count) };
 
     ghost least = { λ c. list_reading c.readings c.count };
 
     /// The next reading. Past 2^64 - 1 readings the last one comes again, and they are told no more.
     fn now(&mut self) -> Moment
-        ensures given { Reads (told_readings (list_reading self.old.readings) self.old.count) result
-            (told_readings (list_reading self.new.readings) self.new.count) }
+        ensures given { Reads (nobodys (told_readings (list_reading self.old.readings) self.old.count)) result
+            (nobodys (told_readings (list_reading self.new.readings) self.new.count)) }
         ensures least { list_reading self.old.readings self.old.count ≤ result }
         ensures rising { result ≤ list_reading self.new.readings self.new.count }
         ensures reading { result ≡ list_reading self.old.readings self.old.count }

@@ -1,5 +1,6 @@
 //! The error conditions of the standard, as this profile has them.
 use crate::{JobState, Moment};
+use std::alloc::AllocError;
 
 /// Which argument or attribute a call could not accept.
 #[derive(Clone, Copy, Debug, PartialEq, Eq)]
@@ -87,4 +88,15 @@ pub enum Refusal {
     OutOfMemory,
     UnsupportedAttribute(Attribute),
     UnsupportedOperation,
+}
+
+impl From<AllocError> for Refusal {
+    ghost use Rattle.std.specs.Prelude.{◌≡◌};
+    ghost use Rattle.drmaa_types.specs.declared.refusals.Refusal.TheVariants.{OutOfMemory};
+
+    ghost from_gives = { λ _ why. why ≡ OutOfMemory };
+
+    fn from(_: AllocError) -> Refusal {
+        Refusal::OutOfMemory
+    }
 }

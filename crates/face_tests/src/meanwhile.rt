@@ -56,8 +56,9 @@ struct HeldClock<'a> {
 
 impl Clock for HeldClock<'_> {
     ghost use Rattle.std.specs.Prelude.{None};
+    ghost use Rattle.drmaa_types.specs.Readings.{nobodys};
 
-    ghost given = { λ _. None };
+    ghost given = { λ _. nobodys None };
 
     ghost least = { λ _. 0 };
 

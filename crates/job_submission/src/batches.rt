@@ -12,7 +12,7 @@ ghost use Rattle.job_submission.specs.Batches.{place, placed, batch_of, batch_ro
 
 use crate::bulks::{index_at, index_count};
 use drmaa_model::{Indices, Row, Wants};
-use drmaa_types::{ArrayId, Boxed, JobId, Moment, QueueList};
+use drmaa_types::{ArrayId, JobId, Moment, QueueList, Shared};
 use job_template::{JobTemplate, expand, queue_of, without_template};
 use plan_book::Book;
 use plan_book::courses::submitted;
@@ -66,7 +66,7 @@ fn row_of(
 {
     let wants = wants_of(queues, &template, array, index, bound);
     let course = submitted(template.submit_as_hold);
-    match Boxed::new(alloc, template) {
+    match Shared::new(alloc, template) {
         Ok(template) => Ok(Row {
             job: JobId(number),
             home: Some(b.home),

@@ -3,6 +3,7 @@ pub mod Expand
 pub mod Frames
 pub mod JobTests
 pub mod Launch
+pub mod Same
 pub mod Texts
 pub mod Unsupported
 pub mod Wants

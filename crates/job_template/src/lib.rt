@@ -12,6 +12,7 @@ mod jobs;
 mod launch;
 mod queues;
 mod reservation_builders;
+mod same;
 mod templates;
 mod texts;
 mod variables;

@@ -2,13 +2,8 @@
 #![tactic(auto)]
 
 mod checks;
-mod infos;
 mod laws;
-mod refusals;
-mod replies;
-mod same;
 mod steps;
-mod values;
 
 pub use checks::{Replayed, Verdict, check, replay_history};
 pub use laws::{a_fault_is_not_legal, one_first_fault};

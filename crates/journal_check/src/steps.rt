@@ -3,9 +3,9 @@ ghost use Rattle.std.specs.Prelude.{◌≡◌, None};
 ghost use Rattle.drmaa_model.specs.KeptCalls.{kept};
 ghost use Rattle.journal_check.specs.Findings.{Finds, Compares};
 
-use crate::same::Same;
 use drmaa_machine::Machine;
 use drmaa_model::{Entry, NoEntry, Reply};
+use drmaa_types::Same;
 
 /// What a machine makes of an entry.
 #[derive(Drop)]

@@ -4,7 +4,7 @@ ghost use Rattle.text_codec.specs.declared.unread.Unread.{Unread};
 ghost use Rattle.text_codec.specs.Formats.{Answers, list_of, pair};
 ghost use Rattle.text_codec.specs.Sums.{arm, keyed};
 
-use drmaa_types::{Boxed, ListOf};
+use drmaa_types::{Boxed, ListOf, Shared};
 use std::alloc::AllocError;
 use text_codec::{Cursor, Unread};
 use text_words::{PrintForm, ReadForm, push_behind, read_list};
@@ -32,6 +32,14 @@ pub(crate) fn own<T: Drop>(cursor: &Cursor, value: T) -> Result<Boxed<T>, Unread
     ensures err { IfErr result (λ why. why ≡ Unread.OutOfMemory) }
 {
     Ok(Boxed::new(cursor.alloc(), value)?)
+}
+
+/// This value, which was read, in memory that others may share.
+pub(crate) fn shared<T: Drop>(cursor: &Cursor, value: T) -> Result<Shared<T>, Unread>
+    ensures ok { IfOk result (λ s. s ≡ value) }
+    ensures err { IfErr result (λ why. why ≡ Unread.OutOfMemory) }
+{
+    Ok(Shared::new(cursor.alloc(), value)?)
 }
 
 /// Reads a list.

@@ -11,7 +11,7 @@ ghost use Rattle.journal_forms.specs.WordGroups as groups;
 ghost use Rattle.journal_forms.specs.Calls.{call_form};
 ghost use Rattle.text_words.specs.declared.call_words.CallWord.TheVariants as word;
 
-use crate::fields::{one, own, push_one, push_two, two};
+use crate::fields::{one, own, push_one, push_two, shared, two};
 use crate::word_groups::SoughtWord;
 use drmaa_model::{Call, Indices};
 use drmaa_types::{JobFilter, ListOf, Moment, SessionId, Timeout, WaitKind};
@@ -85,7 +85,7 @@ pub(crate) fn run_at(cursor: &mut Cursor) -> Result<Call, Unread>
     let session = one(cursor)?;
     cursor.expect(b" ")?;
     let template = read_template(cursor)?;
-    let template = own(cursor, template)?;
+    let template = shared(cursor, template)?;
     Ok(Call::RunJob { session, template })
 }
 
@@ -96,7 +96,7 @@ pub(crate) fn bulk_at(cursor: &mut Cursor) -> Result<Call, Unread>
     let session = one(cursor)?;
     cursor.expect(b" ")?;
     let (template, indices) = members_at(cursor)?;
-    let template = own(cursor, template)?;
+    let template = shared(cursor, template)?;
     Ok(Call::RunBulk {
         session,
         template,

@@ -4,7 +4,7 @@ ghost use Rattle.text_codec.specs.Formats.{Answers};
 ghost use Rattle.journal_forms.specs.Replies as replies;
 ghost use Rattle.journal_forms.specs.declared.reply_words.ReplyWord.TheVariants as told;
 
-use crate::fields::{boxed, listed, one, own, three};
+use crate::fields::{boxed, listed, one, shared, three};
 use crate::{ReplyWord, reply_word_of};
 use drmaa_model::{Launch, Reply, Signal};
 use drmaa_types::{MachineInfo, Reserved};
@@ -54,7 +54,7 @@ fn launch_at(cursor: &mut Cursor) -> Result<Reply, Unread>
     let (job, (attempt, slots)) = three(cursor)?;
     cursor.expect(b" ")?;
     let words = read_list(cursor)?;
-    let words = own(cursor, words)?;
+    let words = shared(cursor, words)?;
     Ok(Reply::Launch(Launch {
         job,
         attempt,

@@ -6,6 +6,7 @@ mod journals;
 mod laws;
 mod queues;
 mod reading;
+mod sharing;
 mod titles;
 
 pub use journal_forms::{

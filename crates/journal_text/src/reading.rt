@@ -12,6 +12,7 @@ ghost use Rattle.journal_text.specs.declared.journals.Journal.{Journal};
 
 use crate::Journal;
 use crate::entries::{count_of, entry_of};
+use crate::sharing::share;
 use crate::titles::header_of;
 use drmaa_model::{Config, EntryList};
 use drmaa_types::ListOf;
@@ -58,7 +59,7 @@ fn longer_where<T: Drop>(may_stand: bool, list: ListOf<T>, value: T) -> Result<L
     Ok(ListOf::from_vec(list))
 }
 
-/// What is read with the line of one entry more, which has the next number.
+/// What is read with the line of one entry more, which has the next number. It shares what is the same in an entry before it.
 fn longer(
     alloc: Global,
     config: Config,
@@ -68,7 +69,8 @@ fn longer(
     ensures { Says (lines.longer_by config entries line.now) result }
 {
     let count = entries.as_slice().len() as u64;
-    let (number, entry) = entry_of(alloc, line)?;
+    let (number, mut entry) = entry_of(alloc, line)?;
+    share(&mut entry, entries.as_slice());
     let entries = longer_where(number == count + 1, entries, entry)?;
     Ok(JournalReader::Going { config, entries })
 }

@@ -4,23 +4,23 @@ ghost use Rattle.std.specs.List.{list_all};
 ghost use Rattle.drmaa_model.specs.KeptCalls.{is_capital, is_word, kept_limit, kept_template};
 ghost use Rattle.machine_submissions.specs.Names.{has_words};
 
-use drmaa_types::{Boxed, ListOf, Text};
+use drmaa_types::{ListOf, Shared, Text};
 use job_template::{JobTemplate, LimitList, ResourceLimit};
 use std::alloc::{AllocError, Global};
 
 /// The template that an entry keeps. It takes memory only where a name becomes `OTHER`.
 pub fn kept_template(
     alloc: Global,
-    template: Boxed<JobTemplate>,
-) -> Result<Boxed<JobTemplate>, AllocError>
+    template: Shared<JobTemplate>,
+) -> Result<Shared<JobTemplate>, AllocError>
     ensures ok { IfOk result (λ t. t ≡ kept_template template) }
     ensures err { OnErr result (has_words template.resource_limits ≡ false) }
 {
     if has_words(template.get().resource_limits.as_slice()) {
         return Ok(template);
     }
-    let template = with_kept_limits(alloc, template.into_inner())?;
-    Boxed::new(alloc, template)
+    let template = with_kept_limits(alloc, template.get().clone()?)?;
+    Shared::new(alloc, template)
 }
 
 /// Whether a journal can print the names of these limits.

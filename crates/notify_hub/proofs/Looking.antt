@@ -8,9 +8,7 @@ use Rattle.drmaa_types.specs.declared.changes.Change.{Change}
 use Rattle.drmaa_model.specs.declared.configs.Config.{Config}
 use Rattle.drmaa_model.specs.declared.entries.Entry.{Entry}
 use Rattle.drmaa_model.specs.declared.looks.Answer.{Answer}
-use Rattle.drmaa_model.specs.declared.looks.Answer.TheVariants as told
 use Rattle.drmaa_model.specs.declared.looks.Question.{Question}
-use Rattle.drmaa_model.specs.declared.looks.Question.TheVariants as question
 use Rattle.drmaa_model.specs.History.{IsLegal}
 use Rattle.turn_lock.specs.Histories.{BeginsWith}
 use Rattle.turn_lock.specs.Tokens.{Named, IsFree}
@@ -19,7 +17,7 @@ use Rattle.call_history.specs.Calls.{IsLookedAt}
 use Rattle.call_history.specs.ClientLaws.{more-both}
 use Rattle.call_history.specs.Clients.{Seat, seen_of, mine_of, number_of, KnowsItsOwn, SeesMore}
 use Rattle.call_history.specs.Clocks.{Dial}
-use Rattle.call_history.specs.Timed.{IsTimed}
+use Rattle.call_history.specs.Timed.{StaysTimed}
 use Rattle.call_history.specs.TimedLaws.{timed-look}
 use Rattle.notify_hub.specs.Hubs.{LooksOn}
 use Rattle.notify_hub.specs.Places.{changes_of, is_up_to, AreCountable}
@@ -31,7 +29,7 @@ pub record SoFar (shared : Named Config) (before : Dial) (old : Seat) (now : Dia
   pub number : number_of new ≡ number_of old
   pub more : SeesMore old new
   pub rises : before.least ≤ now.least
-  pub timed : IsTimed (mine_of old) before.given → IsTimed (mine_of new) now.given
+  pub timed : StaysTimed (mine_of old) before.given (mine_of new) now.given
 
 pub so-far-first : (shared : Named Config) (now : Dial) (seat : Seat) → IsFree shared seat → SoFar shared now seat now seat
 so-far-first shared now seat free = record {
@@ -39,7 +37,7 @@ so-far-first shared now seat free = record {
   number = refl;
   more = record { between = []; seen = sym (append-nil (seen_of seat)); others = refl; mine = refl };
   rises = omega arith;
-  timed = λ t. t;
+  timed = λ caller t. t;
 }
 
 pub so-far-of : (shared : Named Config) (before now : Dial) (old new : Seat) → LooksOn shared before old now new → SoFar shared before old now new
@@ -53,7 +51,7 @@ looks-then shared before now after old mid new s l = record {
   own = l.own;
   legal = l.legal;
   rises = (let first = s.rises in let then = l.rises in omega (arith, first, then));
-  timed = λ t. l.timed (s.timed t);
+  timed = λ caller t. l.timed caller (s.timed caller t);
 }
 
 -- one look
@@ -68,13 +66,6 @@ looks-once shared before after old new asked answer free number own legal is = r
   rises = (let least = is.read.least in let rising = is.read.rising in omega (arith, least, rising));
   timed = timed-look shared.fixed before after old new asked answer is;
 }
-
--- a batch that is told is that of the changes that were seen
-pub batch-told : (config : Config) (before after : Dial) (old new : Seat) (from : ℕ) (batch : List Change) → IsLookedAt config before old (question.Changes from) (told.Changes batch) after new
-    → batch ≡ take 64 (drop from (changes_of config (seen_of new)))
-batch-told config before after old new from batch is = same-batch batch (take 64 (drop from (changes_of config (seen_of new)))) is.told where
-  same-batch : (a b : List Change) → told.Changes a ≡ told.Changes b → a ≡ b
-  same-batch a b e = cc
 
 pub begins-of : (old new : Seat) → SeesMore old new → BeginsWith (seen_of new) (seen_of old)
 begins-of old new m = record { rest = m.between; whole = m.seen }

@@ -22,7 +22,7 @@ use Rattle.call_history.specs.ClientLaws.{begins-made, begins-more}
 use Rattle.call_history.specs.Clients.{Seat, seen_of, mine_of, number_of}
 use Rattle.call_history.specs.Clocks.{Dial}
 use Rattle.call_history.specs.Refused.{refusal_of}
-use Rattle.call_history.specs.Timed.{IsTimed}
+use Rattle.call_history.specs.Timed.{StaysTimed}
 use Rattle.call_history.specs.TimedLaws.{timed-served, timed-unserved}
 use Rattle.notify_hub.specs.Hubs.{IsUnregistered}
 use Rattle.notify_hub.specs.Hubs.IsUnregistered.{by_entry, by_fault}
@@ -160,6 +160,6 @@ begins-made-so config before after old new (Err f) good bad = begins-more old ne
 
 pub timed-made-so : (config : Config) (before after : Dial) (old new : Seat) (made : Result (ℕ × Reply) NoEntry)
     → IfOk made (λ m. IsServed before old call.Register m.1 after new) → IfErr made (λ f. IsUnserved config before old call.Register f after new)
-    → IsTimed (mine_of old) before.given → IsTimed (mine_of new) after.given
+    → StaysTimed (mine_of old) before.given (mine_of new) after.given
 timed-made-so config before after old new (Ok m) good bad = timed-served before after old new call.Register m.1 refl good
 timed-made-so config before after old new (Err f) good bad = timed-unserved config before after old new call.Register f bad

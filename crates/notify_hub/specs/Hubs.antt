@@ -17,7 +17,7 @@ use Rattle.call_history.specs.Calls.{IsServed, IsUnserved}
 use Rattle.call_history.specs.Clients.{Seat, seen_of, mine_of, number_of, KnowsItsOwn, SeesMore}
 use Rattle.call_history.specs.Clocks.{Dial}
 use Rattle.call_history.specs.Refused.{refusal_of}
-use Rattle.call_history.specs.Timed.{IsTimed}
+use Rattle.call_history.specs.Timed.{StaysTimed}
 use Rattle.notify_hub.specs.Ears.{Listening, HaveHeard, from_place}
 use Rattle.notify_hub.specs.Places.{registrations_of, Follows, HavePlaces}
 
@@ -81,7 +81,7 @@ pub record LooksOn (shared : Named Config) (before : Dial) (old : Seat) (after :
   pub own : KnowsItsOwn new
   pub legal : IsLegal shared.fixed (seen_of new)
   pub rises : before.least ≤ after.least
-  pub timed : IsTimed (mine_of old) before.given → IsTimed (mine_of new) after.given
+  pub timed : StaysTimed (mine_of old) before.given (mine_of new) after.given
 
 -- The client made one Register entry, whose reply is this number: the number of callbacks then registered, at most 64. After
 -- that it looked, and made no entry.

@@ -1,7 +1,9 @@
 //! How a hub's client looks at a machine: for changes from a place on, and for the place of a callback.
-ghost use Rattle.std.specs.Prelude.{◌≡◌, ℕ, ◌≤◌, length, take, drop, IfOk, IfErr, Ok};
+ghost use Rattle.std.specs.Prelude.{◌≡◌, ℕ, ◌≤◌, List, length, take, drop, IfOk, IfErr, Ok};
 ghost use Rattle.std.specs.List.{prefix_len};
+ghost use Rattle.drmaa_types.specs.declared.changes.Change.{Change};
 ghost use Rattle.drmaa_model.specs.declared.calls.Call.{Call};
+ghost use Rattle.drmaa_model.specs.declared.looks.Answer.{Answer};
 ghost use Rattle.drmaa_model.specs.declared.replies.Reply.{Reply};
 ghost use Rattle.drmaa_model.specs.History.{IsLegal};
 ghost use Rattle.turn_lock.specs.Histories.{BeginsWith};
@@ -9,7 +11,7 @@ ghost use Rattle.turn_lock.specs.Tokens.{IsFree};
 ghost use Rattle.call_history.specs.Calls.{IsServed};
 ghost use Rattle.call_history.specs.Clients.{seen_of, mine_of, number_of, KnowsItsOwn};
 ghost use Rattle.call_history.specs.Clocks.{dial};
-ghost use Rattle.call_history.specs.Timed.{IsTimed};
+ghost use Rattle.call_history.specs.Timed.{StaysTimed};
 ghost use Rattle.notify_hub.specs.Hubs.{noted, IsNoteOf, LooksOn, IsUnregistered};
 ghost use Rattle.notify_hub.specs.Places.{changes_of, is_up_to};
 ghost use Rattle.notify_hub.specs.Registered.{TellsNone, IsNew, IsCounted};
@@ -21,18 +23,21 @@ use std::sync::Wait;
 /// The most changes that one look finds.
 pub(crate) const LOOK: u64 = 64;
 
-/// Lets the client know what was seen at the note, if there is one.
+/// Lets the client know what was seen at the note, if there is one. A client knows its own entries: contracts see that where a note
+/// is taken of it, and so one is taken first, and let go.
 pub(crate) fn recall(shared: &SharedMachine, client: &mut Client, note: Option<Note>)
     requires client { IsFree shared.now client.old }
     requires note { IsNoteOf shared.now note }
     ensures client { IsFree shared.now client.new }
     ensures number { number_of client.new ≡ number_of client.old }
     ensures mine { mine_of client.new ≡ mine_of client.old }
-    ensures own { KnowsItsOwn client.old → KnowsItsOwn client.new }
+    ensures knew { KnowsItsOwn client.old }
+    ensures own { KnowsItsOwn client.new }
     ensures begins { BeginsWith (seen_of client.new) (seen_of client.old) }
     ensures recalled { BeginsWith (seen_of client.new) (noted note) }
     ensures changes { BeginsWith (changes_of shared.now.fixed (seen_of client.new)) (changes_of shared.now.fixed (noted note)) }
 {
+    shared.note(client);
     let Some(note) = note else {
         return;
     };
@@ -51,9 +56,20 @@ pub(crate) fn changes_from<R: Wait, C: Clock>(
     ensures looks { LooksOn shared.now (dial (C.given clock.old) (C.least clock.old)) client.old (dial (C.given clock.new) (C.least clock.new)) client.new }
     ensures batch { result ≡ take 64 (drop from (changes_of shared.now.fixed (seen_of client.new))) }
 {
-    match shared.look(rt, client, clock, Question::Changes { from }) {
+    let answer = shared.look(rt, client, clock, Question::Changes { from });
+    batch_in(answer)
+}
+
+/// The changes that an answer tells, if it tells some.
+fn batch_in(answer: Answer) -> ChangeBatch
+    ensures { (batch : List Change) → answer ≡ Answer.Changes batch → result ≡ batch }
+{
+    match answer {
         Answer::Changes(batch) => batch,
-        _ => ChangeBatch::new(),
+        other => {
+            drop(other);
+            ChangeBatch::new()
+        }
     }
 }
 
@@ -136,7 +152,7 @@ pub(crate) fn register_next<R: Wait, C: Clock>(
         (dial (C.given clock.new) (C.least clock.new)) client.new) }
     ensures own { KnowsItsOwn client.new }
     ensures legal { IsLegal shared.now.fixed (seen_of client.new) }
-    ensures timed { IsTimed (mine_of client.old) (C.given clock.old) → IsTimed (mine_of client.new) (C.given clock.new) }
+    ensures timed { StaysTimed (mine_of client.old) (C.given clock.old) (mine_of client.new) (C.given clock.new) }
 {
     told(shared.call_numbered(rt, client, clock, Call::Register))
 }

@@ -7,7 +7,7 @@ ghost use Rattle.turn_lock.specs.Histories.{BeginsWith};
 ghost use Rattle.turn_lock.specs.Tokens.{IsFree};
 ghost use Rattle.call_history.specs.Clients.{seen_of, mine_of, number_of, KnowsItsOwn, SeesMore};
 ghost use Rattle.call_history.specs.Clocks.{dial};
-ghost use Rattle.call_history.specs.Timed.{IsTimed};
+ghost use Rattle.call_history.specs.Timed.{StaysTimed};
 ghost use Rattle.notify_hub.specs.Ears.{HaveHeard, EachHeard, silent, from_place, place_at};
 ghost use Rattle.notify_hub.specs.Hubs.{Following, noted, IsNoteOf, IsNoteAt, MayBe, FollowsNote, IsKept, with_place, calls_made, LooksOn, IsRegistered, IsUnregistered};
 ghost use Rattle.notify_hub.specs.Places.{changes_of, place_of, AreCountable, HaveHeardAll};
@@ -94,9 +94,9 @@ impl<B: Callback> Hub<B> {
         ensures begins { BeginsWith (seen_of client.new) (seen_of client.old) }
         ensures recalls { BeginsWith (seen_of client.new) (noted self.old.note) }
         ensures note { IsNoteAt shared.now (seen_of client.new) self.new.note }
-        ensures ok { KnowsItsOwn client.old → IfOk result (λ n. IsRegistered shared.now.fixed (dial (C.given clock.old) (C.least clock.old)) client.old n
+        ensures ok { IfOk result (λ n. IsRegistered shared.now.fixed (dial (C.given clock.old) (C.least clock.old)) client.old n
             (dial (C.given clock.new) (C.least clock.new)) client.new) }
-        ensures err { KnowsItsOwn client.old → IfErr result (λ why. IsUnregistered shared.now.fixed (dial (C.given clock.old) (C.least clock.old)) client.old why
+        ensures err { IfErr result (λ why. IsUnregistered shared.now.fixed (dial (C.given clock.old) (C.least clock.old)) client.old why
             (dial (C.given clock.new) (C.least clock.new)) client.new) }
         ensures place { IfOk result (λ n. AreCountable shared.now.fixed (seen_of client.new) → self.new.ears ≡ with_place self.old.ears n (place_of shared.now.fixed (seen_of client.new) n)) }
         ensures unplaced { OnErr result (self.new.ears ≡ self.old.ears) }
@@ -104,7 +104,7 @@ impl<B: Callback> Hub<B> {
         ensures heard { HaveHeard B.counted B.told self.old.ears → HaveHeard B.counted B.told self.new.ears }
         ensures own { KnowsItsOwn client.new }
         ensures legal { IsLegal shared.now.fixed (seen_of client.new) }
-        ensures timed { IsTimed (mine_of client.old) (C.given clock.old) → IsTimed (mine_of client.new) (C.given clock.new) }
+        ensures timed { StaysTimed (mine_of client.old) (C.given clock.old) (mine_of client.new) (C.given clock.new) }
     {
         recall(shared, client, self.note.take());
         match register_next(rt, shared, client, clock) {
@@ -139,7 +139,7 @@ impl<B: Callback> Hub<B> {
         ensures recalls { BeginsWith (seen_of client.new) (noted self.old.note) }
         ensures note { IsNoteAt shared.now (seen_of client.new) self.new.note }
         ensures mine { mine_of client.new ≡ mine_of client.old }
-        ensures more { KnowsItsOwn client.old → SeesMore client.old client.new }
+        ensures more { SeesMore client.old client.new }
         ensures ears { self.new.ears ≡ record self.old.ears { callbacks = self.new.ears.callbacks; handed = self.new.ears.handed } }
         ensures all { AreCountable shared.now.fixed (seen_of client.new) → self.new.ears.handed ≡ changes_of shared.now.fixed (seen_of client.new) }
         ensures kept { FollowsNote self.new.ears self.new.note }
@@ -147,7 +147,7 @@ impl<B: Callback> Hub<B> {
         ensures answer { result ≡ min (calls_made self.new.ears - calls_made self.old.ears) (2 ^ 64 - 1) }
         ensures own { KnowsItsOwn client.new }
         ensures legal { IsLegal shared.now.fixed (seen_of client.new) }
-        ensures timed { IsTimed (mine_of client.old) (C.given clock.old) → IsTimed (mine_of client.new) (C.given clock.new) }
+        ensures timed { StaysTimed (mine_of client.old) (C.given clock.old) (mine_of client.new) (C.given clock.new) }
     {
         recall(shared, client, self.note.take());
         let (handed, calls) = hand_all(rt, shared, client, clock, &mut self.ears, self.handed);

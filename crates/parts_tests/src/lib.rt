@@ -1,5 +1,4 @@
-//! Tests of what the machine is built of, by calls that no program makes: clocks, templates, slots, queue, streams and
-//! children.
+//! Tests of what the machine is built of, by calls that no program makes: clocks, templates, streams and children.
 #![tactic(auto)]
 
 #[cfg(test)]
@@ -8,8 +7,6 @@ mod children;
 mod hosts;
 #[cfg(test)]
 mod messages;
-#[cfg(test)]
-mod queue;
 #[cfg(test)]
 mod streams;
 #[cfg(test)]

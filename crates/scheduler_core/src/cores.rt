@@ -31,12 +31,13 @@ use crate::ready::is_settled;
 use crate::{events, launches, reports, running};
 use drmaa_model::{Accepted, Indices, Launch, Report, Row, Signal, Started, Submitted, Target};
 use drmaa_types::{
-    ArrayId, Change, Control, End, JobId, Moment, QueueList, Refusal, ReservationId, Reserved, Text,
+    ArrayId, Change, Control, End, JobId, Moment, QueueList, Refusal, ReservationId, Reserved,
+    Shared, Text,
 };
 use job_template::{JobTemplate, ReservationTemplate};
 use plan_book::Book;
 use reservation_requests::{lasting_from, lasting_of, overfull_from};
-use std::alloc::Global;
+use std::alloc::{AllocError, Global};
 use std::marker::Model;
 
 /// Jobs, reservations, orders, changes and time. Contracts see its plan, and `spare`: how many changes more it has
@@ -431,6 +432,19 @@ impl Core {
         ensures { result ≡ option_map row_facts (row_of job self.now.plan.rows) }
     {
         facts::present_facts(&self.book, job)
+    }
+
+    /// The template of a job, its placeholders replaced, shared with the book. None exactly where the job is not kept.
+    ///
+    /// # Errors
+    /// `AllocError` where memory is wanted.
+    pub fn template(&self, job: JobId) -> Result<Option<Shared<JobTemplate>>, AllocError>
+        ensures { IfOk result (λ template. template ≡ option_map (λ (row : Row). row.template) (row_of job self.now.plan.rows)) }
+    {
+        match self.book.row(job) {
+            Some(row) => Ok(Some(row.template.clone()?)),
+            None => Ok(None),
+        }
     }
 
     /// Whether a member of an array is kept that belongs to this home. Time makes no difference to it.

@@ -17,7 +17,7 @@ ghost use Rattle.scheduler_core.specs.Launches.{IsLaunchOf, IsNext, IsNextIn, Ma
 use crate::ready::{first_ready_at, slots_at};
 use crate::times::course_then;
 use drmaa_model::{Launch, Row};
-use drmaa_types::{Boxed, End, Moment, Refusal, TextList};
+use drmaa_types::{End, Moment, Refusal, Shared, TextList};
 use job_template::launch_words;
 use plan_book::courses::{launched, planned_end};
 use plan_book::{Book, Booked, Edit, Move};
@@ -130,11 +130,11 @@ fn booking_of(row: &Row, moment: Moment, slots: u32, planned: End) -> Booked
     }
 }
 
-fn words_of(alloc: Global, row: &Row) -> Result<Boxed<TextList>, AllocError>
+fn words_of(alloc: Global, row: &Row) -> Result<Shared<TextList>, AllocError>
     ensures { IfOk result (λ words. words ≡ launch_words row.now.template) }
 {
     match launch_words(alloc, row.template.get()) {
-        Ok(words) => Boxed::new(alloc, words),
+        Ok(words) => Shared::new(alloc, words),
         Err(_) => Err(AllocError),
     }
 }

@@ -102,7 +102,10 @@ fn is_held(script: &Script, template: &Name) -> bool
     ensures { result ≡ amiss.holds (lookup (bytes_eq template.now) script.now.jobs) }
 {
     match script.jobs.find(template) {
-        Some(template) => template.submit_as_hold && template.deadline_time.is_none(),
+        Some(template) => {
+            let template = template.get();
+            template.submit_as_hold && template.deadline_time.is_none()
+        }
         None => false,
     }
 }

@@ -179,10 +179,10 @@ fn ask_run(
     let Some(session) = number_of(names, session) else {
         return Ok(None);
     };
-    match template_of(script, names, template, reserved)? {
+    match template_of(alloc, script, names, template, reserved)? {
         Some(template) => Ok(Some(Call::RunJob {
             session: SessionId(session),
-            template: Boxed::new(alloc, template)?,
+            template,
         })),
         None => Ok(None),
     }
@@ -202,10 +202,10 @@ fn ask_bulk(
     let Some(session) = number_of(names, session) else {
         return Ok(None);
     };
-    match template_of(script, names, template, reserved)? {
+    match template_of(alloc, script, names, template, reserved)? {
         Some(template) => Ok(Some(Call::RunBulk {
             session: SessionId(session),
-            template: Boxed::new(alloc, template)?,
+            template,
             indices,
         })),
         None => Ok(None),

@@ -1,6 +1,6 @@
 //! A start that is held until a client has read its clock, and a callback has heard that the job is running.
 ghost use Rattle.std.specs.Prelude.{None};
-ghost use Rattle.drmaa_types.specs.Readings.{step_reading};
+ghost use Rattle.drmaa_types.specs.Readings.{nobodys, step_reading};
 ghost use Rattle.child_spawner.specs.Spawners.{plain_fate};
 
 use crate::flags::Flags;
@@ -10,8 +10,8 @@ use call_history::Bell;
 use child_spawner::{Child, Spawner};
 use drmaa_script::{Outcome, run};
 use drmaa_types::{
-    CallerId, Clock, Clocks, Exit, Failed, JobId, JobState, Moment, Notification, SignalKind,
-    StepClock, TextList,
+    CallerId, CallersClock, Clock, Clocks, Exit, Failed, JobId, JobState, Moment, Notification,
+    SignalKind, StepClock, TextList,
 };
 use notify_hub::{Callback, Callbacks};
 use std::alloc::Global;
@@ -89,7 +89,7 @@ struct RaisingClock<'a> {
 }
 
 impl Clock for RaisingClock<'_> {
-    ghost given = { λ _. None };
+    ghost given = { λ _. nobodys None };
 
     ghost least = { λ c. step_reading c.clock.first c.clock.step c.clock.count };
 
@@ -109,16 +109,16 @@ struct RaisingClocks<'a> {
 }
 
 impl<'a> Clocks for RaisingClocks<'a> {
-    type One = RaisingClock<'a>;
+    type One = CallersClock<RaisingClock<'a>>;
 
-    fn clock(&self, caller: CallerId) -> RaisingClock<'a> {
+    fn clock(&self, caller: CallerId) -> CallersClock<RaisingClock<'a>> {
         let clock = StepClock::new(Moment::new(0).unwrap_or(Moment::greatest()), 1);
         let flags = if caller.0 == 1 {
             Some(self.flags)
         } else {
             None
         };
-        RaisingClock { clock, flags }
+        CallersClock::new(caller, RaisingClock { clock, flags })
     }
 }
 

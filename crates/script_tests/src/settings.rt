@@ -3,7 +3,9 @@ use byte_streams::{MemorySink, MemorySource};
 use call_history::Bell;
 use child_spawner::{Fate, FateList, MemorySpawner};
 use drmaa_script::{Outcome, run};
-use drmaa_types::{Bytes, CallerId, Clocks, Moment, PlaceList, StepClock, Text, TextList};
+use drmaa_types::{
+    Bytes, CallerId, CallersClock, Clocks, Moment, PlaceList, StepClock, Text, TextList,
+};
 use notify_hub::{Callbacks, MemoryCallback};
 use std::alloc::Global;
 use std::process::Abort;
@@ -88,14 +90,15 @@ pub fn has_begun(spawner: &MemorySpawner, begun: &[bool]) -> bool {
 pub struct ClientClocks {}
 
 impl Clocks for ClientClocks {
-    type One = StepClock;
+    type One = CallersClock<StepClock>;
 
-    fn clock(&self, caller: CallerId) -> StepClock {
-        if caller.0 == 1 {
+    fn clock(&self, caller: CallerId) -> CallersClock<StepClock> {
+        let clock = if caller.0 == 1 {
             StepClock::new(Moment::new(10).unwrap_or(Moment::greatest()), 1)
         } else {
             StepClock::new(Moment::new(0).unwrap_or(Moment::greatest()), 0)
-        }
+        };
+        CallersClock::new(caller, clock)
     }
 }
 
@@ -108,7 +111,7 @@ pub fn outcome<E: Threads + Wait + Pause + Sync>(
     sink: &mut MemorySink,
     spawner: &mut MemorySpawner,
     callbacks: Callbacks<MemoryCallback>,
-) -> Outcome<StepClock, MemoryCallback> {
+) -> Outcome<CallersClock<StepClock>, MemoryCallback> {
     let words = words(alloc, line);
     let bell = Bell::new();
     run(

@@ -1,7 +1,7 @@
 //! What a script says.
 use crate::{Block, Keyed};
 use drmaa_model::Config;
-use drmaa_types::ListOf;
+use drmaa_types::{ListOf, Shared};
 use job_template::{JobTemplate, ReservationTemplate};
 
 /// For which command a script is read.
@@ -13,8 +13,8 @@ pub enum Mode {
     Threads,
 }
 
-/// Job templates under their names, in the order of the script.
-pub type NamedTemplates = Keyed<JobTemplate>;
+/// Job templates under their names, in the order of the script; the calls that submit one share it.
+pub type NamedTemplates = Keyed<Shared<JobTemplate>>;
 
 /// Reservation templates under their names, in the order of the script.
 pub type NamedReservationTemplates = Keyed<ReservationTemplate>;

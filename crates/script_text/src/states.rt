@@ -12,7 +12,7 @@ use crate::bindings::is_there;
 use crate::follow::may_stand;
 use crate::header::{config_of, read_header, read_queue};
 use crate::{Block, Keyed, Mode, Script};
-use drmaa_types::{Boxed, ListOf, QueueSpec, are_queues};
+use drmaa_types::{Boxed, ListOf, QueueSpec, Shared, are_queues};
 use job_template::{JobTemplate, ReservationTemplate};
 use script_lines::{
     Draft, JobField, Line, Name, ReservationField, is_reservation_set, is_set, new_reservation,
@@ -370,6 +370,7 @@ fn with_template(
 ) -> Result<Boxed<Script>, Unread>
     ensures { Says (Some (scripts.with_template naming.0 naming.1 template)) result }
 {
+    let template = Shared::new(alloc, template)?;
     let Naming { script, name } = naming;
     let mut script = script.into_inner();
     match script.jobs.add(name, template) {

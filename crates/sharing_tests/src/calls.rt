@@ -1,7 +1,7 @@
 //! Calls of a client.
 use crate::machines::{plain, text};
 use call_history::{Call, Reply};
-use drmaa_types::{Boxed, SessionId};
+use drmaa_types::{SessionId, Shared};
 use std::alloc::Global;
 
 /// Makes a session for jobs.
@@ -20,7 +20,7 @@ pub fn open(alloc: Global) -> Call {
 
 /// Runs a job in the first session. Where memory is wanting it is another call, and then no test passes.
 pub fn run(alloc: Global) -> Call {
-    match Boxed::new(alloc, plain(alloc)) {
+    match Shared::new(alloc, plain(alloc)) {
         Ok(template) => Call::RunJob {
             session: SessionId(1),
             template,

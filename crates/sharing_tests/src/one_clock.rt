@@ -1,6 +1,7 @@
 //! Two clients in threads, over one clock that counts its readings: since a call reads its clock while it has the turn, the moments
 //! of the journal rise.
 ghost use Rattle.std.specs.Prelude.{◌≤◌, None};
+ghost use Rattle.drmaa_types.specs.Readings.{nobodys};
 ghost use Rattle.turn_lock.specs.Tokens.{BelongsTo, IsFree};
 
 use crate::machines::{at, closed, desk, machine};
@@ -33,7 +34,7 @@ impl<'a, R> CountingClock<'a, R> {
 }
 
 impl<'a, R: Wait> Clock for CountingClock<'a, R> {
-    ghost given = { λ c. None };
+    ghost given = { λ c. nobodys None };
 
     ghost least = { λ c. c.last };
 

@@ -71,8 +71,9 @@ struct Prying<'a> {
 
 impl Clock for Prying<'_> {
     ghost use Rattle.std.specs.Prelude.{None};
+    ghost use Rattle.drmaa_types.specs.Readings.{nobodys};
 
-    ghost given = { λ _. None };
+    ghost given = { λ _. nobodys None };
 
     ghost least = { λ _. 0 };
 

@@ -1,11 +1,10 @@
 //! What a machine has come to, in numbers.
 ghost use Rattle.std.specs.Prelude.{◌≡◌, length, filter, IfOk};
 ghost use Rattle.drmaa_model.specs.History.{IsLegal, now_of};
-ghost use Rattle.drmaa_model.specs.Order.{held};
 ghost use Rattle.soak.specs.Summaries as summaries;
 
 use drmaa_machine::Machine;
-use drmaa_model::{Answer, Entry, Question, Reply};
+use drmaa_model::{Entry, Reply};
 use drmaa_types::{Change, JobState};
 use std::alloc::AllocError;
 
@@ -77,17 +76,6 @@ fn count_refusals(entries: &[Entry]) -> u64
     count
 }
 
-/// The slots that jobs hold.
-fn held_by(machine: &Machine) -> u32
-    requires { IsLegal machine.now.ledger.config machine.now.ledger.history }
-    ensures { result ≡ held (now_of machine.now.ledger).plan.rows }
-{
-    match machine.look(machine.moment(), Question::Held) {
-        Answer::Held(held) => held,
-        _ => 0,
-    }
-}
-
 /// How many accepted reservations there are.
 fn count_reservations(machine: &Machine) -> Result<u64, AllocError>
     requires { IsLegal machine.now.ledger.config machine.now.ledger.history }
@@ -115,7 +103,7 @@ pub fn summary_of(machine: &Machine) -> Result<Summary, AllocError>
         done: count_to(changes, JobState::Done),
         failed: count_to(changes, JobState::Failed),
         refused: count_refusals(entries),
-        held: held_by(machine),
+        held: machine.held(),
         reservations: count_reservations(machine)?,
         size: machine.size(),
     })

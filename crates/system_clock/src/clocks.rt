@@ -1,19 +1,20 @@
 //! The clock of the machine.
-ghost use Rattle.std.specs.Prelude.{◌≡◌, ◌≤◌, None};
+ghost use Rattle.std.specs.Prelude.{◌≡◌, ◌≤◌, Some, None};
 
 use drmaa_types::{CallerId, Clock, Clocks, Moment};
 use std::time::Clock as Pause;
 
-/// The seconds since 1970, by the clock of this machine; where that falls, or can't be read, the last reading again. It tells no
-/// readings.
+/// The seconds since 1970, by the clock of this machine, for one caller; where that falls, or can't be read, the last reading again. It
+/// tells whose clock it is, and no readings.
 #[derive(Drop)]
 pub struct SystemClock {
     rt: HostRuntime,
+    caller: CallerId,
     last: Moment,
 }
 
 impl Clock for SystemClock {
-    ghost given = { λ c. None };
+    ghost given = { λ c. record { caller = Some c.caller.0; told = None } };
 
     ghost least = { λ c. c.last };
 
@@ -49,6 +50,7 @@ impl Clocks for SystemClocks {
     fn clock(&self, caller: CallerId) -> SystemClock {
         SystemClock {
             rt: self.rt,
+            caller,
             last: Moment::new(0).unwrap_or(Moment::greatest()),
         }
     }

@@ -2,6 +2,7 @@
 use Rattle.std.proofs.Common.{◌≡◌, ℕ, zero, suc, ◌+◌, ◌<◌, ◌⊎◌, inl, inr, ⊎_elim, List, [], ◌∷◌, ◌++◌, map, set, replicate, length, slice_index_or, refl, sym, ap, ◌∙◌, subst, append_assoc, append-nil, length-append, arith, Option, Some, None}
 use Rattle.std.specs.Prelude.{All, Result, Ok, Err}
 use Rattle.std.proofs.lemmas.List.Elements.{All-nil}
+use Rattle.drmaa_types.specs.Readings.{Readings}
 use Rattle.drmaa_model.specs.declared.configs.Config.{Config}
 use Rattle.drmaa_model.specs.declared.entries.Entry.{Entry}
 use Rattle.drmaa_model.specs.History.{IsLegal}
@@ -18,7 +19,7 @@ use Rattle.thread_play.proofs.Lists.{at-more, replicate-more, length-replicated,
 abbrev pub Lists : Type 0
 Lists = List (Option (List Entry))
 
-module _ {C : Type 0} (given : C → Option (List ℕ)) (shared : Named Config) where
+module _ {C : Type 0} (given : C → Readings) (shared : Named Config) where
   pub hired-none : (o : Seat) → BelongsTo shared o → Hired {C = C} given shared o o []
   hired-none o opener = record { opener = opener; retired = sym (append-nil (retired_of o)); seen = refl; each = λ i d h. absurd (omega arith) }
 

@@ -1,46 +1,26 @@
 -- How launcher and reaper end a run.
-use Rattle.std.proofs.Common.{◌≡◌, inl, inr, ℕ, List, [], Option, Some, None, refl, sym, ap, subst, ◌∙◌, append-nil, arith}
+use Rattle.std.proofs.Common.{◌≡◌, inl, inr, ℕ, List, Option, Some, None, refl, sym, ap, subst, ◌∙◌}
 use Rattle.std.specs.Prelude.{Result, Ok, Err, IfErr, IsOk, is_some, true, false}
 use Rattle.child_spawner.specs.declared.fates.Asked.{Asked}
 use Rattle.child_spawner.specs.declared.fates.Fate.{Fate}
 use Rattle.child_spawner.specs.Children.{Told}
+use Rattle.drmaa_types.specs.Readings.{Readings}
 use Rattle.drmaa_types.specs.declared.refusals.Refusal.{Refusal}
 use Rattle.drmaa_types.specs.declared.refusals.Refusal.TheVariants.{OutOfResource}
 use Rattle.drmaa_types.specs.declared.refusals.Limit.TheVariants as limit
 use Rattle.drmaa_model.specs.declared.configs.Config.{Config}
-use Rattle.turn_lock.specs.Tokens.{Named, IsFree}
-use Rattle.call_history.specs.Clients.{mine_of}
-use Rattle.call_history.specs.ClientLaws.{begins-itself}
+use Rattle.turn_lock.specs.Tokens.{Named}
+use Rattle.attendant.specs.declared.pairs.Pair.{Pair}
 use Rattle.attendant.specs.declared.reaper.Held.{Held}
 use Rattle.attendant.specs.declared.reaper.Hand.{Hand}
-use Rattle.attendant.specs.Posts.{Post, Gives, IsStillAt}
+use Rattle.attendant.specs.PairLaws.{post-itself}
+use Rattle.attendant.specs.Pairs.{launcher_at, reaping_at, ArePlaced, HasAttended, HasSettled}
+use Rattle.attendant.specs.Posts.{Post}
 use Rattle.attendant.specs.Outside.{IsHeldUp, out_of_memory, full_at_launch, full_at_order, full_at_answer}
 use Rattle.block_play.specs.declared.stops.Stopped.{Stopped}
 use Rattle.block_play.specs.declared.stops.Stopped.TheVariants as stopped
-use Rattle.thread_play.specs.declared.pairs.Pair.{Pair}
 use Rattle.thread_play.specs.Stages.{EndsAs, worse}
-use Rattle.thread_play.specs.Pairs.{launcher_at, reaping_at, ArePlaced, HasAttended, HasSettled, HasEnded}
-
-pub gives-none : (before : Option (List ℕ)) → Gives before [] before
-gives-none None = tt
-gives-none (Some before) = sym (append-nil before)
-
--- nothing happened at a desk
-pub post-itself : (p : Post) → IsFree p.shared p.client → IsStillAt p p
-post-itself p free = record {
-  shared_is = refl;
-  client = free;
-  number = refl;
-  begins = begins-itself _;
-  own = λ o. o;
-  legal = λ l. l;
-  least = (let l = p.clock.least in omega arith);
-  readings = [];
-  gave = gives-none p.clock.given;
-  added = [];
-  mine = sym (append-nil (mine_of p.client));
-  timed = tt;
-}
+use Rattle.thread_play.specs.Pairs.{HasEnded}
 
 pub some-not : (o : Option Stopped) → is_some o ≡ true → o ≡ None → ⊥
 some-not None is none = absurd (cc)
@@ -57,7 +37,7 @@ held-tended l0 l1 r0 r1 K why k (full_at_launch n w f) = full_at_launch n w f
 held-tended l0 l1 r0 r1 K why k (full_at_order n w f) = full_at_order n w f
 held-tended l0 l1 r0 r1 K why k (full_at_answer n signal answer w f owes) = full_at_answer n signal answer w f (λ any. owes k)
 
-module _ {C T : Type 0} (given : C → Option (List ℕ)) (least : C → ℕ) (told : T → Option Told) (shared : Named Config) where
+module _ {C T : Type 0} (given : C → Readings) (least : C → ℕ) (told : T → Option Told) (shared : Named Config) where
   -- a run that was stopped before
   pub ended-before : (p : Pair C) (asked : Option (List Asked)) (fate : ℕ → Fate) (at : ℕ → Option (Held T)) (hand : Option Hand) (before : Option Stopped) → ArePlaced shared p → (before ≡ None → ⊥)
       → HasEnded given least told shared p p asked asked fate fate at at hand hand before before

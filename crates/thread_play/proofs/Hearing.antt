@@ -5,6 +5,7 @@ use Rattle.std.specs.List.{slice_get, AllByRecursion}
 use Rattle.std.proofs.lemmas.Option.{slice_get-get_or}
 use Rattle.child_spawner.specs.declared.fates.Asked.{Asked}
 use Rattle.child_spawner.specs.declared.fates.Fate.{Fate}
+use Rattle.drmaa_types.specs.Readings.{Readings}
 use Rattle.drmaa_model.specs.declared.calls.Call.{Call}
 use Rattle.drmaa_model.specs.declared.calls.Call.TheVariants as call
 use Rattle.drmaa_model.specs.declared.configs.Config.{Config}
@@ -33,7 +34,7 @@ take-first : (front back : List Line) → take (length front) (front ++ back) �
 take-first [] back = refl
 take-first (l ∷ front) back = ap (λ (ls : List Line). l ∷ ls) (take-first front back)
 
-up-to-none : {C : Type 0} (given : C → Option (List ℕ)) (clocks : List C) (s : Script) (names : List (List ℕ × Given)) (n : ℕ) (block : List Line) (caller : ℕ) (history : List Entry) → NoneRegisters s → slice_get s.clients n ≡ Some block
+up-to-none : {C : Type 0} (given : C → Readings) (clocks : List C) (s : Script) (names : List (List ℕ × Given)) (n : ℕ) (block : List Line) (caller : ℕ) (history : List Entry) → NoneRegisters s → slice_get s.clients n ≡ Some block
     → PlaysUpTo given clocks s names block caller history → AllByRecursion IsNoRegister (calls_of history caller)
 up-to-none given clocks s names n block caller history none at (inl p) = none.whole names 0 n block (calls_of history caller) at p
 up-to-none given clocks s names n block caller history none at (inr (size, cut)) =
@@ -93,7 +94,7 @@ may-note : (shared : Named Config) (note : Option Seat) → IsNoteOf shared note
 may-note shared None own = tt
 may-note shared (Some seat) own = own.fixed_is
 
-module _ {C : Type 0} (given : C → Option (List ℕ)) (s : Script) (history : List Entry) (asked asked2 : Option (List Asked)) (fate : ℕ → Fate) (clocks : List C) (none : NoneRegisters s) where
+module _ {C : Type 0} (given : C → Readings) (s : Script) (history : List Entry) (asked asked2 : Option (List Asked)) (fate : ℕ → Fate) (clocks : List C) (none : NoneRegisters s) where
   client-none : (full : Option ℕ) → EndsBy given s history asked asked2 fate clocks full → (i : ℕ) (block : List Line) → slice_get s.clients i ≡ Some block → AllByRecursion IsNoRegister (calls_of history (i + 1))
   client-none None e i block at = none.whole (names_given s history) 0 i block (calls_of history (i + 1)) at (e.plays.clients i block at)
   client-none (Some size) (in_setup cut alone unasked callers) i block at = none-none (calls_of history (i + 1)) (alone (i + 1) (omega arith))

@@ -5,6 +5,7 @@ use Rattle.std.specs.List.{slice_get}
 use Rattle.child_spawner.specs.declared.fates.Asked.{Asked}
 use Rattle.child_spawner.specs.declared.fates.Fate.{Fate}
 use Rattle.child_spawner.specs.Children.{Told}
+use Rattle.drmaa_types.specs.Readings.{Readings}
 use Rattle.drmaa_types.specs.declared.refusals.Refusal.{Refusal}
 use Rattle.drmaa_model.specs.declared.configs.Config.{Config}
 use Rattle.drmaa_model.specs.declared.entries.Entry.{Entry}
@@ -13,28 +14,30 @@ use Rattle.turn_lock.specs.Tokens.{Named, BelongsTo}
 use Rattle.call_history.specs.Clients.{Seat, seen_of, mine_of, number_of, retired_of, KnowsItsOwn}
 use Rattle.call_history.specs.ClientLaws.{begins-both}
 use Rattle.call_history.specs.Clocks.{dial}
-use Rattle.call_history.specs.Timed.{IsTimed}
+use Rattle.call_history.specs.Timed.{IsTimed, StaysTimed}
 use Rattle.notify_hub.specs.Hubs.{Following}
 use Rattle.script_text.specs.declared.scripts.Script.{Script}
 use Rattle.script_asks.specs.declared.given.Given.{Given}
+use Rattle.attendant.specs.declared.pairs.Pair.{Pair}
 use Rattle.attendant.specs.declared.reaper.Held.{Held}
 use Rattle.attendant.specs.declared.reaper.Hand.{Hand}
 use Rattle.attendant.specs.Acts.{acts_of, own_acts, Act}
+use Rattle.attendant.specs.PairLaws.{post-itself}
+use Rattle.attendant.specs.Pairs.{launcher_at, reaping_at, HasAttended}
 use Rattle.attendant.specs.Posts.{IsStillAt}
 use Rattle.attendant.specs.Outside.{Tends, Keeps, AgreesOf}
 use Rattle.block_play.specs.declared.stops.Stopped.{Stopped}
 use Rattle.block_play.specs.declared.stops.Stopped.TheVariants as stopped
-use Rattle.thread_play.specs.declared.pairs.Pair.{Pair}
 use Rattle.thread_play.specs.declared.workers.Worker.{Worker}
 use Rattle.thread_play.specs.Stages.{Hired, HavePlayed, Dismissed, EndsAs, worse, worst, with_back}
 use Rattle.thread_play.specs.Hubs.{FollowsAll, IsReturned}
-use Rattle.thread_play.specs.Pairs.{launcher_at, reaping_at, HasAttended, HasEnded, AreReleased}
+use Rattle.thread_play.specs.Pairs.{HasEnded, AreReleased}
 use Rattle.thread_play.specs.Others.{IsEnded, HasGoneOn, by_attendant, by_client, Ends, Others, OthersHeard}
 use Rattle.thread_play.proofs.Lists.{set-between, length-mapped, some-item}
 use Rattle.thread_play.proofs.Clients.{Lists, own_lists, hired-count, with_back-all, worst-none, worst-full}
 use Rattle.thread_play.proofs.Callers.{launcher-at-once, reaper-at-once}
 use Rattle.thread_play.proofs.Posts.{still-timed, none-timed, told-on}
-use Rattle.thread_play.proofs.Endings.{post-itself, held-tended, full-held, whole-ok}
+use Rattle.thread_play.proofs.Endings.{held-tended, full-held, whole-ok}
 
 -- a client that was opened last
 pub record IsOpened (shared : Named Config) (o p : Seat) (client : Seat) : Type 0 where
@@ -60,18 +63,19 @@ stop_at (Some size) = Some (stopped.Full size)
 begins-same : (a b c : List Entry) → BeginsWith a b → b ≡ c → BeginsWith a c
 begins-same a b c h is = subst (BeginsWith a) is h
 
-module _ {C T : Type 0} (given : C → Option (List ℕ)) (least : C → ℕ) (told : T → Option Told) (s : Script) (names : List (List ℕ × Given)) (shared : Named Config)
+module _ {C T : Type 0} (given : C → Readings) (least : C → ℕ) (told : T → Option Told) (s : Script) (names : List (List ℕ × Given)) (shared : Named Config)
     (o p0 p1 p2 ph p3 p4 p5 pass0 pass : Seat) (ws vs : List (Worker C)) (pa pb pc pd : Pair C)
     (asked asked1 asked2 : Option (List Asked)) (fate fate1 fate2 : ℕ → Fate) (at0 at1 at2 : ℕ → Option (Held T)) (hand0 hand1 hand2 : Option Hand)
     (r : Result (Unit {0}) Refusal) (end : Result (Unit {0}) Stopped) (ended after : Option Stopped) (clocks0 clocks1 clocks2 clocks3 : List C) (clock_h : C)
-    (first : length (retired_of o) ≡ 1) (hired : Hired given shared o p0 ws) (count : length ws ≡ length s.clients)
+    (clock_h0 : C) (first : length (retired_of o) ≡ 1) (hired : Hired given shared o p0 ws) (count : length ws ≡ length s.clients)
+    (whose_l : (given pa.launcher_clock).caller ≡ Some (length s.clients + 1)) (whose_r : (given pa.reaping_clock).caller ≡ Some (length s.clients + 2)) (whose_h : (given clock_h0).caller ≡ Some (length s.clients + 3))
     (ol : IsOpened shared p0 p1 pa.launcher) (or : IsOpened shared p1 p2 pa.reaping) (oh : IsOpened shared p2 ph pass0) (start : Nothing told at0) (no_hand : hand0 ≡ None)
     (a : HasAttended given least told shared pa pb asked asked1 fate fate1 at0 at1 hand0 hand1 r) (played : HavePlayed given shared s names ws vs) (ends_so : EndsAs r end)
     (d : Dismissed shared ph p3 pb.launcher pc.launcher vs) (clock_l : pc.launcher_clock ≡ pb.launcher_clock) (same_r : pc.reaping ≡ pb.reaping) (clock_r : pc.reaping_clock ≡ pb.reaping_clock)
     (worst_is : ended ≡ worst (worse None end) vs)
     (e : HasEnded given least told shared pc pd asked1 asked2 fate1 fate2 at1 at2 hand1 hand2 ended after) (rel : AreReleased shared p3 p4 pd)
     (clocks_d : clocks1 ≡ clocks0 ++ map (λ (w : Worker C). w.clock) vs) (clocks_r : clocks2 ≡ (clocks1 ++ pd.launcher_clock ∷ []) ++ pd.reaping_clock ∷ [])
-    (back : IsReturned shared p4 p5 pass) (pass_number : number_of pass ≡ number_of pass0) (pass_mine : mine_of pass ≡ mine_of pass0) (clocks_h : clocks3 ≡ clocks2 ++ clock_h ∷ []) where
+    (back : IsReturned shared p4 p5 pass) (pass_number : number_of pass ≡ number_of pass0) (pass_mine : mine_of pass ≡ mine_of pass0) (pass_timed : StaysTimed (mine_of pass0) (given clock_h0) (mine_of pass) (given clock_h)) (clocks_h : clocks3 ≡ clocks2 ++ clock_h ∷ []) where
   -- ---- what was seen
 
   seen-o : seen_of ph ≡ seen_of o
@@ -179,7 +183,7 @@ module _ {C T : Type 0} (given : C → Option (List ℕ)) (least : C → ℕ) (t
         back = record {
           number_is = client-number i v h;
           own = hp.still.own hi.client.own;
-          timed = hp.timed (none-timed (given (slice_index_or ws i v).clock) (mine_of (slice_index_or ws i v).client) hi.client.mine);
+          timed = hp.timed (Some (i + 1)) (none-timed (Some (i + 1)) (given (slice_index_or ws i v).clock) (mine_of (slice_index_or ws i v).client) hi.caller hi.client.mine);
         };
         sufficed = sufficed full is i v h;
         played = λ block at. hp.played hi.client.mine block (subst (λ (k : ℕ). slice_get s.clients k ≡ Some block) (sym hi.place_is) at);
@@ -187,8 +191,14 @@ module _ {C T : Type 0} (given : C → Option (List ℕ)) (least : C → ℕ) (t
 
   -- ---- launcher and reaper
 
+  launcher-first : number_of pa.launcher ≡ length s.clients + 1
+  launcher-first = ol.number ∙ (let n = hired-count given shared o p0 ws hired in let c = count in let f = first in omega arith)
+
+  launcher-middle : number_of pc.launcher ≡ length s.clients + 1
+  launcher-middle = d.launcher.number ∙ (a.launcher.number ∙ launcher-first)
+
   launcher-number : number_of pd.launcher ≡ length s.clients + 1
-  launcher-number = e.launcher.number ∙ (d.launcher.number ∙ (a.launcher.number ∙ (ol.number ∙ (let n = hired-count given shared o p0 ws hired in let c = count in let f = first in omega arith))))
+  launcher-number = e.launcher.number ∙ launcher-middle
 
   opened-count : length (retired_of p1) ≡ length (retired_of p0) + 1
   opened-count = ap length ol.retired ∙ length-append (retired_of p0) (None ∷ [])
@@ -202,21 +212,35 @@ module _ {C T : Type 0} (given : C → Option (List ℕ)) (least : C → ℕ) (t
   own-middle : KnowsItsOwn pc.reaping
   own-middle = subst (λ (x : Seat). KnowsItsOwn x) (sym same_r) (a.reaping.own or.own)
 
-  launcher-timed-middle : IsTimed (mine_of pc.launcher) (given pc.launcher_clock)
+  launcher-timed-first : IsTimed (Some (length s.clients + 1)) (mine_of pa.launcher) (given pa.launcher_clock)
+  launcher-timed-first = none-timed (Some (length s.clients + 1)) (given pa.launcher_clock) (mine_of pa.launcher) whose_l ol.mine
+
+  launcher-timed-middle : IsTimed (Some (length s.clients + 1)) (mine_of pc.launcher) (given pc.launcher_clock)
   launcher-timed-middle =
-      let one : IsTimed (mine_of pb.launcher) (given pb.launcher_clock) = still-timed (launcher_at given least shared pa) (launcher_at given least shared pb) a.launcher (launcher-at-once [] (mine_of pb.launcher) tends-b.launches) (none-timed (given pa.launcher_clock) (mine_of pa.launcher) ol.mine) in
-      subst (λ (es : List Entry). IsTimed es (given pc.launcher_clock)) (sym d.mine) (subst (λ (c : C). IsTimed (mine_of pb.launcher) (given c)) (sym clock_l) one)
+      let one : IsTimed (Some (length s.clients + 1)) (mine_of pb.launcher) (given pb.launcher_clock) =
+      still-timed (launcher_at given least shared pa) (launcher_at given least shared pb) a.launcher (launcher-at-once [] (mine_of pb.launcher) tends-b.launches) (Some (length s.clients + 1)) launcher-timed-first in
+      subst (λ (es : List Entry). IsTimed (Some (length s.clients + 1)) es (given pc.launcher_clock)) (sym d.mine) (subst (λ (c : C). IsTimed (Some (length s.clients + 1)) (mine_of pb.launcher) (given c)) (sym clock_l) one)
 
-  launcher-timed : IsTimed (mine_of pd.launcher) (given pd.launcher_clock)
-  launcher-timed = still-timed (launcher_at given least shared pc) (launcher_at given least shared pd) e.launcher (launcher-at-once [] (mine_of pd.launcher) tends-d.launches) launcher-timed-middle
+  launcher-timed : IsTimed (Some (length s.clients + 1)) (mine_of pd.launcher) (given pd.launcher_clock)
+  launcher-timed =
+      still-timed (launcher_at given least shared pc) (launcher_at given least shared pd) e.launcher (launcher-at-once [] (mine_of pd.launcher) tends-d.launches) (Some (length s.clients + 1)) launcher-timed-middle
 
-  reaping-timed-middle : IsTimed (mine_of pc.reaping) (given pc.reaping_clock)
+  reaping-timed-first : IsTimed (Some (length s.clients + 2)) (mine_of pa.reaping) (given pa.reaping_clock)
+  reaping-timed-first = none-timed (Some (length s.clients + 2)) (given pa.reaping_clock) (mine_of pa.reaping) whose_r or.mine
+
+  reaping-timed-middle : IsTimed (Some (length s.clients + 2)) (mine_of pc.reaping) (given pc.reaping_clock)
   reaping-timed-middle =
-      let one : IsTimed (mine_of pb.reaping) (given pb.reaping_clock) = still-timed (reaping_at given least shared pa) (reaping_at given least shared pb) a.reaping (reaper-at-once [] (mine_of pb.reaping) tends-b.reports) (none-timed (given pa.reaping_clock) (mine_of pa.reaping) or.mine) in
-      subst (λ (x : Seat). IsTimed (mine_of x) (given pc.reaping_clock)) (sym same_r) (subst (λ (c : C). IsTimed (mine_of pb.reaping) (given c)) (sym clock_r) one)
+      let one : IsTimed (Some (length s.clients + 2)) (mine_of pb.reaping) (given pb.reaping_clock) =
+      still-timed (reaping_at given least shared pa) (reaping_at given least shared pb) a.reaping (reaper-at-once [] (mine_of pb.reaping) tends-b.reports) (Some (length s.clients + 2)) reaping-timed-first in
+      subst (λ (x : Seat). IsTimed (Some (length s.clients + 2)) (mine_of x) (given pc.reaping_clock)) (sym same_r) (subst (λ (c : C). IsTimed (Some (length s.clients + 2)) (mine_of pb.reaping) (given c)) (sym clock_r) one)
 
-  reaping-timed : IsTimed (mine_of pd.reaping) (given pd.reaping_clock)
-  reaping-timed = still-timed (reaping_at given least shared pc) (reaping_at given least shared pd) e.reaping (reaper-at-once [] (mine_of pd.reaping) tends-d.reports) reaping-timed-middle
+  reaping-timed : IsTimed (Some (length s.clients + 2)) (mine_of pd.reaping) (given pd.reaping_clock)
+  reaping-timed =
+      still-timed (reaping_at given least shared pc) (reaping_at given least shared pd) e.reaping (reaper-at-once [] (mine_of pd.reaping) tends-d.reports) (Some (length s.clients + 2)) reaping-timed-middle
+
+  -- a clock that is its caller's, by the number of the caller's client
+  by-number : (n : ℕ) (client : Seat) (clock : C) → number_of client ≡ n → IsTimed (Some n) (mine_of client) (given clock) → IsTimed (Some (number_of client)) (mine_of client) (given clock)
+  by-number n client clock is t = subst (λ (k : ℕ). IsTimed (Some k) (mine_of client) (given clock)) (sym is) t
 
   -- ---- from the first work of launcher and reaper to the last, and from the last alone
 
@@ -225,7 +249,7 @@ module _ {C T : Type 0} (given : C → Option (List ℕ)) (least : C → ℕ) (t
     shared_is = refl;
     number = e.launcher.number ∙ (d.launcher.number ∙ a.launcher.number);
     own = ol.own;
-    timed = none-timed (given pa.launcher_clock) (mine_of pa.launcher) ol.mine;
+    timed = by-number (length s.clients + 1) pa.launcher pa.launcher_clock launcher-first launcher-timed-first;
     on = subst (λ (c : C). IsStillAt (record { shared = shared; client = pb.launcher; clock = dial (given c) (least c) }) (launcher_at given least shared pd)) clock_l
         (told-on shared pb.launcher pc.launcher (dial (given pc.launcher_clock) (least pc.launcher_clock)) (launcher_at given least shared pd) d.launcher d.mine e.launcher);
   }
@@ -235,7 +259,7 @@ module _ {C T : Type 0} (given : C → Option (List ℕ)) (least : C → ℕ) (t
     shared_is = refl;
     number = e.reaping.number ∙ (ap (λ (x : Seat). number_of x) same_r ∙ a.reaping.number);
     own = or.own;
-    timed = none-timed (given pa.reaping_clock) (mine_of pa.reaping) or.mine;
+    timed = by-number (length s.clients + 2) pa.reaping pa.reaping_clock reaping-first reaping-timed-first;
     on = subst (λ (c : C). IsStillAt (record { shared = shared; client = pb.reaping; clock = dial (given c) (least c) }) (reaping_at given least shared pd)) clock_r
         (subst (λ (x : Seat). IsStillAt (record { shared = shared; client = x; clock = dial (given pc.reaping_clock) (least pc.reaping_clock) }) (reaping_at given least shared pd)) same_r e.reaping);
   }
@@ -245,12 +269,18 @@ module _ {C T : Type 0} (given : C → Option (List ℕ)) (least : C → ℕ) (t
     shared_is = refl;
     number = e.launcher.number;
     own = d.launcher.own (a.launcher.own ol.own);
-    timed = launcher-timed-middle;
+    timed = by-number (length s.clients + 1) pc.launcher pc.launcher_clock launcher-middle launcher-timed-middle;
     on = post-itself (launcher_at given least shared pd) e.launcher.client;
   }
 
   reaping-ended : HasGoneOn shared (reaping_at given least shared pc) (reaping_at given least shared pd) (reaping_at given least shared pd)
-  reaping-ended = record { shared_is = refl; number = e.reaping.number; own = own-middle; timed = reaping-timed-middle; on = post-itself (reaping_at given least shared pd) e.reaping.client }
+  reaping-ended = record {
+    shared_is = refl;
+    number = e.reaping.number;
+    own = own-middle;
+    timed = by-number (length s.clients + 2) pc.reaping pc.reaping_clock reaping-middle reaping-timed-middle;
+    on = post-itself (reaping_at given least shared pd) e.reaping.client;
+  }
 
   -- ---- the lists of those that are back
 
@@ -342,6 +372,7 @@ module _ {C T : Type 0} (given : C → Option (List ℕ)) (least : C → ℕ) (t
     pass = pass;
     pass_clock = clock_h;
     pass_mine = pass_mine ∙ oh.mine;
+    pass_timed = pass_timed (Some (length s.clients + 3)) (none-timed (Some (length s.clients + 3)) (given clock_h0) (mine_of pass0) whose_h oh.mine);
     retired = lists;
     clocks_are = all-clocks;
     known = at-last (seen_of pd.launcher) rel.launcher;

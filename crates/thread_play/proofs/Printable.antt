@@ -5,6 +5,7 @@ use Rattle.std.proofs.lemmas.Option.{slice_get-get_or}
 use Rattle.std.proofs.Common.{get_or}
 use Rattle.child_spawner.specs.declared.fates.Asked.{Asked}
 use Rattle.child_spawner.specs.declared.fates.Fate.{Fate}
+use Rattle.drmaa_types.specs.Readings.{Readings}
 use Rattle.drmaa_model.specs.declared.entries.Entry.{Entry}
 use Rattle.call_history.specs.Callers.{calls_of}
 use Rattle.script_lines.specs.declared.lines.Line.{Line}
@@ -24,14 +25,14 @@ attended : ((e : Entry) → is_attendants e.call ≡ true → CallMayStand e) �
 attended each [] all = tt
 attended each (e ∷ es) all = (each e all.0, attended each es all.1)
 
-up-to-stands : {C : Type 0} (given : C → Option (List ℕ)) (clocks : List C) (s : Script) (names : List (List ℕ × Given)) (block : List Line) (caller : ℕ) (history : List Entry) → AskedStands s → PlaysUpTo given clocks s names block caller history → AllByRecursion CallMayStand (calls_of history caller)
+up-to-stands : {C : Type 0} (given : C → Readings) (clocks : List C) (s : Script) (names : List (List ℕ × Given)) (block : List Line) (caller : ℕ) (history : List Entry) → AskedStands s → PlaysUpTo given clocks s names block caller history → AllByRecursion CallMayStand (calls_of history caller)
 up-to-stands given clocks s names block caller history stands (inl p) = stands names 0 block (calls_of history caller) p
 up-to-stands given clocks s names block caller history stands (inr (size, cut)) = stands names 0 cut.front (calls_of history caller) cut.played
 
 none-stand : (es : List Entry) → es ≡ [] → AllByRecursion CallMayStand es
 none-stand es none = subst (AllByRecursion CallMayStand) (sym none) tt
 
-module _ {C : Type 0} (given : C → Option (List ℕ)) (s : Script) (history : List Entry) (asked asked2 : Option (List Asked)) (fate : ℕ → Fate) (clocks : List C) (stands : AskedStands s) where
+module _ {C : Type 0} (given : C → Readings) (s : Script) (history : List Entry) (asked asked2 : Option (List Asked)) (fate : ℕ → Fate) (clocks : List C) (stands : AskedStands s) where
   setup-stands : (full : Option ℕ) → EndsBy given s history asked asked2 fate clocks full → AllByRecursion CallMayStand (calls_of history 0)
   setup-stands None e = stands [] 0 (lines_of s.setup) (calls_of history 0) e.plays.setup
   setup-stands (Some size) (in_setup cut none unasked callers) = stands [] 0 cut.front (calls_of history 0) cut.played

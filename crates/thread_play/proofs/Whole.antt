@@ -26,14 +26,14 @@ use Rattle.drmaa_model.specs.Time.{advance, advance_plan}
 use Rattle.drmaa_model.specs.KeptCalls.{kept}
 use Rattle.drmaa_machine.specs.Chronicles.{MakesNone}
 use Rattle.attendant.specs.Rounds.{asked_signal}
-use Rattle.drmaa_types.specs.Readings.{Reads}
+use Rattle.drmaa_types.specs.Readings.{Readings, GoesOn}
 use Rattle.turn_lock.specs.Histories.{BeginsWith, left_of}
 use Rattle.turn_lock.specs.Tokens.{Named}
 use Rattle.call_history.specs.Callers.{calls_of}
 use Rattle.call_history.specs.Clients.{Seat, seen_of, mine_of, number_of, retired_of, KnowsItsOwn, SeesMore}
 use Rattle.call_history.specs.ClientLaws.{begins-itself, begins-both}
 use Rattle.call_history.specs.Clocks.{dial}
-use Rattle.call_history.specs.Timed.{IsTimed}
+use Rattle.call_history.specs.Timed.{HaveStood, IsTimed}
 use Rattle.notify_hub.specs.Hubs.{Following}
 use Rattle.notify_hub.specs.Places.{HavePlaces}
 use Rattle.script_lines.specs.declared.lines.Line.{Line}
@@ -63,7 +63,7 @@ use Rattle.thread_play.proofs.Beginnings.{calls-append, calls-begin, begins-shor
 use Rattle.thread_play.proofs.Clients.{Lists, own_lists}
 use Rattle.thread_play.proofs.Callers.{by-caller, are-alone, IsAtOnce, launcher-at-once, reaper-at-once}
 use Rattle.thread_play.proofs.Hearing.{NoneRegisters, hear-run}
-use Rattle.thread_play.proofs.Posts.{none-timed, read-between}
+use Rattle.thread_play.proofs.Posts.{read-between}
 
 -- what the machine that is had back says of its history
 pub record IsClosed (config : Config) (o : Seat) (history : List Entry) : Type 0 where
@@ -85,10 +85,10 @@ fits-all s history laws legal front back is = laws.consistent front (laws.prefix
 
 -- ---- a run that was stopped within setup
 
-cut-first : {C : Type 0} (given : C → Option (List ℕ)) (clocks : List C) (clock : C) (s : Script) (names : List (List ℕ × Given)) (block : List Line) (caller : ℕ) (own seen history : List Entry) (size : ℕ) (config : Config)
-    → slice_get clocks caller ≡ Some clock → config ≡ s.config → BeginsWith history seen
+cut-first : {C : Type 0} (given : C → Readings) (clocks : List C) (clock : C) (s : Script) (names : List (List ℕ × Given)) (block : List Line) (caller : ℕ) (own seen history : List Entry) (size : ℕ) (config : Config)
+    → slice_get clocks caller ≡ Some clock → (given clock).caller ≡ Some caller → config ≡ s.config → BeginsWith history seen
     → calls_of seen caller ≡ own → calls_of history caller ≡ own → StopsAt config s names block own seen (given clock) size → IsCutShort given clocks s names block caller history size
-cut-first given clocks clock s names block caller own seen history size config at is begins in_seen in_all c = record {
+cut-first given clocks clock s names block caller own seen history size config at whose is begins in_seen in_all c = record {
   front = c.front;
   line = c.line;
   back = c.back;
@@ -100,7 +100,7 @@ cut-first given clocks clock s names block caller own seen history size config a
   clock = clock;
   of_caller = at;
   told = c.told;
-  timed = subst (λ (es : List Entry). IsTimed es c.told) (sym in_all) c.timed;
+  timed = record { caller = sym c.full.read.caller ∙ whose; moments = subst (λ (es : List Entry). HaveStood es c.told.told) (sym in_all) c.timed };
   full = subst (λ (f : Config). IsFullFor f s (names_by s names c.front (calls_of history caller)) (last_moment 0 (calls_of history caller)) c.line seen c.told (given clock) size) is
       (subst (λ (es : List Entry). IsFullFor config s (names_by s names c.front es) (last_moment 0 es) c.line seen c.told (given clock) size) (sym in_all) c.full);
 }
@@ -108,7 +108,7 @@ cut-first given clocks clock s names block caller own seen history size config a
 each-none : (P : _) (es : List Entry) → es ≡ [] → Each P (acts_of es)
 each-none P es none = subst (λ (l : List Entry). Each P (acts_of l)) (sym none) tt
 
-module _ {C : Type 0} (given : C → Option (List ℕ)) (s : Script) (shared : Named Config) (o : Seat) (f : First C) (first : IsFirst given s shared o f) (history : List Entry)
+module _ {C : Type 0} (given : C → Readings) (s : Script) (shared : Named Config) (o : Seat) (f : First C) (first : IsFirst given s shared o f) (history : List Entry)
     (laws : Laws s) (config_is : shared.fixed ≡ s.config) (closed : IsClosed shared.fixed o history) where
   first-own : calls_of history 0 ≡ first.own
   first-own = closed.lists 0 first.own (ap (λ (l : Lists). slice_index_or l 0 None) first.retired)
@@ -119,8 +119,8 @@ module _ {C : Type 0} (given : C → Option (List ℕ)) (s : Script) (shared : N
   first-begins : BeginsWith history first.own
   first-begins = begins-both first.own (seen_of o) history first.seen closed.seen
 
-  timed-first : (k : ℕ) (c : C) → slice_get (f.clock ∷ []) k ≡ Some c → IsTimed (calls_of history k) (given c)
-  timed-first zero c at = let same : f.clock ≡ c = cc in subst (λ (x : C). IsTimed (calls_of history 0) (given x)) same (subst (λ (es : List Entry). IsTimed es (given f.clock)) (sym first-own) first.timed)
+  timed-first : (k : ℕ) (c : C) → slice_get (f.clock ∷ []) k ≡ Some c → IsTimed (Some k) (calls_of history k) (given c)
+  timed-first zero c at = let same : f.clock ≡ c = cc in subst (λ (x : C). IsTimed (Some 0) (calls_of history 0) (given x)) same (subst (λ (es : List Entry). IsTimed (Some 0) es (given f.clock)) (sym first-own) first.timed)
   timed-first (suc k) c at = absurd (cc)
 
   pub stopped-first : (asked : Option (List Asked)) (fate : ℕ → Fate) (size : ℕ) (clocks : List C) → f.played ≡ Err (stopped.Full size) → clocks ≡ f.clock ∷ []
@@ -140,7 +140,7 @@ module _ {C : Type 0} (given : C → Option (List ℕ)) (s : Script) (shared : N
           strangers = λ k above. none k (omega arith);
         };
         timed = λ k c at. timed-first k c (subst (λ (l : List C). slice_get l k ≡ Some c) are at);
-        ends = in_setup (cut-first given clocks f.clock s [] (lines_of s.setup) 0 first.own first.own history size shared.fixed (ap (λ (l : List C). slice_get l 0) are) config_is first-begins first.alone first-own stops)
+        ends = in_setup (cut-first given clocks f.clock s [] (lines_of s.setup) 0 first.own first.own history size shared.fixed (ap (λ (l : List C). slice_get l 0) are) first.timed.caller config_is first-begins first.alone first-own stops)
             (λ k above. none k (omega arith)) refl (ap length are);
       }
 
@@ -153,7 +153,7 @@ module _ {C : Type 0} (given : C → Option (List ℕ)) (s : Script) (shared : N
 
 -- ---- a run behind setup
 
-last-of : (config : Config) (history : List Entry) (before : Option (List ℕ)) (at : ℕ) (after : Option (List ℕ)) → Reads before at after → settled (advance (replay config history) at).plan ≡ true → IfSome after (IsSettledAt config history)
+last-of : (config : Config) (history : List Entry) (before : Option (List ℕ)) (at : ℕ) (after : Option (List ℕ)) → GoesOn before at after → settled (advance (replay config history) at).plan ≡ true → IfSome after (IsSettledAt config history)
 last-of config history before at None reads now = tt
 last-of config history None at (Some readings) reads now = absurd reads
 last-of config history (Some earlier) at (Some readings) reads now = record { earlier = earlier; last = at; are = reads; settled_is = now }
@@ -164,7 +164,7 @@ record AtRest (config : Config) (history : List Entry) (given : Option (List ℕ
 
 -- a settled look, as a machine at rest
 at-rest : (s : Script) (config : Config) (history : List Entry) (launcher : Post) → Laws s → config ≡ s.config → IsLegal s.config history → history ≡ seen_of launcher.client → EndsSettled config launcher
-    → AtRest s.config history launcher.clock.given
+    → AtRest s.config history launcher.clock.given.told
 at-rest s config history launcher laws config_is legal same e =
     let l = e.look in
     let told : answer.Settled true ≡ answer.Settled (settled (advance (replay config (seen_of launcher.client)) l.at).plan) = l.told in
@@ -173,11 +173,11 @@ at-rest s config history launcher laws config_is legal same e =
     (subst (λ (c : Config). settled (advance (replay c (seen_of launcher.client)) l.at).plan ≡ true) config_is here) in
     record {
       quiet = laws.quiet ((replay s.config history).entries + 1) l.at (replay s.config history).plan (laws.consistent history legal).fit now;
-      last = last-of s.config history e.before.given l.at launcher.clock.given l.read.told now;
+      last = last-of s.config history e.before.given.told l.at launcher.clock.given.told l.read.told.told now;
     }
 
 -- what a caller that makes no wait left at its last post, as the whole history and the clocks have it
-record IsLeftBy {C : Type 0} (given : C → Option (List ℕ)) (clocks : List C) (history : List Entry) (caller : ℕ) (last : Post) : Type 0 where
+record IsLeftBy {C : Type 0} (given : C → Readings) (clocks : List C) (history : List Entry) (caller : ℕ) (last : Post) : Type 0 where
   begins : BeginsWith history (seen_of last.client)
   own : calls_of history caller ≡ mine_of last.client
   number : number_of last.client ≡ caller
@@ -203,26 +203,26 @@ mine-later old mid last asked size f on =
     on.mine ∙ (ap (λ (l : List Entry). l ++ on.added) (f.to_new.mine ∙ ap (λ (l : List Entry). l ++ f.to_new.added) f.fails.more.mine) ∙ append_assoc (mine_of f.before.client) f.to_new.added on.added)
 
 -- a call that met the size, as the whole history has it
-meets : {C : Type 0} (given : C → Option (List ℕ)) (clocks : List C) (s : Script) (shared : Named Config) (old mid last : Post) (caller : ℕ) (asked : Call) (size : ℕ) (history : List Entry) → shared.fixed ≡ s.config
+meets : {C : Type 0} (given : C → Readings) (clocks : List C) (s : Script) (shared : Named Config) (old mid last : Post) (caller : ℕ) (asked : Call) (size : ℕ) (history : List Entry) → shared.fixed ≡ s.config
     → IsLeftBy given clocks history caller last → HasGoneOn shared old mid last → FailsWithin old asked (no.Journal size) mid → MeetsSize given clocks s.config history caller asked size
 meets given clocks s shared old mid last caller asked size history config_is left g f =
     let rest : List Entry = f.to_new.added ++ g.on.added in
     let made : calls_of (seen_of f.after.client) caller ≡ mine_of f.before.client = seen-own old mid asked size caller f g.own (sym g.number ∙ left.number) in
     let split : mine_of last.client ≡ mine_of f.before.client ++ rest = mine-later old mid last asked size f g.on in
-    let read : IfSome last.clock.given (HaveReading (mine_of f.before.client) rest f.fails.at) =
-    read-between old mid last f.before f.after f.fails.at f.from_old f.fails.read.told f.to_new g.on (subst (AllByRecursion IsAtOnce) split left.brief) g.timed in
+    let read : IfSome last.clock.given.told (HaveReading (mine_of f.before.client) rest f.fails.at) =
+    read-between old mid last f.before f.after (Some (number_of old.client)) f.fails.at f.from_old f.fails.read.told f.to_new g.on (subst (AllByRecursion IsAtOnce) split left.brief) g.timed in
     record {
       seen = seen_of f.after.client;
       begins = begins-both (seen_of f.after.client) (seen_of mid.client) history f.to_new.begins (begins-both (seen_of mid.client) (seen_of last.client) history g.on.begins left.begins);
       rest = rest;
       own = left.own ∙ (split ∙ ap (λ (l : List Entry). l ++ rest) (sym made));
       at = f.fails.at;
-      read = λ clock at. subst (λ (o : Option (List ℕ)). IfSome o (HaveReading (calls_of (seen_of f.after.client) caller) rest f.fails.at)) (sym (left.clock_is clock at))
-          (subst (λ (l : List Entry). IfSome last.clock.given (HaveReading l rest f.fails.at)) (sym made) read);
+      read = λ clock at. subst (λ (o : Readings). IfSome o.told (HaveReading (calls_of (seen_of f.after.client) caller) rest f.fails.at)) (sym (left.clock_is clock at))
+          (subst (λ (l : List Entry). IfSome last.clock.given.told (HaveReading l rest f.fails.at)) (sym made) read);
       none = subst (λ (c : Config). MakesNone (replay c (seen_of f.after.client)) f.fails.at (kept asked) (no.Journal size)) (ap (λ (n : Named Config). n.fixed) (f.from_old.shared_is ∙ g.shared_is) ∙ config_is) f.fails.reason;
     }
 
-held-met : {C : Type 0} (given : C → Option (List ℕ)) (clocks : List C) (s : Script) (shared : Named Config) (l0 l1 r0 r1 launcher reaping : Post) (size : ℕ) (history : List Entry) → shared.fixed ≡ s.config
+held-met : {C : Type 0} (given : C → Readings) (clocks : List C) (s : Script) (shared : Named Config) (l0 l1 r0 r1 launcher reaping : Post) (size : ℕ) (history : List Entry) → shared.fixed ≡ s.config
     → IsLeftBy given clocks history (launcher_of s) launcher → IsLeftBy given clocks history (reaper_of s) reaping → HasGoneOn shared l0 l1 launcher → HasGoneOn shared r0 r1 reaping
     → (why : Refusal) → why ≡ OutOfResource (limit.Journal size) → IsHeldUp l0 l1 r0 r1 (Unit {0}) why → IsMet given clocks s history size
 unfolding meets
@@ -241,15 +241,15 @@ left-own [] rest = refl
 left-own (w ∷ ws) rest = left-own ws rest
 
 -- how the play of a client's block stands in the whole history
-up-to : {A C : Type 0} (given : C → Option (List ℕ)) (clocks : List C) (clock : C) (s : Script) (shared : Named Config) (names : List (List ℕ × Given)) (block : List Line) (client : Seat) (caller : ℕ) (history : List Entry)
-    → slice_get clocks caller ≡ Some clock → shared.fixed ≡ s.config → BeginsWith history (seen_of client) → calls_of (seen_of client) caller ≡ mine_of client → calls_of history caller ≡ mine_of client
+up-to : {A C : Type 0} (given : C → Readings) (clocks : List C) (clock : C) (s : Script) (shared : Named Config) (names : List (List ℕ × Given)) (block : List Line) (client : Seat) (caller : ℕ) (history : List Entry)
+    → slice_get clocks caller ≡ Some clock → (given clock).caller ≡ Some caller → shared.fixed ≡ s.config → BeginsWith history (seen_of client) → calls_of (seen_of client) caller ≡ mine_of client → calls_of history caller ≡ mine_of client
     → (r : Result A Stopped) → r ≢ Err stopped.Memory → PlaysOn shared.fixed s names block (mine_of client) (seen_of client) (given clock) r → PlaysUpTo given clocks s names block caller history
-up-to given clocks clock s shared names block client caller history at config_is begins in_seen in_all (Ok a) not p = inl (subst (λ (es : List Entry). Plays s names 0 block es) (sym in_all) p)
-up-to given clocks clock s shared names block client caller history at config_is begins in_seen in_all (Err stopped.Memory) not p = absurd (not refl)
-up-to given clocks clock s shared names block client caller history at config_is begins in_seen in_all (Err (stopped.Full size)) not p =
-    inr (size, cut-first given clocks clock s names block caller (mine_of client) (seen_of client) history size shared.fixed at config_is begins in_seen in_all p)
+up-to given clocks clock s shared names block client caller history at whose config_is begins in_seen in_all (Ok a) not p = inl (subst (λ (es : List Entry). Plays s names 0 block es) (sym in_all) p)
+up-to given clocks clock s shared names block client caller history at whose config_is begins in_seen in_all (Err stopped.Memory) not p = absurd (not refl)
+up-to given clocks clock s shared names block client caller history at whose config_is begins in_seen in_all (Err (stopped.Full size)) not p =
+    inr (size, cut-first given clocks clock s names block caller (mine_of client) (seen_of client) history size shared.fixed at whose config_is begins in_seen in_all p)
 
-module _ {C T : Type 0} (given : C → Option (List ℕ)) (told : T → Option Told) (s : Script) (names : List (List ℕ × Given)) (shared : Named Config) (o p : Seat) (f : First C)
+module _ {C T : Type 0} (given : C → Readings) (told : T → Option Told) (s : Script) (names : List (List ℕ × Given)) (shared : Named Config) (o p : Seat) (f : First C)
     (first : IsFirst given s shared o f) (names_are : names ≡ setup_names s first.own) (played : Plays s [] 0 (lines_of s.setup) first.own)
     (asked asked2 : Option (List Asked)) (fate : ℕ → Fate) (clocks : List C) (full : Option ℕ) (x : Others given told s names shared o p asked asked2 fate (f.clock ∷ []) clocks full) where
   front-size : length (Some first.own ∷ own_lists x.ws) ≡ length s.clients + 1
@@ -290,9 +290,8 @@ module _ {C T : Type 0} (given : C → Option (List ℕ)) (told : T → Option T
         (ap (λ (l : Lists). slice_index_or l (length s.clients + 2) None) (shape ∙ sym (append_assoc (Some first.own ∷ own_lists x.ws) (Some (mine_of x.launcher.client) ∷ []) (Some (mine_of x.reaping) ∷ Some (mine_of x.pass) ∷ [])))
         ∙ at-between ((Some first.own ∷ own_lists x.ws) ++ Some (mine_of x.launcher.client) ∷ []) (Some (mine_of x.reaping)) None (Some (mine_of x.pass) ∷ []) (length s.clients + 2) (omega arith))
 
-    -- the hub's client made none
-    of-hub : calls_of history (length s.clients + 3) ≡ []
-    of-hub =
+    of-pass : calls_of history (length s.clients + 3) ≡ mine_of x.pass
+    of-pass =
         let both : Lists = (Some first.own ∷ own_lists x.ws) ++ Some (mine_of x.launcher.client) ∷ Some (mine_of x.reaping) ∷ [] in
         let size = front-size in
         let longer : length both ≡ length (Some first.own ∷ own_lists x.ws) + 2 = length-append (Some first.own ∷ own_lists x.ws) (Some (mine_of x.launcher.client) ∷ Some (mine_of x.reaping) ∷ []) in
@@ -300,7 +299,10 @@ module _ {C T : Type 0} (given : C → Option (List ℕ)) (told : T → Option T
         (ap (λ (l : Lists). slice_index_or l (length s.clients + 3) None)
         (shape ∙ sym (append_assoc (Some first.own ∷ own_lists x.ws) (Some (mine_of x.launcher.client) ∷ Some (mine_of x.reaping) ∷ []) (Some (mine_of x.pass) ∷ [])))
         ∙ at-between both (Some (mine_of x.pass)) None [] (length s.clients + 3) (omega arith))
-        ∙ x.pass_mine
+
+    -- the hub's client made none
+    of-hub : calls_of history (length s.clients + 3) ≡ []
+    of-hub = of-pass ∙ x.pass_mine
 
     beyond-hub : (k : ℕ) → length s.clients + 3 < k → calls_of history k ≡ []
     beyond-hub k above = closed.strangers k (
@@ -397,6 +399,14 @@ module _ {C T : Type 0} (given : C → Option (List ℕ)) (told : T → Option T
         sym (ap (λ (l : List C). slice_index_or l (length s.clients + 2) c) (sym (append_assoc (f.clock ∷ map (λ (w : Worker C). w.clock) x.ws) (x.launcher_clock ∷ []) (x.reaping_clock ∷ x.pass_clock ∷ [])))
         ∙ at-between ((f.clock ∷ map (λ (w : Worker C). w.clock) x.ws) ++ x.launcher_clock ∷ []) x.reaping_clock c (x.pass_clock ∷ []) (length s.clients + 2) (omega arith)) ∙ at-place (length s.clients + 2) c at
 
+    hub-place : (c : C) → slice_get clocks (length s.clients + 3) ≡ Some c → x.pass_clock ≡ c
+    hub-place c at =
+        let size = length-mapped (λ (w : Worker C). w.clock) x.ws in
+        let count = x.count in
+        let longer = length-append (f.clock ∷ map (λ (w : Worker C). w.clock) x.ws) (x.launcher_clock ∷ x.reaping_clock ∷ []) in
+        sym (ap (λ (l : List C). slice_index_or l (length s.clients + 3) c) (sym (append_assoc (f.clock ∷ map (λ (w : Worker C). w.clock) x.ws) (x.launcher_clock ∷ x.reaping_clock ∷ []) (x.pass_clock ∷ [])))
+        ∙ at-between ((f.clock ∷ map (λ (w : Worker C). w.clock) x.ws) ++ x.launcher_clock ∷ x.reaping_clock ∷ []) x.pass_clock c [] (length s.clients + 3) (omega arith)) ∙ at-place (length s.clients + 3) c at
+
     client-place : (i : ℕ) (d : Worker C) → i < length x.ws → (c : C) → slice_get clocks (i + 1) ≡ Some c → (slice_index_or x.ws i d).clock ≡ c
     client-place i d below c at =
         let next : i + 1 ≡ suc i = omega arith in
@@ -412,19 +422,26 @@ module _ {C T : Type 0} (given : C → Option (List ℕ)) (told : T → Option T
         let at : slice_get clocks (i + 1) ≡ Some (slice_index_or clocks (i + 1) f.clock) = slice_get-get_or clocks (i + 1) f.clock there in
         at ∙ ap (λ (c : C). Some c) (sym (client-place i d below (slice_index_or clocks (i + 1) f.clock) at))
 
-    timed-by : (k : ℕ) (own : List Entry) (mine c : C) → IsTimed own (given mine) → mine ≡ c → calls_of history k ≡ own → IsTimed (calls_of history k) (given c)
-    timed-by k own mine c t same is = subst (λ (es : List Entry). IsTimed es (given c)) (sym is) (subst (λ (y : C). IsTimed own (given y)) same t)
+    timed-by : (k : ℕ) (own : List Entry) (mine c : C) → IsTimed (Some k) own (given mine) → mine ≡ c → calls_of history k ≡ own → IsTimed (Some k) (calls_of history k) (given c)
+    timed-by k own mine c t same is = subst (λ (es : List Entry). IsTimed (Some k) es (given c)) (sym is) (subst (λ (y : C). IsTimed (Some k) own (given y)) same t)
 
-    all-timed : (k : ℕ) → (c : C) → slice_get clocks k ≡ Some c → IsTimed (calls_of history k) (given c)
-    all-timed = by-caller (λ k. (c : C) → slice_get clocks k ≡ Some c → IsTimed (calls_of history k) (given c)) (length s.clients)
+    -- behind the reaper comes the hub, and there are no further clocks
+    hub-timed : (k : ℕ) → length s.clients + 2 < k → (c : C) → slice_get clocks k ≡ Some c → IsTimed (Some k) (calls_of history k) (given c)
+    hub-timed k above c at =
+        let here : k ≡ length s.clients + 3 = (let w = slice_get_within clocks k c at in let z = clocks-size in omega arith) in
+        subst (λ (n : ℕ). IsTimed (Some n) (calls_of history n) (given c)) (sym here)
+        (timed-by (length s.clients + 3) (mine_of x.pass) x.pass_clock c x.pass_timed (hub-place c (subst (λ (n : ℕ). slice_get clocks n ≡ Some c) here at)) of-pass)
+
+    all-timed : (k : ℕ) → (c : C) → slice_get clocks k ≡ Some c → IsTimed (Some k) (calls_of history k) (given c)
+    all-timed = by-caller (λ k. (c : C) → slice_get clocks k ≡ Some c → IsTimed (Some k) (calls_of history k) (given c)) (length s.clients)
         (λ c at. timed-by 0 first.own f.clock c first.timed (at-place 0 c at) of-setup)
         (λ i h c at. let below : i < length x.ws = (let n = x.count in omega arith) in
         let d = some-item x.ws i below in
         timed-by (i + 1) (mine_of (slice_index_or x.ws i d).client) (slice_index_or x.ws i d).clock c (x.clients i d below).back.timed (client-place i d below c at) (of-client i d below))
         (λ c at. timed-by (length s.clients + 1) (mine_of x.launcher.client) x.launcher_clock c
-        (subst (λ (g : Option (List ℕ)). IsTimed (mine_of x.launcher.client) g) (sym x.launcher_given) x.launcher_back.timed) (launcher-place c at) of-launcher)
+        (subst (λ (g : Readings). IsTimed (Some (length s.clients + 1)) (mine_of x.launcher.client) g) (sym x.launcher_given) x.launcher_back.timed) (launcher-place c at) of-launcher)
         (λ c at. timed-by (length s.clients + 2) (mine_of x.reaping) x.reaping_clock c x.reaping_back.timed (reaper-place c at) of-reaper)
-        (λ k above c at. none-timed (given c) (calls_of history k) (of-others k above))
+        hub-timed
 
     -- ---- the blocks
 
@@ -446,7 +463,7 @@ module _ {C T : Type 0} (given : C → Option (List ℕ)) (told : T → Option T
         let d = some-item x.ws i below in
         let e = x.clients i d below in
         subst (λ (ns : List (List ℕ × Given)). PlaysUpTo given clocks s ns block (i + 1) history) names-given
-        (up-to given clocks (slice_index_or x.ws i d).clock s shared names block (slice_index_or x.ws i d).client (i + 1) history (client-clock i d below) config_is (client-known i d below) (own-seen i d below) (of-client i d below) (slice_index_or x.ws i d).ended e.sufficed (e.played block at))
+        (up-to given clocks (slice_index_or x.ws i d).clock s shared names block (slice_index_or x.ws i d).client (i + 1) history (client-clock i d below) e.back.timed.caller config_is (client-known i d below) (own-seen i d below) (of-client i d below) (slice_index_or x.ws i d).ended e.sufficed (e.played block at))
 
     whole-client : ((i : ℕ) (d : Worker C) → i < length x.ws → (slice_index_or x.ws i d).ended ≡ Ok tt) → (i : ℕ) (block : List Line) → slice_get s.clients i ≡ Some block
         → Plays s (names_given s history) 0 block (calls_of history (i + 1))
@@ -504,7 +521,7 @@ module _ {C T : Type 0} (given : C → Option (List ℕ)) (told : T → Option T
         let stops : StopsAt shared.fixed s names block (mine_of w.client) (seen_of w.client) (given w.clock) size =
         subst (λ (r : Result (Unit {0}) Stopped). PlaysOn shared.fixed s names block (mine_of w.client) (seen_of w.client) (given w.clock) r) is ((x.clients i d below).played block at) in
         by_block i block at (subst (λ (ns : List (List ℕ × Given)). IsCutShort given clocks s ns block (i + 1) history size) names-given
-        (cut-first given clocks w.clock s names block (i + 1) (mine_of w.client) (seen_of w.client) history size shared.fixed (client-clock i d below) config_is (client-known i d below) (own-seen i d below) (of-client i d below) stops))
+        (cut-first given clocks w.clock s names block (i + 1) (mine_of w.client) (seen_of w.client) history size shared.fixed (client-clock i d below) (x.clients i d below).back.timed.caller config_is (client-known i d below) (own-seen i d below) (of-client i d below) stops))
 
     -- what launcher and reaper left
     left-launcher : IsLeftBy given clocks history (launcher_of s) x.launcher
@@ -542,7 +559,7 @@ module _ {C T : Type 0} (given : C → Option (List ℕ)) (told : T → Option T
           plays = all;
           callers = callers-are;
           quiet = rest.quiet;
-          rest = λ c at. subst (λ (y : C). IfSome (given y) (IsSettledAt s.config history)) (launcher-place c at) (subst (λ (g : Option (List ℕ)). IfSome g (IsSettledAt s.config history)) (sym x.launcher_given) rest.last);
+          rest = λ c at. subst (λ (y : C). IfSome (given y).told (IsSettledAt s.config history)) (launcher-place c at) (subst (λ (g : Readings). IfSome g.told (IsSettledAt s.config history)) (sym x.launcher_given) rest.last);
           outside = λ none. agreed law (alone-all all) asked2 (x.keeps none) (x.agrees is none);
         }
     ends-of law (Some size) is e = behind_setup setup-played up-to-all (met-by size e) (λ none. asked-then asked2 (x.keeps none)) callers-are

@@ -1,11 +1,13 @@
 -- What callbacks hear of a run: GFD.231, notifications; from where on, and by whom, is our profile.
 use Rattle.std.specs.Prelude.{◌≡◌, ℕ, List, slice_set, Option, Some}
+use Rattle.drmaa_types.specs.Readings.{Readings}
 use Rattle.drmaa_types.specs.declared.changes.Notification.{Notification}
 use Rattle.drmaa_model.specs.declared.configs.Config.{Config}
 use Rattle.drmaa_model.specs.declared.entries.Entry.{Entry}
 use Rattle.turn_lock.specs.Histories.{BeginsWith}
 use Rattle.turn_lock.specs.Tokens.{Named, BelongsTo, IsFree}
 use Rattle.call_history.specs.Clients.{Seat, seen_of, mine_of, number_of, retired_of}
+use Rattle.call_history.specs.Timed.{StaysTimed}
 use Rattle.notify_hub.specs.Ears.{HaveHeard}
 use Rattle.notify_hub.specs.Hubs.{Following, noted, IsNoteOf, IsNoteAt, MayBe, FollowsNote}
 use Rattle.notify_hub.specs.Places.{ArePlaced, HavePlaces, changes_of}
@@ -41,6 +43,10 @@ pub record GoesOn {B : Type 0} (counted : B → ℕ) (told : B → Option (List 
   pub still : IsStillBeside shared client after
   pub note : IsNoteOf shared new.note
   pub kept : KeepsCallbacks counted told old new
+
+-- The clock of a hub's client is still the same caller's, and told the moments of the client's entries, if it did before.
+pub record KeepsTime (before : List Entry) (early : Readings) (after : List Entry) (late : Readings) : Type 0 where
+  pub timed : StaysTimed before early after late
 
 -- Setup's callbacks: the hub has followed all of setup's entries, and the numbers that they registered have their places.
 pub record HearSetup {B : Type 0} (counted : B → ℕ) (told : B → Option (List Notification)) (shared : Named Config) (own : List Entry) (old new : Following B) : Type 0 where

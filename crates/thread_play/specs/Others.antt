@@ -4,6 +4,7 @@ use Rattle.std.specs.List.{slice_get}
 use Rattle.child_spawner.specs.declared.fates.Asked.{Asked}
 use Rattle.child_spawner.specs.declared.fates.Fate.{Fate}
 use Rattle.child_spawner.specs.Children.{Told}
+use Rattle.drmaa_types.specs.Readings.{Readings}
 use Rattle.drmaa_types.specs.declared.refusals.Refusal.TheVariants.{OutOfResource}
 use Rattle.drmaa_types.specs.declared.refusals.Limit.TheVariants as limit
 use Rattle.drmaa_model.specs.declared.configs.Config.{Config}
@@ -26,25 +27,25 @@ use Rattle.thread_play.specs.declared.workers.Worker.{Worker}
 use Rattle.thread_play.specs.Hubs.{FollowsAll}
 use Rattle.thread_play.specs.Stages.{PlaysOn}
 
--- a client that is back, with its number
-pub record IsBack (number : ℕ) (given : Option (List ℕ)) (client : Seat) : Type 0 where
+-- a client that is back, with its number, and the clock that was handed out to it
+pub record IsBack (number : ℕ) (given : Readings) (client : Seat) : Type 0 where
   pub number_is : number_of client ≡ number
   pub own : KnowsItsOwn client
-  pub timed : IsTimed (mine_of client) given
+  pub timed : IsTimed (Some number) (mine_of client) given
 
 -- the client of a block is back, and so far it was played
-pub record IsEnded {C : Type 0} (given : C → Option (List ℕ)) (config : Config) (s : Script) (names : List (List ℕ × Given)) (place : ℕ) (w : Worker C) : Type 0 where
+pub record IsEnded {C : Type 0} (given : C → Readings) (config : Config) (s : Script) (names : List (List ℕ × Given)) (place : ℕ) (w : Worker C) : Type 0 where
   pub back : IsBack (place + 1) (given w.clock) w.client
   pub sufficed : w.ended ≢ Err stopped.Memory
   pub played : (block : List Line) → slice_get s.clients place ≡ Some block → PlaysOn config s names block (mine_of w.client) (seen_of w.client) (given w.clock) w.ended
 
--- A desk went on from one post to another, and from there to a last one: it was its caller's from the beginning, and its clock had told
--- the moments of the caller's entries.
+-- A desk went on from one post to another, and from there to a last one: it and its clock were its caller's from the beginning, and the
+-- clock had told the moments of the caller's entries.
 pub record HasGoneOn (shared : Named Config) (old mid new : Post) : Type 0 where
   pub shared_is : old.shared ≡ shared
   pub number : number_of new.client ≡ number_of old.client
   pub own : KnowsItsOwn old.client
-  pub timed : IsTimed (mine_of old.client) old.clock.given
+  pub timed : IsTimed (Some (number_of old.client)) (mine_of old.client) old.clock.given
   pub on : IsStillAt mid new
 
 -- Why a run was stopped: launcher or reaper met the size at some time before these last posts, or a client did.
@@ -65,7 +66,7 @@ Ends shared ws launcher reaping (Some size) = IsFullAtEnd shared ws launcher rea
 
 -- What is left once all are back: each client's entries under its number, then the launcher's, the reaper's, and those of the hub's
 -- client, which made none.
-pub record Others {C T : Type 0} (given : C → Option (List ℕ)) (told : T → Option Told) (s : Script) (names : List (List ℕ × Given)) (shared : Named Config) (o p : Seat)
+pub record Others {C T : Type 0} (given : C → Readings) (told : T → Option Told) (s : Script) (names : List (List ℕ × Given)) (shared : Named Config) (o p : Seat)
     (asked asked_after : Option (List Asked)) (fate : ℕ → Fate) (clocks clocks_after : List C) (full : Option ℕ) : Type 0 where
   pub opener : BelongsTo shared p
   pub begins : BeginsWith (seen_of p) (seen_of o)
@@ -83,6 +84,7 @@ pub record Others {C T : Type 0} (given : C → Option (List ℕ)) (told : T →
   pub pass : Seat
   pub pass_clock : C
   pub pass_mine : mine_of pass ≡ []
+  pub pass_timed : IsTimed (Some (length s.clients + 3)) (mine_of pass) (given pass_clock)
   pub retired : retired_of p ≡ retired_of o ++ (map (λ (w : Worker C). Some (mine_of w.client)) ws ++ Some (mine_of launcher.client) ∷ Some (mine_of reaping) ∷ Some (mine_of pass) ∷ [])
   pub clocks_are : clocks_after ≡ clocks ++ (map (λ (w : Worker C). w.clock) ws ++ launcher_clock ∷ reaping_clock ∷ pass_clock ∷ [])
   -- the opener has seen what launcher and reaper had, and the launcher's client what the opener had before, and each client
@@ -99,7 +101,7 @@ pub record Others {C T : Type 0} (given : C → Option (List ℕ)) (told : T →
   pub ends : Ends shared ws launcher (record { shared = shared; client = reaping; clock = dial (given reaping_clock) reaping_least }) full
 
 -- The hub's client has seen what the launcher's and the reaper's had, and all changes of that were handed over.
-pub record OthersHeard {B C T : Type 0} (given : C → Option (List ℕ)) (told : T → Option Told) (s : Script) (names : List (List ℕ × Given)) (shared : Named Config) (o p : Seat)
+pub record OthersHeard {B C T : Type 0} (given : C → Readings) (told : T → Option Told) (s : Script) (names : List (List ℕ × Given)) (shared : Named Config) (o p : Seat)
     (asked asked_after : Option (List Asked)) (fate : ℕ → Fate) (clocks clocks_after : List C) (full : Option ℕ) (hub : Following B) : Type 0 where
   pub others : Others given told s names shared o p asked asked_after fate clocks clocks_after full
   pub known : BeginsWith (seen_of p) (seen_of others.pass)

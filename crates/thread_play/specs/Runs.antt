@@ -3,6 +3,7 @@ use Rattle.std.specs.Prelude.{◌≡◌, ◌⊎◌, ℕ, ◌+◌, ◌<◌, Bool,
 use Rattle.std.specs.List.{slice_get}
 use Rattle.child_spawner.specs.declared.fates.Asked.{Asked}
 use Rattle.child_spawner.specs.declared.fates.Fate.{Fate}
+use Rattle.drmaa_types.specs.Readings.{Readings}
 use Rattle.drmaa_types.specs.declared.identifiers.JobId.{JobId}
 use Rattle.drmaa_model.specs.declared.calls.Call.{Call}
 use Rattle.drmaa_model.specs.declared.calls.Call.TheVariants as call
@@ -86,9 +87,9 @@ pub record IsSettledAt (config : Config) (history : List Entry) (readings : List
 -- ---- a run that was stopped by the journal's size
 
 -- A client's block was played up to a line: what this one asks made no entry, since after some beginning of the history, which has all
--- of the client's entries, the journal would have had this size. The readings of that call are the last ones of the client's clock, where
--- it tells them, behind the moments of the client's entries.
-pub record IsCutShort {C : Type 0} (given : C → Option (List ℕ)) (clocks : List C) (s : Script) (names : List (List ℕ × Given)) (block : List Line) (caller : ℕ) (history : List Entry) (size : ℕ) : Type 0 where
+-- of the client's entries, the journal would have had this size. The readings of that call are the last ones of the clock that was
+-- handed out to the client, where it tells them, behind the moments of the client's entries.
+pub record IsCutShort {C : Type 0} (given : C → Readings) (clocks : List C) (s : Script) (names : List (List ℕ × Given)) (block : List Line) (caller : ℕ) (history : List Entry) (size : ℕ) : Type 0 where
   pub front : List Line
   pub line : Line
   pub back : List Line
@@ -99,12 +100,12 @@ pub record IsCutShort {C : Type 0} (given : C → Option (List ℕ)) (clocks : L
   pub own : calls_of seen caller ≡ calls_of history caller
   pub clock : C
   pub of_caller : slice_get clocks caller ≡ Some clock
-  pub told : Option (List ℕ)
-  pub timed : IsTimed (calls_of history caller) told
+  pub told : Readings
+  pub timed : IsTimed (Some caller) (calls_of history caller) told
   pub full : IsFullFor s.config s (names_by s names front (calls_of history caller)) (last_moment 0 (calls_of history caller)) line seen told (given clock) size
 
 -- a client's block was played whole, or up to a line at which some size was met
-abbrev pub PlaysUpTo : {C : Type 0} → (C → Option (List ℕ)) → List C → Script → List (List ℕ × Given) → List Line → ℕ → List Entry → Type 0
+abbrev pub PlaysUpTo : {C : Type 0} → (C → Readings) → List C → Script → List (List ℕ × Given) → List Line → ℕ → List Entry → Type 0
 PlaysUpTo given clocks s names block caller history = Plays s names 0 block (calls_of history caller) ⊎ ((size : ℕ) × IsCutShort given clocks s names block caller history size)
 
 -- these readings have this moment, behind the moments of the first entries and before those of the others
@@ -117,12 +118,12 @@ pub record HaveReading (first rest : List Entry) (at : ℕ) (readings : List ℕ
 
 -- the moment is a reading of this caller's clock, where it tells them, behind the moments of its first entries and before those of its
 -- others
-abbrev pub IsReadBy : {C : Type 0} → (C → Option (List ℕ)) → List C → ℕ → List Entry → List Entry → ℕ → Type 0
-IsReadBy {C} given clocks caller first rest at = (clock : C) → slice_get clocks caller ≡ Some clock → IfSome (given clock) (HaveReading first rest at)
+abbrev pub IsReadBy : {C : Type 0} → (C → Readings) → List C → ℕ → List Entry → List Entry → ℕ → Type 0
+IsReadBy {C} given clocks caller first rest at = (clock : C) → slice_get clocks caller ≡ Some clock → IfSome (given clock).told (HaveReading first rest at)
 
 -- This call of a caller made no entry, since after some beginning of the history, at a reading of the caller's clock, the journal would
 -- have had this size. The beginning has all entries that the caller had made by then.
-pub record MeetsSize {C : Type 0} (given : C → Option (List ℕ)) (clocks : List C) (config : Config) (history : List Entry) (caller : ℕ) (asked : Call) (size : ℕ) : Type 0 where
+pub record MeetsSize {C : Type 0} (given : C → Readings) (clocks : List C) (config : Config) (history : List Entry) (caller : ℕ) (asked : Call) (size : ℕ) : Type 0 where
   pub seen : List Entry
   pub begins : BeginsWith history seen
   pub rest : List Entry
@@ -133,7 +134,7 @@ pub record MeetsSize {C : Type 0} (given : C → Option (List ℕ)) (clocks : Li
 
 -- Which call met the size: the one that a client's next line asks; the taking of a launch or of an order; or the report of the order
 -- that the reaper took last.
-pub data IsMet {C : Type 0} (given : C → Option (List ℕ)) (clocks : List C) (s : Script) (history : List Entry) (size : ℕ) : Type 0 where
+pub data IsMet {C : Type 0} (given : C → Readings) (clocks : List C) (s : Script) (history : List Entry) (size : ℕ) : Type 0 where
   by_block : (n : ℕ) (block : List Line) → slice_get s.clients n ≡ Some block → IsCutShort given clocks s (names_given s history) block (n + 1) history size → IsMet given clocks s history size
   by_launch : MeetsSize given clocks s.config history (launcher_of s) call.TakeLaunch size → IsMet given clocks s history size
   by_order : MeetsSize given clocks s.config history (reaper_of s) call.TakeSignal size → IsMet given clocks s history size
@@ -147,7 +148,7 @@ AreAsked es starts = requests_in es ≡ map (λ (a : Asked). record { job = a.jo
 -- The run was stopped since the journal would have had this size: within setup, and then nobody else made a call, and nothing was asked
 -- of the spawner; or behind it, and then each launch was asked of the spawner and nothing else, where it tells and nothing had been
 -- asked of it before. There are as many clocks as callers.
-pub data IsStopped {C : Type 0} (given : C → Option (List ℕ)) (clocks : List C) (s : Script) (history : List Entry) (asked asked_after : Option (List Asked)) (size : ℕ) : Type 0 where
+pub data IsStopped {C : Type 0} (given : C → Readings) (clocks : List C) (s : Script) (history : List Entry) (asked asked_after : Option (List Asked)) (size : ℕ) : Type 0 where
   in_setup : IsCutShort given clocks s [] (lines_of s.setup) 0 history size → ((caller : ℕ) → 0 < caller → calls_of history caller ≡ []) → asked_after ≡ asked → length clocks ≡ 1
       → IsStopped given clocks s history asked asked_after size
   behind_setup : Plays s [] 0 (lines_of s.setup) (calls_of history 0)
@@ -160,21 +161,22 @@ pub data IsStopped {C : Type 0} (given : C → Option (List ℕ)) (clocks : List
 -- Each block was played whole. There were so many callers. At the end no job holds slots and no order stands, and the machine is settled
 -- at the last reading of the launcher's clock, where it tells them. Where the spawner tells, and nothing had been asked of it, the
 -- outside agrees with the history.
-pub record IsWhole {C : Type 0} (given : C → Option (List ℕ)) (s : Script) (history : List Entry) (asked asked_after : Option (List Asked)) (fate : ℕ → Fate) (clocks : List C) : Type 0 where
+pub record IsWhole {C : Type 0} (given : C → Readings) (s : Script) (history : List Entry) (asked asked_after : Option (List Asked)) (fate : ℕ → Fate) (clocks : List C) : Type 0 where
   pub plays : PlaysAll s history
   pub callers : length clocks ≡ hub_of s + 1
   pub quiet : IsQuiet (replay s.config history).plan
-  pub rest : (clock : C) → slice_get clocks (launcher_of s) ≡ Some clock → IfSome (given clock) (IsSettledAt s.config history)
+  pub rest : (clock : C) → slice_get clocks (launcher_of s) ≡ Some clock → IfSome (given clock).told (IsSettledAt s.config history)
   pub outside : asked ≡ Some [] → IfSome asked_after (λ starts. AgreesWithOutside starts fate (acts_of history))
 
 -- how a run ended, by the size that stopped it
-abbrev pub EndsBy : {C : Type 0} → (C → Option (List ℕ)) → Script → List Entry → Option (List Asked) → Option (List Asked) → (ℕ → Fate) → List C → Option ℕ → Type 0
+abbrev pub EndsBy : {C : Type 0} → (C → Readings) → Script → List Entry → Option (List Asked) → Option (List Asked) → (ℕ → Fate) → List C → Option ℕ → Type 0
 EndsBy given s history asked asked_after fate clocks None = IsWhole given s history asked asked_after fate clocks
 EndsBy given s history asked asked_after fate clocks (Some size) = IsStopped given clocks s history asked asked_after size
 
 -- A run left this history, and these clocks of its callers, in the order of their numbers.
-pub record HasRun {C : Type 0} (given : C → Option (List ℕ)) (s : Script) (history : List Entry) (asked asked_after : Option (List Asked)) (fate : ℕ → Fate) (clocks : List C) (full : Option ℕ) : Type 0 where
+pub record HasRun {C : Type 0} (given : C → Readings) (s : Script) (history : List Entry) (asked asked_after : Option (List Asked)) (fate : ℕ → Fate) (clocks : List C) (full : Option ℕ) : Type 0 where
   pub run : IsRun s history
-  -- the moments of each caller's entries are readings of its clock, in their order, where it tells them
-  pub timed : (caller : ℕ) (clock : C) → slice_get clocks caller ≡ Some clock → IsTimed (calls_of history caller) (given clock)
+  -- the clock at each caller's place is one that was handed out to this caller, and the moments of its entries are readings of that
+  -- clock, in their order, where it tells them
+  pub timed : (caller : ℕ) (clock : C) → slice_get clocks caller ≡ Some clock → IsTimed (Some caller) (calls_of history caller) (given clock)
   pub ends : EndsBy given s history asked asked_after fate clocks full

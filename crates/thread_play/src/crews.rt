@@ -2,15 +2,15 @@
 ghost use Rattle.std.specs.Prelude.{◌≡◌, ◌<◌, ◌^◌, All, IfOk, IfSome, IsSome};
 ghost use Rattle.slab.specs.Slab.{get};
 ghost use Rattle.turn_lock.specs.Tokens.{IsFree};
+ghost use Rattle.call_history.specs.Clients.{mine_of};
+ghost use Rattle.attendant.specs.Pairs.{ArePlaced, HasAttended};
 ghost use Rattle.notify_hub.specs.Hubs.{IsNoteOf};
-ghost use Rattle.thread_play.specs.Hubs.{GoesOn};
-ghost use Rattle.thread_play.specs.Pairs.{ArePlaced, HasAttended};
+ghost use Rattle.thread_play.specs.Hubs.{GoesOn, KeepsTime};
 ghost use Rattle.thread_play.specs.Stages.{IsReady, HasPlayed, HavePlayed};
 
-use crate::pairs::{Attended, Pair, attend_there};
 use crate::passes::{Pass, follow};
 use crate::workers::{Worker, play_own};
-use attendant::{Done, Reaper};
+use attendant::{Attended, Done, Pair, Reaper, attend_there};
 use block_play::Names;
 use call_history::{Bell, SharedMachine};
 use child_spawner::Spawner;
@@ -70,6 +70,7 @@ fn play_all<R: Threads + Wait + Pause + Sync, C: Clock + Send + Drop, B: Callbac
     requires size { shared.now.fixed.journal < 2 ^ 64 }
     ensures workers { IfOk result (λ end. HavePlayed C.given shared.now script.now names.now workers.old.items workers.new.items) }
     ensures hub { GoesOn B.counted B.told shared.now hub.old pass.old.client hub.new pass.new.client }
+    ensures timed { KeepsTime (mine_of pass.old.client) (C.given pass.old.clock) (mine_of pass.new.client) (C.given pass.new.clock) }
 {
     let (played, ()) = join_mut(
         rt,
@@ -117,6 +118,7 @@ fn join_all<
         (get reaper.old.children) (get reaper.new.children) reaper.old.order reaper.new.order a.ended)) }
     ensures workers { IfOk result.1 (λ end. HavePlayed C.given shared.now script.now names.now workers.old.items workers.new.items) }
     ensures hub { GoesOn B.counted B.told shared.now hub.old pass.old.client hub.new pass.new.client }
+    ensures timed { KeepsTime (mine_of pass.old.client) (C.given pass.old.clock) (mine_of pass.new.client) (C.given pass.new.clock) }
 {
     join_mut(
         rt,
@@ -166,6 +168,7 @@ pub(crate) fn play_beside<
         (get reaper.old.children) (get reaper.new.children) reaper.old.order reaper.new.order result.0.ended }
     ensures workers { IfOk result.1 (λ end. HavePlayed C.given shared.now script.now names.now workers.old.items workers.new.items) }
     ensures hub { GoesOn B.counted B.told shared.now hub.old pass.old.client hub.new pass.new.client }
+    ensures timed { KeepsTime (mine_of pass.old.client) (C.given pass.old.clock) (mine_of pass.new.client) (C.given pass.new.clock) }
 {
     let done = Done::new(1);
     let mut pair = Some(pair);

@@ -5,7 +5,6 @@ mod crews;
 mod ends;
 mod firsts;
 mod laws;
-mod pairs;
 mod passes;
 mod runs;
 mod workers;

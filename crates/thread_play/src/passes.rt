@@ -3,13 +3,12 @@ ghost use Rattle.std.specs.Prelude.{◌≡◌, ◌+◌, ◌<◌, ◌≤◌, ◌^
 ghost use Rattle.turn_lock.specs.Histories.{BeginsWith};
 ghost use Rattle.turn_lock.specs.Tokens.{BelongsTo, IsFree};
 ghost use Rattle.call_history.specs.Clients.{seen_of, mine_of};
-ghost use Rattle.call_history.specs.Timed.{IsTimed};
+ghost use Rattle.call_history.specs.Timed.{StaysTimed};
+ghost use Rattle.attendant.specs.Pairs.{ArePlaced};
 ghost use Rattle.notify_hub.specs.Hubs.{IsNoteOf};
-ghost use Rattle.thread_play.specs.Hubs.{FollowsAll, GoesOn, IsStillBeside, IsReturned};
-ghost use Rattle.thread_play.specs.Pairs.{ArePlaced};
+ghost use Rattle.thread_play.specs.Hubs.{FollowsAll, GoesOn, IsStillBeside, IsReturned, KeepsTime};
 
-use crate::pairs::Pair;
-use attendant::Done;
+use attendant::{Done, Pair};
 use call_history::{Bell, Client, MachineOpener, Pace, SharedMachine};
 use drmaa_types::{Clock, WaitKind};
 use notify_hub::{Callback, Hub};
@@ -35,7 +34,7 @@ pub(crate) fn pump_once<R: Wait, C: Clock, B: Callback>(
     requires size { shared.now.fixed.journal < 2 ^ 64 }
     ensures on { GoesOn B.counted B.told shared.now hub.old pass.old.client hub.new pass.new.client }
     ensures follows { FollowsAll shared.now (seen_of pass.new.client) hub.new }
-    ensures timed { IsTimed (mine_of pass.old.client) (C.given pass.old.clock) → IsTimed (mine_of pass.new.client) (C.given pass.new.clock) }
+    ensures timed { StaysTimed (mine_of pass.old.client) (C.given pass.old.clock) (mine_of pass.new.client) (C.given pass.new.clock) }
 {
     hub.pump(rt, shared, &mut pass.client, &mut pass.clock);
 }
@@ -52,7 +51,8 @@ pub(crate) fn follow<R: Wait + Pause, C: Clock, B: Callback>(
     requires client { IsFree shared.now pass.old.client }
     requires note { IsNoteOf shared.now hub.old.note }
     requires size { shared.now.fixed.journal < 2 ^ 64 }
-    ensures { GoesOn B.counted B.told shared.now hub.old pass.old.client hub.new pass.new.client }
+    ensures on { GoesOn B.counted B.told shared.now hub.old pass.old.client hub.new pass.new.client }
+    ensures timed { KeepsTime (mine_of pass.old.client) (C.given pass.old.clock) (mine_of pass.new.client) (C.given pass.new.clock) }
 {
     if !hub.listens() {
         return;
@@ -100,6 +100,7 @@ pub(crate) fn pump_last<R: Wait, C: Clock, B: Callback>(
     ensures follows { FollowsAll shared.now (seen_of pass.new.client) hub.new }
     ensures launcher { BeginsWith (seen_of pass.new.client) (seen_of pair.old.launcher) }
     ensures reaping { BeginsWith (seen_of pass.new.client) (seen_of pair.old.reaping) }
+    ensures timed { StaysTimed (mine_of pass.old.client) (C.given pass.old.clock) (mine_of pass.new.client) (C.given pass.new.clock) }
 {
     tell(shared, pair, pass);
     pump_once(rt, shared, hub, pass);

@@ -2,7 +2,7 @@
 ghost use Rattle.std.specs.Prelude.{◌≡◌, ◌+◌, ◌≤◌, [], length, IfOk, vec_len};
 ghost use Rattle.turn_lock.specs.Tokens.{BelongsTo, IsFree};
 ghost use Rattle.call_history.specs.Clients.{seen_of, mine_of, retired_of, IsStillAt};
-ghost use Rattle.call_history.specs.Timed.{IsTimed};
+ghost use Rattle.call_history.specs.Timed.{StaysTimed};
 ghost use Rattle.thread_play.specs.Stages.{PlaysOn, Hired, IsReady, HasPlayed};
 
 use block_play::{Names, Stopped, play_block};
@@ -60,7 +60,7 @@ fn play_lines<R: Wait + Pause, C: Clock>(
 ) -> Result<(), Stopped>
     requires { IsFree desk.old.shared.now desk.old.client }
     ensures desk { IsStillAt desk.old.shared.now desk.old.client desk.new.shared.now desk.new.client }
-    ensures timed { IsTimed (mine_of desk.old.client) (C.given desk.old.clock) → IsTimed (mine_of desk.new.client) (C.given desk.new.clock) }
+    ensures timed { StaysTimed (mine_of desk.old.client) (C.given desk.old.clock) (mine_of desk.new.client) (C.given desk.new.clock) }
     ensures played { mine_of desk.old.client ≡ [] →
         PlaysOn desk.old.shared.now.fixed script.now names.now lines.now (mine_of desk.new.client) (seen_of desk.new.client) (C.given desk.new.clock) result }
 {

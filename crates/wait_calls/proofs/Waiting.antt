@@ -1,6 +1,5 @@
 -- How a wait goes on from look to look, and how it ends.
 use Rattle.std.proofs.Common.{◌≡◌, ℕ, ◌≤◌, List, [], ◌∷◌, ◌++◌, refl, sym, ap, ◌∙◌, subst, append_assoc, append-nil, Option, Some, None, Result, Ok, Err, inl, inr, IfOk, IfErr, Bool, true, false, arith}
-use Rattle.drmaa_types.specs.Readings.{Reads}
 use Rattle.drmaa_types.specs.declared.identifiers.JobId.{JobId}
 use Rattle.drmaa_types.specs.declared.identifiers.SessionId.{SessionId}
 use Rattle.drmaa_types.specs.declared.moments.Timeout.{Timeout}
@@ -34,23 +33,13 @@ use Rattle.call_history.specs.Looks.{IsLookOf}
 use Rattle.call_history.specs.Calls.{entry_by, IsServed, IsUnserved}
 use Rattle.call_history.specs.ClientLaws.{more-both, makes-both}
 use Rattle.call_history.specs.Clients.{Seat, seen_of, number_of, SeesMore, Makes}
-use Rattle.call_history.specs.Clocks.{Dial, IsReading}
+use Rattle.call_history.specs.Clocks.{Dial, IsReading, Gives}
+use Rattle.call_history.specs.ClockLaws.{gives-one, gives-more}
 use Rattle.call_history.specs.Refused.{refusal_of}
-use Rattle.wait_calls.specs.Waited.{Look, readings_of, Gives, Climb, AreEarly, IsWaited, Answers, IsReached, Reaches, Refuses, Tells, IsRefusal}
+use Rattle.wait_calls.specs.Waited.{Look, readings_of, Climb, AreEarly, IsWaited, Answers, IsReached, Reaches, Refuses, Tells, IsRefusal}
 use Rattle.wait_calls.specs.Waited.Refuses.{by_entry, by_fault}
 
 -- ---- readings
-
-pub gives-first : (b a : Option (List ℕ)) (r : ℕ) → Reads b r a → Gives b (r ∷ []) a
-gives-first b None r rd = tt
-gives-first (Some b) (Some a) r rd = rd
-gives-first None (Some a) r rd = absurd rd
-
-gives-more : (b m a : Option (List ℕ)) (xs : List ℕ) (r : ℕ) → Gives b xs m → Reads m r a → Gives b (xs ++ r ∷ []) a
-gives-more b m None xs r g rd = tt
-gives-more (Some b) (Some m) (Some a) xs r g rd = rd ∙ (ap (λ (l : List ℕ). l ++ r ∷ []) g ∙ append_assoc b xs (r ∷ []))
-gives-more None (Some m) (Some a) xs r g rd = absurd g
-gives-more b None (Some a) xs r g rd = absurd rd
 
 readings-more : (looks : List Look) (l : Look) → readings_of (looks ++ l ∷ []) ≡ readings_of looks ++ l.at ∷ []
 readings-more [] l = refl
@@ -101,7 +90,7 @@ pub record SoFar (config : Config) (before : Dial) (old : Seat) (asked : Call) (
 pub so-far-first : (config : Config) (before : Dial) (old : Seat) (asked : Call) (begun : ℕ) (now : Dial) → IsReading before begun now → SoFar config before old asked begun now old
 so-far-first config before old asked begun now r = record {
   looks = [];
-  gave = gives-first before.given now.given begun r.told;
+  gave = gives-one before.given begun now.given r.told;
   least = r.least;
   rising = r.rising;
   early = begins-self (seen_of old);

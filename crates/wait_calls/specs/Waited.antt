@@ -1,5 +1,5 @@
 -- What a wait of many looks comes to: our profile.
-use Rattle.std.specs.Prelude.{◌≡◌, ℕ, ◌≤◌, List, [], ◌∷◌, ◌++◌, map, Option, Some, None, IfSome, Result, Ok, Err}
+use Rattle.std.specs.Prelude.{◌≡◌, ℕ, ◌≤◌, List, [], ◌∷◌, ◌++◌, map, Some, None, IfSome, Result, Ok, Err}
 use Rattle.drmaa_types.specs.declared.identifiers.JobId.{JobId}
 use Rattle.drmaa_types.specs.declared.identifiers.SessionId.{SessionId}
 use Rattle.drmaa_types.specs.declared.moments.Timeout.{Timeout}
@@ -26,7 +26,7 @@ use Rattle.drmaa_machine.specs.Chronicles.{MakesNone}
 use Rattle.turn_lock.specs.Histories.{BeginsWith}
 use Rattle.call_history.specs.Calls.{entry_by}
 use Rattle.call_history.specs.Clients.{Seat, seen_of, number_of, SeesMore, Makes}
-use Rattle.call_history.specs.Clocks.{Dial}
+use Rattle.call_history.specs.Clocks.{Dial, Gives}
 use Rattle.call_history.specs.Refused.{refusal_of}
 
 -- a look: its reading of the clock, and what the client had seen at it
@@ -36,12 +36,6 @@ pub record Look : Type 0 where
 
 abbrev pub readings_of : List Look → List ℕ
 readings_of looks = map (λ (l : Look). l.at) looks
-
--- a clock that tells its readings gave these, and no others
-abbrev pub Gives : Option (List ℕ) → List ℕ → Option (List ℕ) → Type 0
-Gives before readings None = Unit {0}
-Gives (Some before) readings (Some after) = after ≡ before ++ readings
-Gives None readings (Some after) = ⊥
 
 -- readings from one moment to another, none below the one before it
 abbrev pub Climb : ℕ → List ℕ → ℕ → Type 0

@@ -6,7 +6,7 @@ ghost use Rattle.turn_lock.specs.Histories.{BeginsWith};
 ghost use Rattle.turn_lock.specs.Tokens.{IsFree};
 ghost use Rattle.call_history.specs.Clients.{seen_of, mine_of, StaysAt};
 ghost use Rattle.call_history.specs.Clocks.{dial};
-ghost use Rattle.call_history.specs.Timed.{IsTimed};
+ghost use Rattle.call_history.specs.Timed.{StaysTimed};
 ghost use Rattle.wait_calls.specs.Waited.{IsWaited, Reaches, Refuses, Tells};
 
 use call_history::{Awaited, Desk, NoEntry, Reply, WaitLook};
@@ -39,7 +39,7 @@ pub fn wait<R: Wait + Pause, C: Clock>(
         (λ begun. Call.Wait session jobs kind begun timeout) (Refuses desk.old.shared.now.fixed desk.old.client why desk.new.client)
         (dial (C.given desk.new.clock) (C.least desk.new.clock)) desk.new.client) }
     ensures begins { BeginsWith (seen_of desk.new.client) (seen_of desk.old.client) }
-    ensures timed { IsTimed (mine_of desk.old.client) (C.given desk.old.clock) → IsTimed (mine_of desk.new.client) (C.given desk.new.clock) }
+    ensures timed { StaysTimed (mine_of desk.old.client) (C.given desk.old.clock) (mine_of desk.new.client) (C.given desk.new.clock) }
 {
     let begun = desk.clock.now();
     let mut awaited = Awaited {

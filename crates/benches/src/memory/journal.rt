@@ -2,7 +2,7 @@
 use crate::command::Ending;
 use call_history::{Call, Config, Machine, NoEntry, Reply};
 use client_sessions::plain_job;
-use drmaa_types::{Boxed, CallerId, Exit, JobId, Moment, QueueList, SessionId, Text};
+use drmaa_types::{CallerId, Exit, JobId, Moment, QueueList, SessionId, Shared, Text};
 use std::alloc::Global;
 use std::io;
 
@@ -44,7 +44,7 @@ fn run(alloc: Global) -> Option<Call> {
     let template = plain_job(alloc, Text::from_string(command));
     Some(Call::RunJob {
         session: SessionId(1),
-        template: Boxed::new(alloc, template).ok()?,
+        template: Shared::new(alloc, template).ok()?,
     })
 }
 

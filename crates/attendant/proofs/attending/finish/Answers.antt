@@ -1,15 +1,16 @@
 use Rattle.std.proofs.Common.{[], None, subst, refl, sym}
 use Rattle.std.specs.Prelude.{IsOk}
 use Rattle.std.proofs.lemmas.Result.{err_from_is_err_and}
-use Rattle.attendant.proofs.Desks.{still-same, still-free, still-both}
+use Rattle.attendant.specs.PairLaws.{post-itself}
+use Rattle.attendant.proofs.Desks.{still-free, still-both}
 use Rattle.attendant.proofs.Loops.{attending_on, held_from, looked_once}
 use Rattle.attendant.proofs.Firsts.{stands_on, first_refused}
 use Rattle.attendant.proofs.attending.finish.Goals as goal
 
 pub loop-init : goal.loop-init
 loop-init g c = record {
-  launcher = still-same _ c.requires.launcher;
-  reaping = still-same _ c.requires.reaping;
+  launcher = post-itself _ c.requires.launcher;
+  reaping = post-itself _ c.requires.reaping;
   attending = record { fates = refl; tends = λ t. t; keeps = λ k. k; agrees = λ clean k a. a };
   rounds = ([], refl);
 }

@@ -7,7 +7,8 @@ use Rattle.attendant.specs.Acts.{own_acts}
 use Rattle.attendant.specs.Posts.{post}
 use Rattle.attendant.specs.Loops.{stage}
 use Rattle.attendant.specs.Outside.{Tends, IsHeldUp}
-use Rattle.attendant.proofs.Desks.{still-same, still-free, still-both}
+use Rattle.attendant.specs.PairLaws.{post-itself}
+use Rattle.attendant.proofs.Desks.{still-free, still-both}
 use Rattle.attendant.proofs.Places.{kept_some, first_some}
 use Rattle.attendant.proofs.Loops.{attending_on, held_on, held_from, Looked, looked_none, looked_once}
 use Rattle.attendant.proofs.Firsts.{Stands, stands_on, stands_refused, ends_ok}
@@ -19,8 +20,8 @@ first_is_some o why none some = cc
 
 pub loop-init : goal.loop-init
 loop-init g c = record {
-  launcher = still-same _ c.requires.launcher;
-  reaping = still-same _ c.requires.reaping;
+  launcher = post-itself _ c.requires.launcher;
+  reaping = post-itself _ c.requires.reaping;
   attending = record { fates = refl; tends = λ t. t; keeps = λ k. k; agrees = λ clean k a. a };
   held = tt;
   rounds = ([], refl);

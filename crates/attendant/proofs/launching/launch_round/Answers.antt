@@ -7,12 +7,13 @@ use Rattle.call_history.specs.Clients.{number_of}
 use Rattle.attendant.specs.Acts.{Act, TakeLaunch, own_acts}
 use Rattle.attendant.specs.Posts.{post, Succeeds}
 use Rattle.attendant.specs.Steps.{entry_of, reports_of, Takes, not_taken}
-use Rattle.attendant.proofs.Desks.{still-same, still-both, fails-last}
+use Rattle.attendant.specs.PairLaws.{post-itself}
+use Rattle.attendant.proofs.Desks.{still-both, fails-last}
 use Rattle.attendant.proofs.Entries.{reserved_get, reserved_updates}
 use Rattle.attendant.proofs.launching.launch_round.Goals as goal
 
 pub returns-then-is_err-clause-desk : goal.returns-then-is_err-clause-desk
-returns-then-is_err-clause-desk g c = still-same _ c.requires
+returns-then-is_err-clause-desk g c = post-itself _ c.requires
 
 pub returns-in-Err-clause-steps : goal.returns-in-Err-clause-steps
 returns-in-Err-clause-steps g c =

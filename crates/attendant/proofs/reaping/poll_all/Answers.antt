@@ -2,7 +2,8 @@ use Rattle.std.proofs.Common.{◌≡◌, ◌∙◌, ap, ℕ, ◌+◌, arith, unw
 use Rattle.std.specs.Prelude.{IsOk, Err}
 use Rattle.std.specs.Result.{result_ok}
 use Rattle.drmaa_types.specs.declared.refusals.Refusal.{Refusal}
-use Rattle.attendant.proofs.Desks.{still-same, still-both}
+use Rattle.attendant.specs.PairLaws.{post-itself}
+use Rattle.attendant.proofs.Desks.{still-both}
 use Rattle.attendant.proofs.Ends.{polling_on}
 use Rattle.attendant.proofs.Places.{order_none, places_on, count_on, count_same, kept_some, first_some, places_as, polls_all, loses_later, loses_early, each_none, each_on}
 use Rattle.attendant.proofs.reaping.poll_all.Goals as goal
@@ -39,7 +40,7 @@ loop-key-preserved g c =
 
 pub loop-key-init : goal.loop-key-init
 loop-key-init g c = record {
-  desk = still-same _ c.requires;
+  desk = post-itself _ c.requires;
   polling = record {
     keeping = record { keeps = λ launcher asked fate k. k };
     unanswered = λ u. u;

@@ -3,11 +3,11 @@ use Rattle.attendant.specs.Acts.{own_acts}
 use Rattle.std.proofs.Common.{Some, None}
 use Rattle.slab.specs.Slab.{get}
 use Rattle.attendant.proofs.Ends.{deliver_keeping, report_keeping, report_agreeing, keeping_on}
-use Rattle.attendant.proofs.Desks.{still-same}
+use Rattle.attendant.specs.PairLaws.{post-itself}
 use Rattle.attendant.proofs.reaping.serve_hand.Goals as goal
 
 pub returns-in_default-clause-desk : goal.returns-in_default-clause-desk
-returns-in_default-clause-desk g c = still-same _ c.requires.sits
+returns-in_default-clause-desk g c = post-itself _ c.requires.sits
 
 pub returns-in_default-clause-keeping : goal.returns-in_default-clause-keeping
 returns-in_default-clause-keeping g c = rw c.requires.hand (deliver_keeping g.T.Child.told g.T.Child.faults _ c.args.reaper.now.children c.deliver.new.children c.args.hand c.deliver.new.hand c.deliver.ensures)

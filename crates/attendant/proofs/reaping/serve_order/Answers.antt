@@ -1,5 +1,6 @@
 use Rattle.attendant.specs.Posts.{post}
-use Rattle.attendant.proofs.Desks.{still-same, still-free, still-both}
+use Rattle.attendant.specs.PairLaws.{post-itself}
+use Rattle.attendant.proofs.Desks.{still-free, still-both}
 use Rattle.std.proofs.Common.{None, refl}
 use Rattle.std.proofs.lemmas.Result.{err_from_is_err_and}
 use Rattle.slab.specs.Slab.{get}
@@ -29,7 +30,7 @@ returns-in_err-take_order-clause-steps g c =
       take = c.take_order.result;
       to_taken = c.take_order.ensures.desk;
       takes = rw none at c.take_order.ensures.steps;
-      to_new = still-same _ (still-free _ _ c.take_order.ensures.desk);
+      to_new = post-itself _ (still-free _ _ c.take_order.ensures.desk);
       serves = rw (c.in_err-take_order.was, p.1, p.2) (record { mine_is = refl; hand_is = none; same = λ k. refl; unasked = refl }, refl);
     }
 
@@ -43,6 +44,6 @@ returns-in-None-clause-steps g c = record {
   take = c.take_order.result;
   to_taken = c.take_order.ensures.desk;
   takes = rw c.in-None.is at c.take_order.ensures.steps;
-  to_new = still-same _ (still-free _ _ c.take_order.ensures.desk);
+  to_new = post-itself _ (still-free _ _ c.take_order.ensures.desk);
   serves = rw c.in_ok-take_order.was (record { mine_is = refl; hand_is = c.in-None.is; same = λ k. refl; unasked = refl }, refl);
 }

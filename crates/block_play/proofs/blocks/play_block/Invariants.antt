@@ -1,6 +1,6 @@
 use Rattle.std.proofs.Common.{take}
 use Rattle.call_history.specs.Clients.{mine_of, IsStillAt}
-use Rattle.call_history.specs.Timed.{IsTimed}
+use Rattle.call_history.specs.Timed.{StaysTimed}
 use Rattle.block_play.specs.Played.{PlayedLines}
 use Rattle.block_play.proofs.blocks.play_block.Given as goal
 
@@ -8,6 +8,6 @@ use Rattle.block_play.proofs.blocks.play_block.Given as goal
 abbrev pub invariant-loop-line : goal.invariant-loop-line
 invariant-loop-line g l = record {
   still : IsStillAt l.fn.desk.shared.now l.fn.desk.client l.desk.shared.now l.desk.client;
-  timed : IsTimed (mine_of l.fn.desk.client) (g.C.Clock.given l.fn.desk.clock) → IsTimed (mine_of l.desk.client) (g.C.Clock.given l.desk.clock);
+  timed : StaysTimed (mine_of l.fn.desk.client) (g.C.Clock.given l.fn.desk.clock) (mine_of l.desk.client) (g.C.Clock.given l.desk.clock);
   played : PlayedLines l.script l.fn.names (take l.line-index l.lines) 0 (mine_of l.fn.desk.client) (mine_of l.desk.client) l.names (g.C.Clock.least l.desk.clock);
 }

@@ -14,7 +14,7 @@ returns-in-Err g c =
     let inv = c.loop-line.invariant in
     record {
       desk = still-both c.args.desk.now.shared.now c.loop-line.desk.shared.now c.play_first_line.new.desk.shared.now c.args.desk.now.client c.loop-line.desk.client c.play_first_line.new.desk.client inv.still c.play_first_line.ensures.line.desk;
-      timed = λ t. c.play_first_line.ensures.line.timed (inv.timed t);
+      timed = λ caller t. c.play_first_line.ensures.line.timed caller (inv.timed caller t);
       ok = tt;
       err = stops-lines c.args.script.now [] c.loop-line.names c.args.lines.now (take c.loop-line.line-index c.args.lines.now) (drop (suc c.loop-line.line-index) c.args.lines.now) c.line-item.result
           c.args.desk.now.client c.loop-line.desk.client c.play_first_line.new.desk.client (g.C.Clock.given c.args.desk.now.clock) (g.C.Clock.given c.loop-line.desk.clock) (g.C.Clock.given c.play_first_line.new.desk.clock)
@@ -29,7 +29,7 @@ loop-line-preserved g c =
     let inv = c.loop-line.invariant in
     record {
       still = still-both c.args.desk.now.shared.now c.loop-line.desk.shared.now c.play_first_line.new.desk.shared.now c.args.desk.now.client c.loop-line.desk.client c.play_first_line.new.desk.client inv.still c.play_first_line.ensures.line.desk;
-      timed = λ t. c.play_first_line.ensures.line.timed (inv.timed t);
+      timed = λ caller t. c.play_first_line.ensures.line.timed caller (inv.timed caller t);
       played = subst (λ (ls : List Line). PlayedLines c.args.script.now [] ls 0 (mine_of c.args.desk.now.client) (mine_of c.play_first_line.new.desk.client) c.in-Ok.next (g.C.Clock.least c.play_first_line.new.desk.clock))
           (sym (take_one c.args.lines.now c.loop-line.line-index c.line-item.result c.loop-line-test.true c.line-item.is))
           (played-more c.args.script.now [] c.loop-line.names c.in-Ok.next (take c.loop-line.line-index c.args.lines.now) c.line-item.result (mine_of c.args.desk.now.client) (mine_of c.loop-line.desk.client) (mine_of c.play_first_line.new.desk.client)

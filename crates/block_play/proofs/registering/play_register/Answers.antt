@@ -14,10 +14,10 @@ returns-in-Ok g c =
       line = λ script. record {
         desk = still-at old.shared.now old.shared.now old.client client refl r.client r.number r.begins r.own r.legal;
         timed = r.timed;
-        ok = λ before early. registers-line script c.args.names before old.shared.now.fixed _ _ old.client client c.in-Ok.field-0 (c.in-Ok.ensures.ok c.requires.own);
+        ok = λ before early. registers-line script c.args.names before old.shared.now.fixed _ _ old.client client c.in-Ok.field-0 c.in-Ok.ensures.ok;
         err = tt;
       };
-      hub = register-on old.shared.now _ _ c.args.hub.now c.register.new.self old.client client c.register.result c.requires.size c.requires.own r.ok r.err r.note r.place r.unplaced r.kept r.heard r.legal;
+      hub = register-on old.shared.now _ _ c.args.hub.now c.register.new.self old.client client c.register.result c.requires.size r.ok r.err r.note r.place r.unplaced r.kept r.heard r.legal;
     }
 
 pub returns-in-Err-OutOfResource-Callbacks : goal.returns-in-Err-OutOfResource-Callbacks
@@ -31,10 +31,10 @@ returns-in-Err-OutOfResource-Callbacks g c =
       line = λ script. record {
         desk = still-at old.shared.now old.shared.now old.client client refl r.client r.number r.begins r.own r.legal;
         timed = r.timed;
-        ok = λ before early. refuses-line script c.args.names before old.shared.now.fixed _ _ old.client client why.field-0 same (at-err _ c.register.result why.field-0 why.is (r.err c.requires.own));
+        ok = λ before early. refuses-line script c.args.names before old.shared.now.fixed _ _ old.client client why.field-0 same (at-err _ c.register.result why.field-0 why.is r.err);
         err = tt;
       };
-      hub = register-on old.shared.now _ _ c.args.hub.now c.register.new.self old.client client c.register.result c.requires.size c.requires.own r.ok r.err r.note r.place r.unplaced r.kept r.heard r.legal;
+      hub = register-on old.shared.now _ _ c.args.hub.now c.register.new.self old.client client c.register.result c.requires.size r.ok r.err r.note r.place r.unplaced r.kept r.heard r.legal;
     }
 
 pub returns-in-Err-OutOfResource-Journal : goal.returns-in-Err-OutOfResource-Journal
@@ -49,9 +49,9 @@ returns-in-Err-OutOfResource-Journal g c =
         desk = still-at old.shared.now old.shared.now old.client client refl r.client r.number r.begins r.own r.legal;
         timed = r.timed;
         ok = tt;
-        err = λ before early. fills-line script c.args.names before old.shared.now.fixed _ _ old.client client why.field-0 why.size early same (at-err _ c.register.result why.field-0 why.is (r.err c.requires.own));
+        err = λ before early. fills-line script c.args.names before old.shared.now.fixed _ _ old.client client why.field-0 why.size early same (at-err _ c.register.result why.field-0 why.is r.err);
       };
-      hub = register-on old.shared.now _ _ c.args.hub.now c.register.new.self old.client client c.register.result c.requires.size c.requires.own r.ok r.err r.note r.place r.unplaced r.kept r.heard r.legal;
+      hub = register-on old.shared.now _ _ c.args.hub.now c.register.new.self old.client client c.register.result c.requires.size r.ok r.err r.note r.place r.unplaced r.kept r.heard r.legal;
     }
 
 pub returns-in-Err : goal.returns-in-Err
@@ -64,7 +64,7 @@ returns-in-Err g c =
         desk = still-at old.shared.now old.shared.now old.client client refl r.client r.number r.begins r.own r.legal;
         timed = r.timed;
         ok = tt;
-        err = λ before early. lacks-line script c.args.names before old.shared.now.fixed _ _ old.client client c.in-Err.field-0 (at-err _ c.register.result c.in-Err.field-0 c.in-Err.is (r.err c.requires.own));
+        err = λ before early. lacks-line script c.args.names before old.shared.now.fixed _ _ old.client client c.in-Err.field-0 (at-err _ c.register.result c.in-Err.field-0 c.in-Err.is r.err);
       };
-      hub = register-on old.shared.now _ _ c.args.hub.now c.register.new.self old.client client c.register.result c.requires.size c.requires.own r.ok r.err r.note r.place r.unplaced r.kept r.heard r.legal;
+      hub = register-on old.shared.now _ _ c.args.hub.now c.register.new.self old.client client c.register.result c.requires.size r.ok r.err r.note r.place r.unplaced r.kept r.heard r.legal;
     }

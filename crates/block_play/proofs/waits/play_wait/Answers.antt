@@ -13,7 +13,7 @@ returns-in_default g c =
     let desk = c.args.desk.now in
     record {
       desk = still-there desk.shared.now desk.client c.requires;
-      timed = λ t. t;
+      timed = λ caller t. t;
       ok = λ before early. played-nothing s names (wait_line c.args.kind c.args.session.now c.args.timeout c.args.jobs.now) before (mine_of desk.client) _ early
           (unnamed s names c.args.kind c.args.session.now c.args.timeout c.args.jobs.now (ap (λ n. number_of n c.args.session.now) (sym c.given.ensures) ∙ sym c.in_default.ensures));
       err = tt;
@@ -24,7 +24,7 @@ returns-in_default-numbers_of g c =
     let desk = c.args.desk.now in
     record {
       desk = still-there desk.shared.now desk.client c.requires;
-      timed = λ t. t;
+      timed = λ caller t. t;
       ok = tt;
       err = λ before early. stopped-still c.args.script.now c.args.names.now (wait_line c.args.kind c.args.session.now c.args.timeout c.args.jobs.now) before desk.shared.now.fixed desk.client _;
     }
@@ -36,7 +36,7 @@ returns-in_default-jobs g c =
     let desk = c.args.desk.now in
     record {
       desk = still-there desk.shared.now desk.client c.requires;
-      timed = λ t. t;
+      timed = λ caller t. t;
       ok = λ before early. played-nothing s names (wait_line c.args.kind c.args.session.now c.args.timeout c.args.jobs.now) before (mine_of desk.client) _ early
           (unlisted s names c.args.kind c.args.session.now c.args.timeout c.args.jobs.now c.in-Some.session
           (ap (λ n. number_of n c.args.session.now) (sym c.given.ensures) ∙ sym c.in-Some.ensures)

@@ -1,6 +1,6 @@
 use Rattle.std.proofs.Common.{◌≡◌, ℕ, List, [], Option, None, refl, ap, slice_index_or}
 use Rattle.slab.specs.Slab.{Slab, get}
-use Rattle.drmaa.specs.declared.pairs.Pair.{Pair}
+use Rattle.attendant.specs.declared.pairs.Pair.{Pair}
 use Rattle.drmaa.proofs.Making.{left-made}
 use Rattle.drmaa.proofs.machines.run_crew.Goals as goal
 

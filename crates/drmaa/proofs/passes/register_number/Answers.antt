@@ -5,10 +5,10 @@ use Rattle.drmaa.proofs.passes.register_number.Goals as goal
 pub returns-in_err-given-clause-err : goal.returns-in_err-given-clause-err
 returns-in_err-given-clause-err g c =
     let p = err_from_is_err_and c.from_residual.result c.from_residual.ensures.1 in
-    rw (p.1, p.2) (cannot _ _ _ _ _ _ (c.in_err-given.ensures.err c.requires.own))
+    rw (p.1, p.2) (cannot _ _ _ _ _ _ c.in_err-given.ensures.err)
 
 pub returns-then-given-number-clause-ok : goal.returns-then-given-number-clause-ok
 returns-then-given-number-clause-ok g c =
     let r = c.in_ok-given.ensures in
     registered-one g.B.Callback.counted g.B.Callback.told c.args.shared.now _ _ c.args.hub.now c.register.new.self c.args.pass.now.client c.register.new.client c.in_ok-given.given c.args.number
-    c.if-given-number.true c.requires.size r.client r.number r.own r.legal r.note (r.ok c.requires.own) r.place r.kept r.heard
+    c.if-given-number.true c.requires.size r.client r.number r.own r.legal r.note r.ok r.place r.kept r.heard

@@ -4,7 +4,8 @@ use Rattle.command_words.specs.declared.commands.Command.{Command}
 use Rattle.command_words.specs.declared.commands.Command.TheVariants.{Soak}
 use Rattle.drmaa_script.specs.Commands.{Asks, NamesNone}
 use Rattle.drmaa_script.specs.Endings.{Ends, IsWhole, MayEnd}
-use Rattle.drmaa_script.proofs.Asked.{the_command, found_is, short_whole, short_possible, short_front}
+use Rattle.drmaa_script.proofs.Asked.{the_command, found_is, short_whole, short_possible, short_front, all_whose}
+use Rattle.drmaa_script.proofs.Ran.{none_whose}
 use Rattle.drmaa_script.proofs.commands.run.Goals as goal
 
 pub returns-in-Ok-Some-clause-ends : goal.returns-in-Ok-Some-clause-ends
@@ -44,3 +45,12 @@ pub returns-in-Ok-None-clause-soaks : goal.returns-in-Ok-None-clause-soaks
 returns-in-Ok-None-clause-soaks g c = λ soak asks.
     let none : NamesNone c.args.words.now = subst (λ (o : Option Command). MatchOption o (NamesNone c.args.words.now) (Asks c.args.words.now)) c.in-Ok-None.field-0-is c.in-Ok-None.ensures.named in
     absurd (none (Soak soak) asks)
+
+pub returns-in-Ok-Some-clause-whose : goal.returns-in-Ok-Some-clause-whose
+returns-in-Ok-Some-clause-whose g c = all_whose g.K.One.Clock.given c.run_command.result.clocks c.in-Ok-Some.command c.run_command.result.status c.run_command.ensures.clocks c.run_command.ensures.whose
+
+pub returns-in-Ok-None-clause-whose : goal.returns-in-Ok-None-clause-whose
+returns-in-Ok-None-clause-whose g c = none_whose g.K.One.Clock.given c.unbegun.result.clocks c.unbegun.ensures.clocks
+
+pub returns-in-Err-clause-whose : goal.returns-in-Err-clause-whose
+returns-in-Err-clause-whose g c = none_whose g.K.One.Clock.given c.unbegun-in-Err.result.clocks c.unbegun-in-Err.ensures.clocks

@@ -11,7 +11,7 @@ use Rattle.script_commands.specs.Registers.{registers_of}
 use Rattle.script_commands.proofs.Kept.{kept_same}
 use Rattle.journal_commands.specs.StatusLaws.{unread_words, unread_reads, unread_written, unread_writes, unread_refused}
 use Rattle.script_commands.proofs.Played.{unread_possible}
-use Rattle.drmaa_script.proofs.Ran.{unread_run, ran_ends, ran_no_fault}
+use Rattle.drmaa_script.proofs.Ran.{unread_run, ran_ends, ran_no_fault, ran_whose, ran_callers, none_whose, unread_callers}
 use Rattle.script_commands.proofs.Somes.{some_both, some_all}
 use Rattle.drmaa_script.proofs.threads.run_threads.Goals as goal
 
@@ -90,3 +90,19 @@ returns-in-Err-clause-kept g c = kept_same g.B.Callback.counted g.B.Callback.tol
 
 pub returns-in-Err-clause-possible : goal.returns-in-Err-clause-possible
 returns-in-Err-clause-possible g c = unread_possible c.in-Err.status c.in-Err.ensures.causes
+
+pub returns-in-Ok-clause-whose : goal.returns-in-Ok-clause-whose
+returns-in-Ok-clause-whose g c =
+    ran_whose g.K.One.Clock.given c.in-Ok.script (g.W.Sink.written c.args.sink.now) (g.W.Sink.written c.run_to.new.sink) (g.S.Spawner.asked c.args.spawner.now) (g.S.Spawner.asked c.run_to.new.spawner) (g.S.Spawner.fate c.run_to.new.spawner)
+    c.run_to.result.clocks (length c.args.callbacks) _ c.run_to.result.status c.run_to.ensures.ends c.run_to.ensures.clocks
+
+pub returns-in-Ok-clause-callers : goal.returns-in-Ok-clause-callers
+returns-in-Ok-clause-callers g c =
+    ran_callers g.K.One.Clock.given c.in-Ok.script (g.W.Sink.written c.args.sink.now) (g.W.Sink.written c.run_to.new.sink) (g.S.Spawner.asked c.args.spawner.now) (g.S.Spawner.asked c.run_to.new.spawner) (g.S.Spawner.fate c.run_to.new.spawner)
+    c.run_to.result.clocks (length c.args.callbacks) _ c.run_to.result.status c.run_to.ensures.ends c.run_to.ensures.clocks
+
+pub returns-in-Err-clause-whose : goal.returns-in-Err-clause-whose
+returns-in-Err-clause-whose g c = none_whose g.K.One.Clock.given c.new.result c.new.ensures
+
+pub returns-in-Err-clause-callers : goal.returns-in-Err-clause-callers
+returns-in-Err-clause-callers g c = unread_callers c.in-Err.status (length c.new.result) c.in-Err.ensures.causes (ap length c.new.ensures)

@@ -10,12 +10,12 @@ use Rattle.notify_hub.proofs.Noting.{begins-nothing}
 use Rattle.notify_hub.proofs.following.recall.Goals as goal
 
 pub returns-in_default-clause-recalled : goal.returns-in_default-clause-recalled
-returns-in_default-clause-recalled c = subst (λ o. BeginsWith (seen_of c.args.client.now) (noted o)) (sym c.in_default.is) (begins-nothing (seen_of c.args.client.now))
+returns-in_default-clause-recalled c = subst (λ o. BeginsWith (seen_of c.note.new.client) (noted o)) (sym c.in_default.is) (begins-nothing (seen_of c.note.new.client))
 
 pub returns-in_default-clause-changes : goal.returns-in_default-clause-changes
 returns-in_default-clause-changes c =
-    subst (λ (o : Option Seat). BeginsWith (changes_of c.args.shared.now.fixed (seen_of c.args.client.now)) (changes_of c.args.shared.now.fixed (noted o))) (sym c.in_default.is)
-    (record { rest = changes_of c.args.shared.now.fixed (seen_of c.args.client.now); whole = refl })
+    subst (λ (o : Option Seat). BeginsWith (changes_of c.args.shared.now.fixed (seen_of c.note.new.client)) (changes_of c.args.shared.now.fixed (noted o))) (sym c.in_default.is)
+    (record { rest = changes_of c.args.shared.now.fixed (seen_of c.note.new.client); whole = refl })
 
 pub returns-clause-changes : goal.returns-clause-changes
 returns-clause-changes c =

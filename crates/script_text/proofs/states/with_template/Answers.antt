@@ -13,4 +13,5 @@ with_jobs s r made n t jobs same e m =
 pub returns-in_ok-new-in-Ok : goal.returns-in_ok-new-in-Ok
 returns-in_ok-new-in-Ok c =
     subst (λ (p : Script × List ℕ). ◌≡◌ {A = Option Script} (Some (with_template p.0 p.1 c.args.template)) (Some c.in_ok-new-in-Ok.field-0)) c.naming.view_is
-    (with_jobs c.naming.inside.script c.into_inner-script.result c.in_ok-new-in-Ok.field-0 c.naming.inside.name c.args.template c.add.new.self c.into_inner-script.ensures c.in-Ok.ensures c.in_ok-new-in-Ok.ensures)
+    (subst (λ (t : JobTemplate). ◌≡◌ {A = Option Script} (Some (with_template c.naming.inside.script c.naming.inside.name t)) (Some c.in_ok-new-in-Ok.field-0)) c.in_ok-template.ensures
+    (with_jobs c.naming.inside.script c.into_inner-script.result c.in_ok-new-in-Ok.field-0 c.naming.inside.name c.in_ok-template.template c.add.new.self c.into_inner-script.ensures c.in-Ok.ensures c.in_ok-new-in-Ok.ensures))

@@ -44,9 +44,9 @@ returns g c =
     let before : seen_of mid ≡ own = own-all mid zero (p.desk.own o.own) (λ k h. none-before (seen_of client) (seen_of mid) k u.on.still.begins (none k h)) ∙ same in
     let early = g.K.One.Clock.given c.clock.result in
     let given = g.K.One.Clock.given c.play_setup-played.new.desk.clock in
-    let fresh = none-timed early (mine_of c.open_client.result) o.mine in
+    let fresh = none-timed (Some 0) early (mine_of c.open_client.result) c.clock.ensures.caller o.mine in
     let played : PlaysOn c.args.shared.now.fixed c.args.script.now [] (lines_of c.args.script.now.setup) (mine_of mid) (seen_of mid) given c.play_setup-played.result =
-    plays-on c.args.shared.now.fixed c.args.script.now [] (lines_of c.args.script.now.setup) c.open_client.result mid early given _ c.play_setup-played.result o.mine fresh p.ok p.err in
+    plays-on c.args.shared.now.fixed c.args.script.now [] (lines_of c.args.script.now.setup) c.open_client.result mid early given _ c.play_setup-played.result o.mine p.ok p.err in
     record {
       first = record {
         opener = r.opener;
@@ -55,7 +55,7 @@ returns g c =
         seen = subst (λ (es : List Entry). BeginsWith (seen_of c.retire.new.opener) es) all r.from_client;
         alone = subst (λ (es : List Entry). calls_of es 0 ≡ es) all (alone (seen_of client) none);
         legal = r.legal;
-        timed = subst (λ (es : List Entry). IsTimed es given) same (p.timed fresh);
+        timed = subst (λ (es : List Entry). IsTimed (Some 0) es given) same (p.timed (Some 0) fresh);
         played = subst (λ (es : List Entry). PlaysOn c.args.shared.now.fixed c.args.script.now [] (lines_of c.args.script.now.setup) own es given c.play_setup-played.result) before
             (subst (λ (es : List Entry). PlaysOn c.args.shared.now.fixed c.args.script.now [] (lines_of c.args.script.now.setup) es (seen_of mid) given c.play_setup-played.result) same played);
         names = subst (λ (es : List Entry). IfOk c.play_setup-played.result (λ names. names ≡ setup_names c.args.script.now es)) same (names-of c.args.script.now (mine_of c.open_client.result) (mine_of mid) _ c.play_setup-played.result o.mine p.ok);

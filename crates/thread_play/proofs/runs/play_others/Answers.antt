@@ -2,8 +2,8 @@ use Rattle.std.proofs.Common.{◌≡◌, ℕ, List, [], ◌∷◌, ◌++◌, len
 use Rattle.std.specs.Prelude.{Result, Ok, IfOk}
 use Rattle.slab.specs.Slab.{Slab, get}
 use Rattle.call_history.specs.Clients.{retired_of}
+use Rattle.attendant.specs.declared.pairs.Pair.{Pair}
 use Rattle.block_play.specs.declared.stops.Stopped.{Stopped}
-use Rattle.thread_play.specs.declared.pairs.Pair.{Pair}
 use Rattle.thread_play.specs.Stages.{HavePlayed, worst}
 use Rattle.thread_play.specs.Pairs.{AreReleased}
 use Rattle.thread_play.proofs.Clients.{hired-count}
@@ -90,8 +90,9 @@ returns-in-None-clause-others g c =
     at0 (get c.play_beside-attended.new.reaper.children) (get c.end_others-pair.new.reaper.children)
     c.new-reaper.result.order c.play_beside-attended.new.reaper.order c.end_others-pair.new.reaper.order
     c.play_beside-attended.result.0.ended c.stopped_by.result c.dismiss-ended.result c.end_others-pair.result.1
-    c.args.given.now.items c.dismiss-ended.new.clocks.items c.release.new.clocks.items c.end_pass.new.clocks.items pass.clock
+    c.args.given.now.items c.dismiss-ended.new.clocks.items c.release.new.clocks.items c.end_pass.new.clocks.items pass.clock c.clock-3.result
     c.requires.first c.in_ok-workers.ensures.hired (let n = c.in_ok-workers.ensures.count in omega arith)
+    (c.clock.ensures.caller ∙ ap Some (let n = ap length c.as_slice.ensures in omega arith)) (c.clock-2.ensures.caller ∙ ap Some (let n = ap length c.as_slice.ensures in omega arith)) (c.clock-3.ensures.caller ∙ ap Some (let n = ap length c.as_slice.ensures in omega arith))
     (record { opener = ol.opener; retired = ol.retired; seen = ol.seen; number = ol.number; begins = ol.begins; mine = ol.mine; own = ol.own })
     (record { opener = or.opener; retired = or.retired; seen = or.seen; number = or.number; begins = or.begins; mine = or.mine; own = or.own })
     (record { opener = oh.opener; retired = oh.retired; seen = oh.seen; number = oh.number; begins = oh.begins; mine = oh.mine; own = oh.own })
@@ -99,7 +100,7 @@ returns-in-None-clause-others g c =
     c.new-reaper.ensures.order c.play_beside-attended.ensures.attended played c.stopped_by.ensures c.dismiss-ended.ensures.back refl refl refl
     (c.dismiss-ended.ensures.ended ∙ ap (λ (k : Option Stopped). worst k c.play_beside-attended.new.workers.items) c.worse.ensures)
     c.end_others-pair.ensures released c.dismiss-ended.ensures.clocks clocks
-    c.end_pass.ensures.back (last.on.still.number ∙ first.still.number) (last.on.still.mine ∙ first.still.mine) c.end_pass.ensures.clocks
+    c.end_pass.ensures.back (last.on.still.number ∙ first.still.number) (last.on.still.mine ∙ first.still.mine) (λ caller t. last.timed caller (c.play_beside-attended.ensures.timed.timed caller t)) c.end_pass.ensures.clocks
     c.pump_last.new.hub (None) c.in-None.is last.launcher last.reaping last.follows
 
 pub returns-in-Some-Full-clause-others : goal.returns-in-Some-Full-clause-others
@@ -132,8 +133,9 @@ returns-in-Some-Full-clause-others g c =
     at0 (get c.play_beside-attended.new.reaper.children) (get c.end_others-pair.new.reaper.children)
     c.new-reaper.result.order c.play_beside-attended.new.reaper.order c.end_others-pair.new.reaper.order
     c.play_beside-attended.result.0.ended c.stopped_by.result c.dismiss-ended.result c.end_others-pair.result.1
-    c.args.given.now.items c.dismiss-ended.new.clocks.items c.release.new.clocks.items c.end_pass.new.clocks.items pass.clock
+    c.args.given.now.items c.dismiss-ended.new.clocks.items c.release.new.clocks.items c.end_pass.new.clocks.items pass.clock c.clock-3.result
     c.requires.first c.in_ok-workers.ensures.hired (let n = c.in_ok-workers.ensures.count in omega arith)
+    (c.clock.ensures.caller ∙ ap Some (let n = ap length c.as_slice.ensures in omega arith)) (c.clock-2.ensures.caller ∙ ap Some (let n = ap length c.as_slice.ensures in omega arith)) (c.clock-3.ensures.caller ∙ ap Some (let n = ap length c.as_slice.ensures in omega arith))
     (record { opener = ol.opener; retired = ol.retired; seen = ol.seen; number = ol.number; begins = ol.begins; mine = ol.mine; own = ol.own })
     (record { opener = or.opener; retired = or.retired; seen = or.seen; number = or.number; begins = or.begins; mine = or.mine; own = or.own })
     (record { opener = oh.opener; retired = oh.retired; seen = oh.seen; number = oh.number; begins = oh.begins; mine = oh.mine; own = oh.own })
@@ -141,7 +143,7 @@ returns-in-Some-Full-clause-others g c =
     c.new-reaper.ensures.order c.play_beside-attended.ensures.attended played c.stopped_by.ensures c.dismiss-ended.ensures.back refl refl refl
     (c.dismiss-ended.ensures.ended ∙ ap (λ (k : Option Stopped). worst k c.play_beside-attended.new.workers.items) c.worse.ensures)
     c.end_others-pair.ensures released c.dismiss-ended.ensures.clocks clocks
-    c.end_pass.ensures.back (last.on.still.number ∙ first.still.number) (last.on.still.mine ∙ first.still.mine) c.end_pass.ensures.clocks
+    c.end_pass.ensures.back (last.on.still.number ∙ first.still.number) (last.on.still.mine ∙ first.still.mine) (λ caller t. last.timed caller (c.play_beside-attended.ensures.timed.timed caller t)) c.end_pass.ensures.clocks
     c.pump_last.new.hub (Some c.in-Some-Full.size) (c.in-Some-Full.is ∙ ap Some (rw c.in-Some-Full.is at c.in-Some-Full.field-0-is)) last.launcher last.reaping last.follows
 
 pub returns-in-None-clause-kept : goal.returns-in-None-clause-kept

@@ -1,4 +1,4 @@
-use Rattle.std.proofs.Common.{◌≡◌, ◌+◌, ◌++◌, ◌∷◌, [], ap, sym, ◌∙◌, length, length-append, arith, rules}
+use Rattle.std.proofs.Common.{◌≡◌, ◌+◌, ◌++◌, ◌∷◌, [], Some, ap, sym, ◌∙◌, length, length-append, arith, rules}
 use Rattle.std.specs.Prelude.{Ok}
 use Rattle.thread_play.specs.declared.workers.Worker.{Worker}
 use Rattle.thread_play.specs.Stages.{IsNew}
@@ -31,7 +31,7 @@ loop-place-preserved g c =
     } in
     record {
       hired = hired-more g.K.One.Clock.given c.args.shared.now c.args.opener.now c.loop-place.opener c.open_client.new.opener c.loop-place.workers.items c.push.new.self.items worker i.hired o.opener o.retired o.seen
-          (record { client = new; fresh = c.clock.ensures; place_is = sym i.count }) more;
+          (record { client = new; caller = c.clock.ensures.caller ∙ ap Some (let k = i.count in omega arith); fresh = c.clock.ensures.unread; place_is = sym i.count }) more;
       count = (let a = ap length more in let b = length-append c.loop-place.workers.items (worker ∷ []) in let k = i.count in omega arith);
       within = search rules;
     }

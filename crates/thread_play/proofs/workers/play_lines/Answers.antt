@@ -2,7 +2,6 @@ use Rattle.std.proofs.Common.{subst}
 use Rattle.call_history.specs.Clients.{seen_of, mine_of}
 use Rattle.thread_play.specs.Stages.{PlaysOn}
 use Rattle.thread_play.proofs.Blocks.{Names, plays-on, ends-well, ends-early}
-use Rattle.thread_play.proofs.Posts.{none-timed}
 use Rattle.thread_play.proofs.workers.play_lines.Goals as goal
 use Rattle.thread_play.proofs.workers.play_lines.Goals.{in-Ok-play_block, in-Err}
 
@@ -16,7 +15,7 @@ returns-clause-played g c none =
     let given = g.C.Clock.given c.play_block.new.desk.clock in
     let named = c.in-Ok.ensures in
     let on : PlaysOn config s c.in-Ok.names c.args.lines.now own seen given c.play_block.result =
-    plays-on config s c.in-Ok.names c.args.lines.now c.args.desk.now.client c.play_block.new.desk.client early given _ c.play_block.result none (none-timed early (mine_of c.args.desk.now.client) none) c.play_block.ensures.ok c.play_block.ensures.err in
+    plays-on config s c.in-Ok.names c.args.lines.now c.args.desk.now.client c.play_block.new.desk.client early given _ c.play_block.result none c.play_block.ensures.ok c.play_block.ensures.err in
     let here : PlaysOn config s c.args.names.now c.args.lines.now own seen given c.play_block.result = subst (λ (n : Names). PlaysOn config s n c.args.lines.now own seen given c.play_block.result) named on in
     elim c.match-play_block.branch [
       | in-Ok-play_block w ↦ ends-well Names (Unit {0}) config s c.args.names.now c.args.lines.now own seen given c.play_block.result c.match-play_block.result w.in-Ok-play_block.field-0 tt w.in-Ok-play_block.is w.result-is here

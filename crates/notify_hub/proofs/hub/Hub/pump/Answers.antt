@@ -44,11 +44,11 @@ invariant_of-self g c =
     }
 
 pub returns-clause-more : goal.returns-clause-more
-returns-clause-more g c = λ knows.
+returns-clause-more g c =
     let old = c.args.client.now in
     let mid = c.recall.new.client in
     subst (λ (s : Seat). SeesMore old s) (sym c.note-seen.ensures.client)
-    (more-both old mid c.hand_all-handed.new.client (learnt-more old mid knows (c.recall.ensures.own knows) c.recall.ensures.number c.recall.ensures.mine c.recall.ensures.begins)
+    (more-both old mid c.hand_all-handed.new.client (learnt-more old mid c.recall.ensures.knew c.recall.ensures.own c.recall.ensures.number c.recall.ensures.mine c.recall.ensures.begins)
     c.recall.ensures.number c.hand_all-handed.ensures.looks.more)
 
 pub returns-clause-kept : goal.returns-clause-kept

@@ -81,10 +81,10 @@ invariant_of-self-in-Err g c =
     }
 
 pub returns-in-Ok-clause-ok : goal.returns-in-Ok-clause-ok
-returns-in-Ok-clause-ok g c = λ knows.
+returns-in-Ok-clause-ok g c =
     let old = c.args.client.now in
     let mid = c.recall.new.client in
-    registered-both old mid c.register_next.new.client (learnt-more old mid knows (c.recall.ensures.own knows) c.recall.ensures.number c.recall.ensures.mine c.recall.ensures.begins)
+    registered-both old mid c.register_next.new.client (learnt-more old mid c.recall.ensures.knew c.recall.ensures.own c.recall.ensures.number c.recall.ensures.mine c.recall.ensures.begins)
     c.recall.ensures.number c.args.shared.now.fixed _ _ _ c.in-Ok.n c.note.new.client c.in-Ok.ensures.ok c.in-Ok.ensures.new
     (subst (λ (s : Seat). SeesMore c.register_next.new.client s) (sym c.note.ensures.client) c.place_after-place.ensures.looks.more)
     c.place_after-place.ensures.looks.rises
@@ -105,11 +105,11 @@ pub returns-in-Ok-clause-kept : goal.returns-in-Ok-clause-kept
 returns-in-Ok-clause-kept g c = (invariant_of-self g c).follows
 
 pub returns-in-Err-clause-err : goal.returns-in-Err-clause-err
-returns-in-Err-clause-err g c = λ knows.
+returns-in-Err-clause-err g c =
     let old = c.args.client.now in
     let mid = c.recall.new.client in
     unregistered-at c.args.shared.now.fixed _ _ c.in-Err.why old c.register_next.new.client c.note-in-Err.new.client c.note-in-Err.ensures.client
-    (unregistered-both old mid c.register_next.new.client (learnt-more old mid knows (c.recall.ensures.own knows) c.recall.ensures.number c.recall.ensures.mine c.recall.ensures.begins)
+    (unregistered-both old mid c.register_next.new.client (learnt-more old mid c.recall.ensures.knew c.recall.ensures.own c.recall.ensures.number c.recall.ensures.mine c.recall.ensures.begins)
     c.recall.ensures.number c.args.shared.now.fixed _ _ c.in-Err.why c.in-Err.ensures.err)
 
 pub returns-in-Err-clause-kept : goal.returns-in-Err-clause-kept

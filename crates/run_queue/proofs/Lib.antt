@@ -1,5 +1,0 @@
-mod InOrder
-mod Firsts
-mod Placed
-mod Tied
-mod CountTies

@@ -1,4 +1,0 @@
-pub mod Counts
-pub mod Order
-pub mod Queue
-pub mod Ties
