@@ -102,6 +102,25 @@ module _ (s : Script) (names : List (List ℕ × Given)) (l : Line) (before : �
   pub stopped-still : (config : Config) (seat : Seat) (given : Readings) → StopsLine config s names l before seat seat given given stopped.Memory
   stopped-still config seat given = unmade refl tt
 
+-- the line that stands first is the one that was read
+first-line : (l m : Line) (ls ms : List Line) → l ∷ ls ≡ m ∷ ms → l ≡ m
+first-line l m ls ms is = cc
+
+pub left-read : {C : Type 0} (given : C → Readings) (least : C → ℕ) (s : Script) (names : List (List ℕ × Given)) (left : List Line) (l m : Line) (ls ms : List Line) (old new : Desk C)
+    (end : Result (List (List ℕ × Given)) Stopped) → left ≡ m ∷ ms → left ≡ l ∷ ls → LeftByLine given least s names m old new end → LeftByLine given least s names l old new end
+left-read given least s names left l m ls ms old new end read is by =
+    subst (λ (x : Line). LeftByLine given least s names x old new end) (first-line m l ms ls (sym read ∙ is)) by
+
+-- and one that could not be read makes no entry
+pub left-unread : {C : Type 0} (given : C → Readings) (least : C → ℕ) (s : Script) (names : List (List ℕ × Given)) (l : Line) (desk : Desk C) → IsFree desk.shared.now desk.client
+    → LeftByLine given least s names l desk desk (Err stopped.Memory)
+left-unread given least s names l desk free = record {
+  desk = still-there desk.shared.now desk.client free;
+  timed = λ caller t. t;
+  ok = tt;
+  err = λ before early. stopped-still s names l before desk.shared.now.fixed desk.client (given desk.clock);
+}
+
 -- what a line asks of its client, who knows of no launch
 pub asked-of : (s : Script) (given names : List (List ℕ × Given)) (attempts : List (ℕ × ℕ)) (begun : ℕ) (l : Line) (o : Option Call) → given ≡ names → attempts ≡ [] → begun ≡ 0
     → o ≡ asks s given (attempt_in attempts) begun l → o ≡ asks s names no_attempt 0 l

@@ -1,7 +1,7 @@
 -- Lines that are played, one after the other.
 use Rattle.std.proofs.Common.{◌≡◌, ℕ, ◌+◌, ◌<◌, ◌≤◌, zero, suc, List, [], ◌∷◌, ◌++◌, take, drop, length, refl, sym, ap, ◌∙◌, subst, append_assoc, append-nil, arith}
 use Rattle.std.proofs.Common.{get_or}
-use Rattle.std.proofs.Math.Seq.{take-suc}
+use Rattle.std.proofs.lemmas.List.{drop_more, take-append-drop}
 use Rattle.drmaa_types.specs.Readings.{Readings}
 use Rattle.drmaa_model.specs.declared.configs.Config.{Config}
 use Rattle.drmaa_model.specs.declared.entries.Entry.{Entry}
@@ -100,13 +100,8 @@ module _ (s : Script) (names mid : List (List ℕ × Given)) (all front rest : L
 
 -- ---- places
 
-pub take_one : (xs : List Line) (i : ℕ) (d : Line) → i < length xs → d ≡ get_or xs i d → take (i + 1) xs ≡ take i xs ++ d ∷ []
-take_one xs i d l e = let n : i + 1 ≡ suc i = omega arith in ap (λ (k : ℕ). take k xs) n ∙ take-suc xs i d l ∙ ap (λ (x : Line). take i xs ++ x ∷ []) (sym e)
-
-pub split_at : (xs : List Line) (i : ℕ) (d : Line) → i < length xs → d ≡ get_or xs i d → xs ≡ take i xs ++ d ∷ drop (suc i) xs
-split_at [] i d l e = absurd (omega (arith, l))
-split_at (x ∷ xs) zero d l e = ap (λ (y : Line). y ∷ xs) (sym e)
-split_at (x ∷ xs) (suc i) d l e = ap (λ (ys : List Line). x ∷ ys) (split_at xs i d (omega (arith, l)) e)
+pub split_at : (xs : List Line) (i : ℕ) (d : Line) → i < length xs → xs ≡ take i xs ++ get_or xs i d ∷ drop (i + 1) xs
+split_at xs i d within = sym (take-append-drop i xs) ∙ ap (λ (ys : List Line). take i xs ++ ys) (drop_more xs i d within)
 
 pub take_all : (xs : List Line) (i : ℕ) → length xs ≤ i → take i xs ≡ xs
 take_all [] zero l = refl

@@ -1,10 +1,10 @@
 -- Laws of sets of names.
-use Rattle.std.proofs.Common.{◌≡◌, ℕ, ◌+◌, ◌<◌, ◌≤◌, ◌||◌, Bool, true, false, cond, List, [], ◌∷◌, ◌++◌, length, get_or, drop, Option, Some, None, is_some, refl, sym, ap, subst, ◌∙◌}
+use Rattle.std.proofs.Common.{◌≡◌, ℕ, ◌+◌, ◌<◌, ◌≤◌, ◌||◌, Bool, true, false, cond, List, [], ◌∷◌, ◌++◌, length, get_or, drop, Option, Some, None, is_some, refl, sym, ap, subst, ◌∙◌, arith}
 use Rattle.std.specs.Str.{bytes_eq}
 use Rattle.std.specs.Map.{lookup}
 use Rattle.std.specs.List.{flat_map}
 use Rattle.std.proofs.lemmas.Slice.Eq.{bytes_eq-Decides}
-use Rattle.std.proofs.lemmas.List.{drop_more, drop_all}
+use Rattle.std.proofs.lemmas.List.{drop_more, drop_all, get_or-drop}
 use Rattle.std.proofs.lemmas.List.Folds.{list_any-append}
 use Rattle.script_text.specs.Names.{is_there}
 use Rattle.script_text.specs.NameLaws.{either, lookup-append}
@@ -51,6 +51,12 @@ extends_new set name = record {
 }
 
 -- ---- one after the other
+
+-- what stands first of the rest of a list
+pub first_left : {X : Type 0} (i : ℕ) (xs : List X) (x : X) → drop i xs ≡ x ∷ drop (i + 1) xs → x ≡ get_or xs i x
+first_left i xs x e =
+    let none : i + 0 ≡ i = omega arith in
+    sym (ap (λ ys. get_or ys 0 x) e) ∙ get_or-drop i xs 0 x ∙ ap (λ k. get_or xs k x) none
 
 pub extends_twice : (old mid new : Set) (xs ys : List (List ℕ)) → Extends old mid xs → Extends mid new ys → Extends old new (xs ++ ys)
 extends_twice old mid new xs ys first second = record {

@@ -1,5 +1,5 @@
 -- Laws of warnings that are found line by line.
-use Rattle.std.proofs.Common.{◌≡◌, ℕ, ◌+◌, ◌<◌, ◌||◌, ◌&&◌, not, List, [], ◌∷◌, ◌++◌, length, get_or, take, drop, sym, ap, subst, ◌∙◌, append_assoc, append-nil}
+use Rattle.std.proofs.Common.{◌≡◌, ℕ, ◌+◌, ◌<◌, ◌||◌, ◌&&◌, not, Bool, List, [], ◌∷◌, ◌++◌, length, get_or, take, drop, sym, ap, subst, ◌∙◌, append_assoc, append-nil}
 use Rattle.std.proofs.lemmas.Grind.{flat_map-append}
 use Rattle.std.proofs.lemmas.List.{drop_more, take_more}
 use Rattle.script_lines.specs.declared.lines.Line.{Line}
@@ -16,7 +16,7 @@ use Rattle.script_advice.specs.Roles.{role}
 use Rattle.script_advice.specs.NameSets.{is_among, Set, Extends}
 use Rattle.script_advice.specs.NameSetLaws.{extends_twice, filled_test}
 use Rattle.script_advice.specs.Holds.{stays_in, AreHolds, AreSetupHolds}
-use Rattle.script_advice.specs.Warnings.{names_at, names_in, names_anywhere, unwaited, endless_at, endless, stays_held, of_client, of_clients, warnings}
+use Rattle.script_advice.specs.Warnings.{names_at, names_in, names_anywhere, unwaited_at, unwaited, endless_at, endless, stays_held, of_client, of_clients, warnings}
 
 -- ---- what stays held
 
@@ -50,6 +50,15 @@ same_stays s before earlier of_setup are setup =
     λ i name. (a i name && not (b i name)) || (d i name && not (e i name))
 
 -- ---- line by line
+
+pub unwaited_more : (place : Place) (is_awaited : List ℕ → Bool) (i : ℕ) (ls : List Line) (l : Line) (a b all : List Warning) → drop i ls ≡ l ∷ drop (i + 1) ls
+    → b ≡ a ++ unwaited_at place is_awaited (role l) → a ++ unwaited place is_awaited (drop i ls) ≡ all → b ++ unwaited place is_awaited (drop (i + 1) ls) ≡ all
+unwaited_more place is_awaited i ls l a b all left found so_far =
+    let rest = unwaited place is_awaited (drop (i + 1) ls) in
+    ap (λ t. t ++ rest) found
+    ∙ append_assoc a (unwaited_at place is_awaited (role l)) rest
+    ∙ ap (λ ks. a ++ unwaited place is_awaited ks) (sym left)
+    ∙ so_far
 
 pub endless_more : (place : Place) (s : Script) (i : ℕ) (ls : List Line) (l : Line) (a b all : List Warning) → i < length ls → l ≡ get_or ls i l
     → b ≡ a ++ endless_at place (stays_held s (take i ls)) (role l) → a ++ endless place s (take i ls) (drop i ls) ≡ all
@@ -86,10 +95,10 @@ clients_more s i cs c a b all small here found so_far =
 
 -- ---- all of them
 
-pub all_found : (s : Script) (lines : List Line) (set : Set) (a b d e : List Warning) → a ≡ [] → lines ≡ lines_of s.setup → Extends [] set (names_anywhere Awaited s)
-    → b ≡ a ++ unwaited Setup (is_there set) lines → d ≡ b ++ of_clients s 1 s.clients → e ≡ d → e ≡ warnings s
-all_found s lines set a b d e none setup made first second same =
+pub all_found : (s : Script) (set : Set) (a b d e : List Warning) → a ≡ [] → Extends [] set (names_anywhere Awaited s)
+    → b ≡ a ++ unwaited Setup (is_there set) (lines_of s.setup) → d ≡ b ++ of_clients s 1 s.clients → e ≡ d → e ≡ warnings s
+all_found s set a b d e none made first second same =
     let test = filled_test set (names_anywhere Awaited s) made in
     let of_setup : b ≡ unwaited Setup (is_among (names_anywhere Awaited s)) (lines_of s.setup) =
-    first ∙ ap (λ t. t ++ unwaited Setup (is_there set) lines) none ∙ ap (λ t. unwaited Setup (is_there set) t) setup ∙ ap (λ t. unwaited Setup t (lines_of s.setup)) test in
+    first ∙ ap (λ t. t ++ unwaited Setup (is_there set) (lines_of s.setup)) none ∙ ap (λ t. unwaited Setup t (lines_of s.setup)) test in
     same ∙ second ∙ ap (λ t. t ++ of_clients s 1 s.clients) of_setup

@@ -2,15 +2,16 @@
 ghost use Rattle.std.specs.Prelude.{◌≡◌, ◌∷◌, ◌++◌, [], IfOk, OnOk, if◌then◌else◌};
 ghost use Rattle.std.specs.List.{list_all};
 ghost use Rattle.script_text.specs.Names.{is_there};
+ghost use Rattle.script_text.specs.Follows.{lines_of};
 ghost use Rattle.script_advice.specs.Holds.{stays_in, remains_in, AreHolds, AreSetupHolds};
 ghost use Rattle.script_advice.specs.Roles.{role};
 ghost use Rattle.script_advice.specs.Warnings as amiss;
 
-use crate::gathering::{NameSet, Sort, insert_at, is_in, names_anywhere, names_in, setup_lines};
+use crate::gathering::{NameSet, Sort, insert_at, is_in, names_anywhere, names_in, names_in_setup};
 use crate::warning_kinds::{Place, Warning, WarningList};
 use drmaa_types::{ListOf, Timeout};
 use script_lines::{Line, Name, Ref};
-use script_text::{Keyed, Script};
+use script_text::{Block, Keyed, Script};
 use std::alloc::{AllocError, Global};
 
 /// Names of jobs that were started as held, and of those that were let go.
@@ -58,15 +59,30 @@ fn warn_unwaited_at(
 fn warn_unwaited(
     place: Place,
     awaited: &NameSet,
-    lines: &[Line],
+    block: &Block,
     found: &mut Vec<Warning>,
 ) -> Result<(), AllocError>
-    ensures { OnOk result (found.new.items ≡ found.old.items ++ amiss.unwaited place (is_there awaited.now) lines.now) }
+    ensures { OnOk result (found.new.items ≡ found.old.items ++ amiss.unwaited place (is_there awaited.now) block.now) }
 {
-    for line in lines {
-        warn_unwaited_at(place, awaited, line, found)?;
+    for i in 0..block.len() {
+        let line = block.line(i)?;
+        warn_unwaited_at(place, awaited, &line, found)?;
     }
     Ok(())
+}
+
+/// Adds a warning for each job that lines of the setup block start, and whose name is not in the set.
+fn warn_setup(
+    script: &Script,
+    awaited: &NameSet,
+    found: &mut Vec<Warning>,
+) -> Result<(), AllocError>
+    ensures { OnOk result (found.new.items ≡ found.old.items ++ amiss.unwaited Place.Setup (is_there awaited.now) (lines_of script.now.setup)) }
+{
+    match &script.setup {
+        Some(block) => warn_unwaited(Place::Setup, awaited, block, found),
+        None => Ok(()),
+    }
 }
 
 /// Whether a job was started as held, and was not let go.
@@ -181,17 +197,18 @@ fn warn_endless(
     place: Place,
     script: &Script,
     of_setup: &Holds,
-    lines: &[Line],
+    block: &Block,
     found: &mut Vec<Warning>,
 ) -> Result<(), AllocError>
     requires { AreSetupHolds script.now of_setup.now }
-    ensures { OnOk result (found.new.items ≡ found.old.items ++ amiss.endless place script.now [] lines.now) }
+    ensures { OnOk result (found.new.items ≡ found.old.items ++ amiss.endless place script.now [] block.now) }
 {
     let mut earlier = no_holds(alloc, script);
-    for line in lines {
-        warn_endless_at(place, &earlier, of_setup, line, found)?;
-        insert_at(Sort::Held, script, &mut earlier.held, line)?;
-        insert_at(Sort::LetGo, script, &mut earlier.let_go, line)?;
+    for i in 0..block.len() {
+        let line = block.line(i)?;
+        warn_endless_at(place, &earlier, of_setup, &line, found)?;
+        insert_at(Sort::Held, script, &mut earlier.held, &line)?;
+        insert_at(Sort::LetGo, script, &mut earlier.let_go, &line)?;
     }
     Ok(())
 }
@@ -202,16 +219,16 @@ fn warn_client(
     number: u64,
     script: &Script,
     of_setup: &Holds,
-    lines: &[Line],
+    block: &Block,
     found: &mut Vec<Warning>,
 ) -> Result<(), AllocError>
     requires { AreSetupHolds script.now of_setup.now }
-    ensures { OnOk result (found.new.items ≡ found.old.items ++ amiss.of_client script.now number lines.now) }
+    ensures { OnOk result (found.new.items ≡ found.old.items ++ amiss.of_client script.now number block.now) }
 {
     let place = Place::Client(number);
-    let awaited = names_in(alloc, Sort::Awaited, script, lines)?;
-    warn_unwaited(place, &awaited, lines, found)?;
-    warn_endless(alloc, place, script, of_setup, lines, found)
+    let awaited = names_in(alloc, Sort::Awaited, script, block)?;
+    warn_unwaited(place, &awaited, block, found)?;
+    warn_endless(alloc, place, script, of_setup, block, found)
 }
 
 /// Adds the warnings of all clients.
@@ -225,7 +242,7 @@ fn warn_clients(
     ensures { OnOk result (found.new.items ≡ found.old.items ++ amiss.of_clients script.now 1 script.now.clients) }
 {
     for (i, block) in script.clients.as_slice().iter().enumerate() {
-        warn_client(alloc, i as u64 + 1, script, of_setup, block.lines(), found)?;
+        warn_client(alloc, i as u64 + 1, script, of_setup, block, found)?;
     }
     Ok(())
 }
@@ -234,7 +251,7 @@ fn warn_clients(
 fn setup_holds(alloc: Global, script: &Script) -> Result<Holds, AllocError>
     ensures { IfOk result (AreSetupHolds script.now) }
 {
-    let held = names_in(alloc, Sort::Held, script, setup_lines(script))?;
+    let held = names_in_setup(alloc, Sort::Held, script)?;
     let let_go = names_anywhere(alloc, Sort::LetGo, script)?;
     Ok(Holds { held, let_go })
 }
@@ -250,7 +267,7 @@ pub fn warnings(alloc: Global, script: &Script) -> Result<WarningList, AllocErro
     let of_setup = setup_holds(alloc, script)?;
     let awaited = names_anywhere(alloc, Sort::Awaited, script)?;
     let mut found = Vec::new(alloc);
-    warn_unwaited(Place::Setup, &awaited, setup_lines(script), &mut found)?;
+    warn_setup(script, &awaited, &mut found)?;
     warn_clients(alloc, script, &of_setup, &mut found)?;
     Ok(ListOf::from_vec(found))
 }

@@ -161,12 +161,13 @@ fn insert_in(
     sort: Sort,
     script: &Script,
     names: &mut NameSet,
-    lines: &[Line],
+    block: &Block,
 ) -> Result<(), AllocError>
-    ensures { OnOk result (Extends names.old names.new (amiss.names_in sort script.now lines.now)) }
+    ensures { OnOk result (Extends names.old names.new (amiss.names_in sort script.now block.now)) }
 {
-    for line in lines {
-        insert_at(sort, script, names, line)?;
+    for i in 0..block.len() {
+        let line = block.line(i)?;
+        insert_at(sort, script, names, &line)?;
     }
     Ok(())
 }
@@ -181,7 +182,7 @@ fn insert_of_all(
     ensures { OnOk result (Extends names.old names.new (amiss.names_of_all sort script.now blocks.now)) }
 {
     for block in blocks {
-        insert_in(sort, script, names, block.lines())?;
+        insert_in(sort, script, names, block)?;
     }
     Ok(())
 }
@@ -191,22 +192,27 @@ pub(crate) fn names_in(
     alloc: Global,
     sort: Sort,
     script: &Script,
-    lines: &[Line],
+    block: &Block,
 ) -> Result<NameSet, AllocError>
-    ensures { IfOk result (λ names. Extends [] names (amiss.names_in sort script.now lines.now)) }
+    ensures { IfOk result (λ names. Extends [] names (amiss.names_in sort script.now block.now)) }
 {
     let mut names = Keyed::new(alloc);
-    insert_in(sort, script, &mut names, lines)?;
+    insert_in(sort, script, &mut names, block)?;
     Ok(names)
 }
 
-/// The lines of the setup block, if there is one.
-pub(crate) fn setup_lines(script: &Script) -> &[Line]
-    ensures { result.now ≡ lines_of script.now.setup }
+/// The names that the lines of the setup block have of a sort.
+#[tactic(auto, using(crate::specs::NameSetLaws::extends_none))]
+pub(crate) fn names_in_setup(
+    alloc: Global,
+    sort: Sort,
+    script: &Script,
+) -> Result<NameSet, AllocError>
+    ensures { IfOk result (λ names. Extends [] names (amiss.names_in sort script.now (lines_of script.now.setup))) }
 {
     match &script.setup {
-        Some(block) => block.lines(),
-        None => &[],
+        Some(block) => names_in(alloc, sort, script, block),
+        None => Ok(Keyed::new(alloc)),
     }
 }
 
@@ -219,7 +225,7 @@ pub(crate) fn names_anywhere(
 ) -> Result<NameSet, AllocError>
     ensures { IfOk result (λ names. Extends [] names (amiss.names_anywhere sort script.now)) }
 {
-    let mut names = names_in(alloc, sort, script, setup_lines(script))?;
+    let mut names = names_in_setup(alloc, sort, script)?;
     insert_of_all(sort, script, &mut names, script.clients.as_slice())?;
     Ok(names)
 }

@@ -33,8 +33,8 @@ impl Meaning {
 
 /// A word as a name.
 fn name_of(alloc: Global, word: &str) -> Result<Name, AllocError> {
-    let text = Text::from_string(String::from_str(alloc, word)?);
-    Name::new(alloc, text)
+    let text = Text::of(alloc, word)?;
+    Ok(Name::new(text))
 }
 
 /// What a line sees: the script as it was read before its block, and the lines of its block before it.

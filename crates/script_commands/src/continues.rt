@@ -87,7 +87,13 @@ fn go_on<B: Callback, W: Sink>(
     ensures unheard { IsUnstarted result.status → result.callbacks ≡ callbacks }
 {
     let Continued { journal, script } = read;
-    if !are_enough(&script, callbacks.as_slice().len()) {
+    let Ok(enough) = are_enough(&script, callbacks.as_slice().len()) else {
+        return Ended {
+            status: Status::Memory,
+            callbacks,
+        };
+    };
+    if !enough {
         return Ended {
             status: Status::Words,
             callbacks,

@@ -65,7 +65,7 @@ fn member(alloc: Global, array: &[u8], digits: &[u8]) -> Result<Option<Ref>, All
     };
     match index_of(digits) {
         Some(index) => {
-            let array = Name::new(alloc, array)?;
+            let array = Name::new(array);
             Ok(Some(Ref::Member { array, index }))
         }
         None => Ok(None),
@@ -77,7 +77,7 @@ fn bound_to(alloc: Global, word: &[u8]) -> Result<Option<Ref>, AllocError>
     ensures { IfOk result (λ r. r ≡ refs.bound_to word.now) }
 {
     match name_of(alloc, word)? {
-        Some(name) => Ok(Some(Ref::Bound(Name::new(alloc, name)?))),
+        Some(name) => Ok(Some(Ref::Bound(Name::new(name)))),
         None => Ok(None),
     }
 }

@@ -51,8 +51,7 @@ pub(crate) fn name_item(cursor: &mut Cursor) -> Result<Name, Unread>
     ensures { Answers (arm name (λ x. x)) cursor.old result cursor.new }
 {
     cursor.expect(b" ")?;
-    let name = read_name(cursor)?;
-    Ok(Name::new(cursor.alloc(), name)?)
+    Ok(Name::new(read_name(cursor)?))
 }
 
 /// Reads a value behind a space, which is to lie apart.

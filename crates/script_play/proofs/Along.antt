@@ -1,5 +1,5 @@
 -- How one pump after another comes to all of a play.
-use Rattle.std.proofs.Common.{◌≡◌, ℕ, zero, suc, ◌+◌, ◌-◌, ◌<◌, ◌≤◌, List, [], ◌∷◌, ◌++◌, length, drop, Option, Some, None, refl, sym, ap, ◌∙◌, subst, arith, append_assoc, append-nil, ⊎_elim, get_or, slice_index_or}
+use Rattle.std.proofs.Common.{◌≡◌, ℕ, zero, suc, ◌+◌, ◌-◌, ◌<◌, ◌≤◌, List, [], ◌∷◌, ◌++◌, length, drop, Option, Some, None, refl, sym, ap, ◌∙◌, subst, arith, append_assoc, append-nil, ⊎_elim, slice_index_or}
 use Rattle.std.proofs.lemmas.List.{map-append, drop_all, drop-append-le, length-append}
 use Rattle.std.proofs.lemmas.Bool.{cases_lt}
 use Rattle.std.proofs.Math.Nat.{sub-eq-zero_of_le}
@@ -25,7 +25,6 @@ use Rattle.script_play.specs.CallbackLaws.{current-heard-after}
 use Rattle.script_play.specs.Callbacks.{AreCurrentAfter, HearHistoryAfter}
 use Rattle.script_play.specs.Looks.{GoesTo}
 use Rattle.script_play.specs.View.{Start, View, IsNoted, playing, unplayed}
-use Rattle.script_play.proofs.Handing.{drop-line}
 
 -- ---- what is due of one list and then of another
 
@@ -210,16 +209,16 @@ module _ {B : Type 0} (counted : B → ℕ) (told : B → Option (List Notificat
   }
 
   -- a line further
-  pub line-on : (start : Start) (config : Config) (s : Script) (crew : plays.Crew) (all : List (List Entry)) (old new : View) (ls : List Line) (i : ℕ) (l : Line) (a b c : Listening B) → i < length ls → l ≡ get_or ls i l
+  pub line-on : (start : Start) (config : Config) (s : Script) (crew : plays.Crew) (all : List (List Entry)) (old new : View) (ls : List Line) (i : ℕ) (l : Line) (a b c : Listening B) → drop i ls ≡ l ∷ drop (i + 1) ls
       → new.ledger.config ≡ config → new.start ≡ start → GoesTo old (play_line s crew (playing old) l) new → HeardTo start.callbacks config all (histories start.entries (after_lines s crew (playing old) (drop i ls))) a b
       → c.begun ≡ b.begun → IsHandedOn counted told b c → AreCurrentAfter counted told new.start.callbacks new.ledger c
       → HeardTo start.callbacks config all (histories start.entries (after_lines s crew (playing new) (drop (i + 1) ls))) a c
-  line-on start config s crew all old new ls i l a b c within is config_is start_is goes t begun further current =
+  line-on start config s crew all old new ls i l a b c is config_is start_is goes t begun further current =
       let next : Playing = play_line s crew (playing old) l in
       let here : List Entry = start.entries ++ next.entries in
       let left : List (List Entry) = histories start.entries (after_lines s crew next (drop (i + 1) ls)) in
       let to : HeardTo start.callbacks config all (here ∷ left) a b =
-      subst (λ (xs : List Line). HeardTo start.callbacks config all (histories start.entries (after_lines s crew (playing old) xs)) a b) (drop-line ls i l within is) t in
+      subst (λ (xs : List Line). HeardTo start.callbacks config all (histories start.entries (after_lines s crew (playing old) xs)) a b) is t in
       let on : HeardTo start.callbacks config all left a c =
       to-on start.callbacks config all (here ∷ []) left a b c to (c, pump-of start config old next new b c config_is start_is goes begun further current, refl) in
       subst (λ (p : Playing). HeardTo start.callbacks config all (histories start.entries (after_lines s crew p (drop (i + 1) ls))) a c) (sym goes.played) on

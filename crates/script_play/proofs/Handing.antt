@@ -1,6 +1,5 @@
 -- What a line leaves for the callbacks: at most one entry more, and the changes behind those that were handed over.
-use Rattle.std.proofs.Common.{◌≡◌, ℕ, ◌+◌, ◌-◌, ◌<◌, ◌≤◌, zero, suc, nat_le, true, false, ◌⊎◌, inl, inr, List, [], ◌∷◌, ◌++◌, take, drop, length, slice_get, slice_set, Option, Some, None, refl, sym, ap, ◌∙◌, subst, append_assoc, arith}
-use Rattle.std.proofs.Common.{get_or}
+use Rattle.std.proofs.Common.{◌≡◌, ℕ, ◌+◌, ◌-◌, ◌≤◌, zero, suc, nat_le, true, false, ◌⊎◌, inl, inr, List, [], ◌∷◌, ◌++◌, take, drop, length, slice_get, slice_set, Option, Some, None, refl, sym, ap, ◌∙◌, subst, append_assoc, arith}
 use Rattle.std.specs.Prelude.{if◌then◌else◌}
 use Rattle.std.proofs.lemmas.List.{take_all, take-append-le, length-append}
 use Rattle.drmaa_types.specs.declared.changes.Change.{Change}
@@ -239,13 +238,6 @@ take-both (suc n) m (x ∷ xs) within =
 
 -- ---- lines
 
--- the lines from a place on
-pub drop-line : (xs : List Line) (i : ℕ) (d : Line) → i < length xs → d ≡ get_or xs i d → drop i xs ≡ d ∷ drop (i + 1) xs
-drop-line [] i d within is = absurd (omega (arith, within))
-drop-line (x ∷ xs) zero d within is = ap (λ (y : Line). y ∷ xs) (sym is)
-drop-line (x ∷ xs) (suc i) d within is =
-    drop-line xs i d (omega (arith, within)) is ∙ ap (λ (k : ℕ). d ∷ drop k (x ∷ xs)) (let e : suc (i + 1) ≡ suc i + 1 = omega arith in e)
-
 -- a line further, the lines that are left lead to where all of them do
 pub record LeadsOn (s : Script) (crew : plays.Crew) (first new : View) (ls : List Line) (i : ℕ) : Type 0 where
   pub played : plays.play_lines s crew (playing new) (drop (i + 1) ls) ≡ plays.play_lines s crew (playing first) ls
@@ -253,12 +245,12 @@ pub record LeadsOn (s : Script) (crew : plays.Crew) (first new : View) (ls : Lis
   pub start : new.start ≡ first.start
   pub noted : IsNoted new
 
-pub leads-on : (s : Script) (crew : plays.Crew) (first old new : View) (ls : List Line) (i : ℕ) (l : Line) → i < length ls → l ≡ get_or ls i l
+pub leads-on : (s : Script) (crew : plays.Crew) (first old new : View) (ls : List Line) (i : ℕ) (l : Line) → drop i ls ≡ l ∷ drop (i + 1) ls
     → plays.play_lines s crew (playing old) (drop i ls) ≡ plays.play_lines s crew (playing first) ls → old.ledger.config ≡ first.ledger.config → old.start ≡ first.start → GoesTo old (play_line s crew (playing old) l) new
     → LeadsOn s crew first new ls i
-leads-on s crew first old new ls i l within is before config start goes = record {
+leads-on s crew first old new ls i l is before config start goes = record {
   played = ap (λ (p : Playing). plays.play_lines s crew p (drop (i + 1) ls)) goes.played
-      ∙ (sym (ap (plays.play_lines s crew (playing old)) (drop-line ls i l within is)) ∙ before);
+      ∙ (sym (ap (plays.play_lines s crew (playing old)) is) ∙ before);
   config = goes.config ∙ config;
   start = goes.start ∙ start;
   noted = goes.noted;

@@ -1,6 +1,7 @@
 //! The play of blocks.
-ghost use Rattle.std.specs.Prelude.{◌≡◌, ◌≤◌, length, IfOk, OnErr};
+ghost use Rattle.std.specs.Prelude.{◌≡◌, ◌<◌, ◌≤◌, List, ◌∷◌, length, drop, IfOk, OnErr};
 ghost use Rattle.notify_hub.specs.Ears.{HaveHeard};
+ghost use Rattle.script_lines.specs.declared.lines.Line.{Line};
 ghost use Rattle.script_text.specs.Follows.{lines_of};
 ghost use Rattle.script_asks.specs.Plays as plays;
 ghost use Rattle.script_play.specs.Along.{after_lines, after_client_lines, after_block_lines, histories, HeardAlong, HeardPart};
@@ -15,31 +16,47 @@ use crate::lines::play_line;
 use crate::names::Names;
 use crate::players::Player;
 use notify_hub::{Callback, Ears};
-use script_lines::Line;
 use script_text::{Block, Script};
 use std::alloc::{AllocError, Global};
+
+/// Plays the line at this place of a block. After an `Err` memory ran out, and the play is lost.
+fn play_at(
+    script: &Script,
+    crew: Crew,
+    player: &mut Player,
+    block: &Block,
+    place: usize,
+) -> Result<(), AllocError>
+    requires noted { IsNoted player.old }
+    requires within { place < length block.now }
+    ensures { IfOk result (λ _. (line : Line) (rest : List Line) → drop place block.now ≡ line ∷ rest
+        → GoesTo player.old (plays.play_line script.now (crew_meant crew) (playing player.old) line) player.new) }
+{
+    let line = block.line(place)?;
+    play_line(script, crew, player, &line)
+}
 
 /// Plays the lines of a block, in order. After each line the callbacks hear what it changed.
 fn play_lines<B: Callback>(
     script: &Script,
     crew: Crew,
     player: &mut Player,
-    lines: &[Line],
+    block: &Block,
     ears: &mut Ears<B>,
 ) -> Result<(), AllocError>
     requires noted { IsNoted player.old }
     requires current { AreCurrentAfter B.counted B.told player.old.start.callbacks player.old.ledger ears.old }
-    ensures played { IfOk result (λ _. GoesTo player.old (plays.play_lines script.now (crew_meant crew) (playing player.old) lines.now) player.new) }
+    ensures played { IfOk result (λ _. GoesTo player.old (plays.play_lines script.now (crew_meant crew) (playing player.old) block.now) player.new) }
     ensures current { IfOk result (λ _. AreCurrentAfter B.counted B.told player.new.start.callbacks player.new.ledger ears.new) }
-    ensures front { OnErr result (HaveFrontAfter B.counted B.told player.old.ledger.config player.old.start (plays.play_lines script.now (crew_meant crew) (playing player.old) lines.now).entries ears.new) }
-    ensures along { IfOk result (λ _. HeardAlong B.counted B.told player.old.start.callbacks player.old.ledger.config (histories player.old.start.entries (after_lines script.now (crew_meant crew) (playing player.old) lines.now)) ears.old ears.new) }
-    ensures part { OnErr result (HeardPart B.counted B.told player.old.start.callbacks player.old.ledger.config (histories player.old.start.entries (after_lines script.now (crew_meant crew) (playing player.old) lines.now)) ears.old ears.new) }
+    ensures front { OnErr result (HaveFrontAfter B.counted B.told player.old.ledger.config player.old.start (plays.play_lines script.now (crew_meant crew) (playing player.old) block.now).entries ears.new) }
+    ensures along { IfOk result (λ _. HeardAlong B.counted B.told player.old.start.callbacks player.old.ledger.config (histories player.old.start.entries (after_lines script.now (crew_meant crew) (playing player.old) block.now)) ears.old ears.new) }
+    ensures part { OnErr result (HeardPart B.counted B.told player.old.start.callbacks player.old.ledger.config (histories player.old.start.entries (after_lines script.now (crew_meant crew) (playing player.old) block.now)) ears.old ears.new) }
     ensures begun { ears.new.begun ≡ ears.old.begun }
     ensures heard { HaveHeard B.counted B.told ears.new }
 {
-    for line in lines {
+    for place in 0..block.len() {
         let before = player.counts();
-        play_line(script, crew, player, line)?;
+        play_at(script, crew, player, block, place)?;
         hear(player, before, ears);
     }
     Ok(())
@@ -66,7 +83,7 @@ fn play_setup<B: Callback>(
 {
     let clients = script.clients.as_slice().len() as u32;
     match &script.setup {
-        Some(block) => play_lines(script, crew_of(clients, 0), player, block.lines(), ears),
+        Some(block) => play_lines(script, crew_of(clients, 0), player, block, ears),
         None => Ok(()),
     }
 }
@@ -94,7 +111,7 @@ fn play_client<B: Callback>(
     ensures heard { HaveHeard B.counted B.told ears.new }
 {
     player.begin_block(names.copied(alloc)?);
-    play_lines(script, crew, player, block.lines(), ears)
+    play_lines(script, crew, player, block, ears)
 }
 
 /// Plays the clients' blocks, in order, each with the names of the setup block.

@@ -33,7 +33,7 @@ use Rattle.script_text.specs.Header.{header, queue_text}
 use Rattle.script_text.specs.HeaderLaws.{header_laws}
 use Rattle.script_text.specs.Follows.{lines_of, may_stand}
 use Rattle.script_text.specs.Scripts.{is_early, is_named, may_open, begun, with_queue, with_template, with_reservation, with_block, Follow, line_text, template_head, reservation_head, block_head, Part, Job, Reservation, Lines, part_lines, After, Makes, Spells}
-use Rattle.script_text.specs.Automaton.{begin_block, queued, filled, reserved, asked, read_name, read_header, read_queue, after_top, next}
+use Rattle.script_text.specs.Automaton.{begin_block, filled, reserved, asked, read_name, read_header, read_queue, after_top, next}
 
 pub header_found : (line : List ℕ) (m : ℕ × (List ℕ × Bool)) → read_header line ≡ Some m → header.valid m × (line ≡ header.spell m)
 unfolding read_header

@@ -1,9 +1,13 @@
 pub mod Names
+pub mod Packed
+pub mod BlockTexts
 pub mod Follows
 pub mod Header
 pub mod Scripts
 pub mod Automaton
 pub mod NameLaws
+pub mod PackedLaws
+pub mod BlockTextLaws
 pub mod HeaderLaws
 pub mod QueueLaws
 pub mod BlockLaws

@@ -1,35 +1,29 @@
-//! What names are bound to, and what references stand for, by the lines behind those of the setup block. A name that is found
-//! becomes the one that is kept with what it is bound to, so that a script keeps each name once.
+//! What names are bound to, and what references stand for, by the lines behind those of the setup block.
 ghost use Rattle.std.specs.Prelude.{◌≡◌, ◌++◌, is_some};
 ghost use Rattle.std.specs.List.{list_all};
 ghost use Rattle.script_text.specs.Names as names;
 ghost use Rattle.script_text.specs.Follows as follows;
 
 use crate::{Block, Keyed, Kind, Script};
-use drmaa_types::ListOf;
 use script_lines::{Apart, Name, Ref};
-use std::alloc::Global;
-use std::mem;
 
-/// What a name is bound to by these lines, behind those of the setup block; it becomes the name that is kept for them.
+/// What a name is bound to by these lines, behind those of the setup block.
 #[tactic(auto, using(crate::specs::NameLaws::bound_append))]
-fn bound(setup: &Option<Block>, block: &Block, name: &mut Name) -> Option<Kind>
-    ensures kind { result ≡ names.bound name.old (follows.lines_of setup.now ++ block.now) }
-    ensures same { name.new ≡ name.old }
+fn bound(setup: &Option<Block>, block: &Block, name: &Name) -> Option<Kind>
+    ensures { result ≡ names.bound name.now (follows.lines_of setup.now ++ block.now) }
 {
     match bound_in(setup, name) {
         Some(kind) => Some(kind),
-        None => block.meet(name).copied(),
+        None => block.bound(name).copied(),
     }
 }
 
-/// What a name is bound to by the lines of the setup block; it becomes the name that is kept for them.
-fn bound_in(setup: &Option<Block>, name: &mut Name) -> Option<Kind>
-    ensures kind { result ≡ names.bound name.old (follows.lines_of setup.now) }
-    ensures same { name.new ≡ name.old }
+/// What a name is bound to by the lines of the setup block.
+fn bound_in(setup: &Option<Block>, name: &Name) -> Option<Kind>
+    ensures { result ≡ names.bound name.now (follows.lines_of setup.now) }
 {
     match setup {
-        Some(block) => block.meet(name).copied(),
+        Some(block) => block.bound(name).copied(),
         None => None,
     }
 }
@@ -99,9 +93,8 @@ fn to_member(index: u32, kind: Option<Kind>) -> bool
 }
 
 /// Whether a reference is to a session.
-pub(crate) fn is_session(script: &Script, block: &Block, reference: &mut Ref) -> bool
-    ensures value { result ≡ names.is_session (follows.lines_of script.now.setup ++ block.now) reference.old }
-    ensures same { reference.new ≡ reference.old }
+pub(crate) fn is_session(script: &Script, block: &Block, reference: &Ref) -> bool
+    ensures { result ≡ names.is_session (follows.lines_of script.now.setup ++ block.now) reference.now }
 {
     match reference {
         Ref::Bound(name) => to_session(bound(&script.setup, block, name)),
@@ -111,9 +104,8 @@ pub(crate) fn is_session(script: &Script, block: &Block, reference: &mut Ref) ->
 }
 
 /// Whether a reference is to an array.
-pub(crate) fn is_array(script: &Script, block: &Block, reference: &mut Ref) -> bool
-    ensures value { result ≡ names.is_array (follows.lines_of script.now.setup ++ block.now) reference.old }
-    ensures same { reference.new ≡ reference.old }
+pub(crate) fn is_array(script: &Script, block: &Block, reference: &Ref) -> bool
+    ensures { result ≡ names.is_array (follows.lines_of script.now.setup ++ block.now) reference.now }
 {
     match reference {
         Ref::Bound(name) => to_array(bound(&script.setup, block, name)),
@@ -123,9 +115,8 @@ pub(crate) fn is_array(script: &Script, block: &Block, reference: &mut Ref) -> b
 }
 
 /// Whether a reference is to a reservation.
-pub(crate) fn is_reservation(script: &Script, block: &Block, reference: &mut Ref) -> bool
-    ensures value { result ≡ names.is_reservation (follows.lines_of script.now.setup ++ block.now) reference.old }
-    ensures same { reference.new ≡ reference.old }
+pub(crate) fn is_reservation(script: &Script, block: &Block, reference: &Ref) -> bool
+    ensures { result ≡ names.is_reservation (follows.lines_of script.now.setup ++ block.now) reference.now }
 {
     match reference {
         Ref::Bound(name) => to_reservation(bound(&script.setup, block, name)),
@@ -135,9 +126,8 @@ pub(crate) fn is_reservation(script: &Script, block: &Block, reference: &mut Ref
 }
 
 /// Whether a reference is to a job.
-pub(crate) fn is_job(script: &Script, block: &Block, reference: &mut Ref) -> bool
-    ensures value { result ≡ names.is_job (follows.lines_of script.now.setup ++ block.now) reference.old }
-    ensures same { reference.new ≡ reference.old }
+pub(crate) fn is_job(script: &Script, block: &Block, reference: &Ref) -> bool
+    ensures { result ≡ names.is_job (follows.lines_of script.now.setup ++ block.now) reference.now }
 {
     match reference {
         Ref::Bound(name) => to_job(bound(&script.setup, block, name)),
@@ -147,38 +137,17 @@ pub(crate) fn is_job(script: &Script, block: &Block, reference: &mut Ref) -> boo
 }
 
 /// Whether these references are to jobs.
-fn are_jobs(script: &Script, block: &Block, references: &mut Vec<Ref>) -> bool
-    ensures value { result ≡ list_all (names.is_job (follows.lines_of script.now.setup ++ block.now)) references.old.items }
-    ensures same { references.new.items ≡ references.old.items }
+pub(crate) fn are_jobs(script: &Script, block: &Block, references: &[Ref]) -> bool
+    ensures { result ≡ list_all (names.is_job (follows.lines_of script.now.setup ++ block.now)) references.now }
 {
-    for reference in references.iter_mut() {
-        if !is_job(script, block, reference) {
-            return false;
-        }
-    }
-    true
-}
-
-/// Whether these references are to jobs.
-pub(crate) fn all_jobs(
-    alloc: Global,
-    script: &Script,
-    block: &Block,
-    references: &mut ListOf<Ref>,
-) -> bool
-    ensures value { result ≡ list_all (names.is_job (follows.lines_of script.now.setup ++ block.now)) references.old }
-    ensures same { references.new ≡ references.old }
-{
-    let mut items = mem::replace(references, ListOf::new(alloc)).into_vec();
-    let holds = are_jobs(script, block, &mut items);
-    *references = ListOf::from_vec(items);
-    holds
+    references
+        .iter()
+        .all(|reference| is_job(script, block, reference))
 }
 
 /// Whether there is no reference, or one to a job.
-pub(crate) fn if_job(script: &Script, block: &Block, reference: &mut Option<Ref>) -> bool
-    ensures value { result ≡ names.if_some (names.is_job (follows.lines_of script.now.setup ++ block.now)) reference.old }
-    ensures same { reference.new ≡ reference.old }
+pub(crate) fn if_job(script: &Script, block: &Block, reference: &Option<Ref>) -> bool
+    ensures { result ≡ names.if_some (names.is_job (follows.lines_of script.now.setup ++ block.now)) reference.now }
 {
     match reference {
         Some(reference) => is_job(script, block, reference),
@@ -187,9 +156,8 @@ pub(crate) fn if_job(script: &Script, block: &Block, reference: &mut Option<Ref>
 }
 
 /// Whether there is no reference, or one to a reservation.
-pub(crate) fn if_reservation(script: &Script, block: &Block, reference: &mut Option<Ref>) -> bool
-    ensures value { result ≡ names.if_some (names.is_reservation (follows.lines_of script.now.setup ++ block.now)) reference.old }
-    ensures same { reference.new ≡ reference.old }
+pub(crate) fn if_reservation(script: &Script, block: &Block, reference: &Option<Ref>) -> bool
+    ensures { result ≡ names.if_some (names.is_reservation (follows.lines_of script.now.setup ++ block.now)) reference.now }
 {
     match reference {
         Some(reference) => is_reservation(script, block, reference),
@@ -198,26 +166,13 @@ pub(crate) fn if_reservation(script: &Script, block: &Block, reference: &mut Opt
 }
 
 /// Whether there is no reference, or one to a reservation.
-pub(crate) fn is_reserved(
-    script: &Script,
-    block: &Block,
-    reference: &mut Option<Apart<Ref>>,
-) -> bool
-    ensures value { result ≡ names.if_some (names.is_reservation (follows.lines_of script.now.setup ++ block.now)) reference.old }
-    ensures same { reference.new ≡ reference.old }
+pub(crate) fn is_reserved(script: &Script, block: &Block, reference: &Option<Apart<Ref>>) -> bool
+    ensures { result ≡ names.if_some (names.is_reservation (follows.lines_of script.now.setup ++ block.now)) reference.now }
 {
     match reference {
-        Some(reference) => is_reservation(script, block, reference.get_mut()),
+        Some(reference) => is_reservation(script, block, reference.get()),
         None => true,
     }
-}
-
-/// Whether one of the templates has this name, which becomes the one that the template has.
-pub(crate) fn has_template<T: Drop>(templates: &Keyed<T>, name: &mut Name) -> bool
-    ensures value { result ≡ names.is_there templates.now name.old }
-    ensures same { name.new ≡ name.old }
-{
-    templates.meet(name).is_some()
 }
 
 /// Whether one of the templates has this name.

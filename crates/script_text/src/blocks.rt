@@ -1,12 +1,14 @@
 //! The lines of a block, with the names that they bind.
-ghost use Rattle.std.specs.Prelude.{◌≡◌, [], ◌∷◌, ◌++◌, IfOk, option_copied, true};
+ghost use Rattle.std.specs.Prelude.{◌≡◌, ◌+◌, ◌<◌, [], ◌∷◌, ◌++◌, length, drop, Some, is_some, IfOk, option_copied, true};
+ghost use Rattle.script_lines.specs.Lines as lines;
 ghost use Rattle.script_text.specs.Names as names;
 
 use crate::keyed::Keyed;
-use drmaa_types::ListOf;
-use script_lines::{Line, Name, with_last};
+use crate::packed::PackedLines;
+use script_lines::{Line, Name, read_line};
 use std::alloc::{AllocError, Global};
 use std::marker::Model;
+use text_codec::Unread;
 
 /// What a name is bound to.
 #[derive(Clone, Copy, Debug, PartialEq, Eq)]
@@ -18,16 +20,22 @@ pub enum Kind {
     Reservation,
 }
 
-/// Lines, in order. Contracts see the list of them; the names that they bind are looked up.
+/// Lines, in order. Contracts see the list of them; what is kept are the bytes that spell them, and a line is read again where
+/// it is wanted. The names that they bind are looked up.
 pub struct Block {
-    lines: ListOf<Line>,
+    alloc: Global,
+    texts: PackedLines,
     names: Keyed<Kind>,
 }
 
 // By hand, so that how its parts are let go is proved here once, and not again in each crate that lets one go.
 impl Drop for Block {
     fn drop(self) {
-        let Block { lines: _, names: _ } = self;
+        let Block {
+            alloc: _,
+            texts: _,
+            names: _,
+        } = self;
     }
 }
 
@@ -35,12 +43,13 @@ impl Model for Block {
     ghost use Rattle.std.specs.Prelude.{List, ◌≡◌};
     ghost use Rattle.script_lines.specs.declared.lines.Line.{Line};
     ghost use Rattle.script_text.specs.Names.{names_of};
+    ghost use Rattle.script_text.specs.BlockTexts.{said, AreLines};
 
     ghost Value = { List Line };
 
-    ghost view = { λ b. b.lines };
+    ghost view = { λ b. said b.texts };
 
-    ghost invariant = { λ b. b.names ≡ names_of b.lines };
+    ghost invariant = { λ b. AreLines b.texts × (b.names ≡ names_of (said b.texts)) };
 }
 
 /// What a line binds its name to. None where it binds none.
@@ -92,20 +101,16 @@ fn with_binding(
     }
 }
 
-/// A list with one item more, and the names with one more, which is new, where there is one.
-fn with_named<T: Drop>(
-    items: ListOf<T>,
-    bound: Keyed<Kind>,
-    binding: Option<(Name, Kind)>,
-    item: T,
-) -> Result<(ListOf<T>, Keyed<Kind>), AllocError>
-    requires { names.is_new bound binding ≡ true }
-    ensures items { IfOk result (λ p. p.0 ≡ items ++ item ∷ []) }
-    ensures names { IfOk result (λ p. p.1 ≡ bound ++ names.onto binding []) }
+/// The line that these bytes spell.
+fn line_of(alloc: Global, text: &[u8]) -> Result<Line, AllocError>
+    requires { is_some (lines.read_line text.now) ≡ true }
+    ensures { IfOk result (λ line. lines.read_line text.now ≡ Some line) }
 {
-    let bound = with_binding(bound, binding)?;
-    let items = with_last(items, item)?;
-    Ok((items, bound))
+    match read_line(alloc, text) {
+        Ok(line) => Ok(line),
+        Err(Unread::OutOfMemory) => Err(AllocError),
+        Err(Unread::Unspelled) => unreachable!(),
+    }
 }
 
 impl Block {
@@ -114,16 +119,28 @@ impl Block {
         ensures { result ≡ [] }
     {
         Block {
-            lines: ListOf::new(alloc),
+            alloc,
+            texts: PackedLines::new(alloc),
             names: Keyed::new(alloc),
         }
     }
 
-    /// The lines.
-    pub fn lines(&self) -> &[Line]
-        ensures { result.now ≡ self.now }
+    /// How many lines there are.
+    pub fn len(&self) -> usize
+        ensures { result ≡ length self.now }
     {
-        self.lines.as_slice()
+        self.texts.len()
+    }
+
+    /// The line at a place, counted from 0; it is read anew.
+    ///
+    /// # Errors
+    /// `AllocError` where memory is wanted.
+    pub fn line(&self, place: usize) -> Result<Line, AllocError>
+        requires { place < length self.now }
+        ensures { IfOk result (λ line. drop place self.now ≡ line ∷ drop (place + 1) self.now) }
+    {
+        line_of(self.alloc, self.texts.get(place))
     }
 
     /// What a name is bound to by these lines.
@@ -133,34 +150,27 @@ impl Block {
         self.names.find(name)
     }
 
-    /// What a name is bound to by these lines; it becomes the name that is kept for them.
-    pub(crate) fn meet(&self, name: &mut Name) -> Option<&Kind>
-        ensures kind { option_copied result ≡ names.bound name.old self.now }
-        ensures same { name.new ≡ name.old }
+    /// The lines with one line more, which these bytes spell, and which binds no name that is bound.
+    ///
+    /// # Errors
+    /// `AllocError` where memory is wanted, or all lines would have more than 4,294,967,295 bytes.
+    pub fn with(self, text: &[u8], line: &Line) -> Result<Block, AllocError>
+        requires spelled { lines.read_line text.now ≡ Some line.now }
+        requires free { names.is_free self line.now ≡ true }
+        ensures { IfOk result (λ longer. longer ≡ self ++ line.now ∷ []) }
     {
-        self.names.meet(name)
-    }
-
-    /// The lines with one line more, which binds no name that is bound.
-    pub fn with(self, line: Line) -> Result<Block, AllocError>
-        requires { names.is_free self line ≡ true }
-        ensures { IfOk result (λ longer. longer ≡ self ++ line ∷ []) }
-    {
+        let binding = binding(line)?;
         let Block {
-            lines,
+            alloc,
+            texts,
             names: bound,
         } = self;
-        let binding = match binding(&line) {
-            Ok(binding) => binding,
-            Err(fault) => {
-                drop(line);
-                return Err(fault);
-            }
-        };
-        let (lines, bound) = with_named(lines, bound, binding, line)?;
+        let names = with_binding(bound, binding)?;
+        let texts = texts.with(text)?;
         Ok(Block {
-            lines,
-            names: bound,
+            alloc,
+            texts,
+            names,
         })
     }
 }

@@ -5,107 +5,85 @@ ghost use Rattle.script_text.specs.Names as names;
 ghost use Rattle.script_text.specs.Follows as follows;
 
 use crate::bindings::{
-    all_jobs, has_template, if_job, if_reservation, is_array, is_bound, is_job, is_reservation,
-    is_reserved, is_session,
+    are_jobs, if_job, if_reservation, is_array, is_bound, is_job, is_reservation, is_reserved,
+    is_session, is_there,
 };
 use crate::{Block, Mode, Script};
-use drmaa_types::{ListOf, Timeout};
+use drmaa_types::Timeout;
 use script_lines::{Filter, Line, Name, Ref};
-use std::alloc::Global;
 
 /// Whether these are a session and a job.
-fn of_job(script: &Script, block: &Block, session: &mut Ref, job: &mut Ref) -> bool
-    ensures value { result ≡ (names.is_session (follows.lines_of script.now.setup ++ block.now) session.old && names.is_job (follows.lines_of script.now.setup ++ block.now) job.old) }
-    ensures session { session.new ≡ session.old }
-    ensures job { job.new ≡ job.old }
+fn of_job(script: &Script, block: &Block, session: &Ref, job: &Ref) -> bool
+    ensures { result ≡ (names.is_session (follows.lines_of script.now.setup ++ block.now) session.now && names.is_job (follows.lines_of script.now.setup ++ block.now) job.now) }
 {
     is_session(script, block, session) && is_job(script, block, job)
 }
 
 /// Whether these are a session and jobs.
-fn of_jobs(
-    alloc: Global,
-    script: &Script,
-    block: &Block,
-    session: &mut Ref,
-    jobs: &mut ListOf<Ref>,
-) -> bool
-    ensures value { result ≡ (names.is_session (follows.lines_of script.now.setup ++ block.now) session.old && list_all (names.is_job (follows.lines_of script.now.setup ++ block.now)) jobs.old) }
-    ensures session { session.new ≡ session.old }
-    ensures jobs { jobs.new ≡ jobs.old }
+fn of_jobs(script: &Script, block: &Block, session: &Ref, jobs: &[Ref]) -> bool
+    ensures { result ≡ (names.is_session (follows.lines_of script.now.setup ++ block.now) session.now && list_all (names.is_job (follows.lines_of script.now.setup ++ block.now)) jobs.now) }
 {
-    is_session(script, block, session) && all_jobs(alloc, script, block, jobs)
+    is_session(script, block, session) && are_jobs(script, block, jobs)
 }
 
 /// Whether these are a session and an array.
-fn of_array(script: &Script, block: &Block, session: &mut Ref, array: &mut Ref) -> bool
-    ensures value { result ≡ (names.is_session (follows.lines_of script.now.setup ++ block.now) session.old && names.is_array (follows.lines_of script.now.setup ++ block.now) array.old) }
-    ensures session { session.new ≡ session.old }
-    ensures array { array.new ≡ array.old }
+fn of_array(script: &Script, block: &Block, session: &Ref, array: &Ref) -> bool
+    ensures { result ≡ (names.is_session (follows.lines_of script.now.setup ++ block.now) session.now && names.is_array (follows.lines_of script.now.setup ++ block.now) array.now) }
 {
     is_session(script, block, session) && is_array(script, block, array)
 }
 
 /// Whether these are a session and a reservation.
-fn of_reservation(script: &Script, block: &Block, session: &mut Ref, reservation: &mut Ref) -> bool
-    ensures value { result ≡ (names.is_session (follows.lines_of script.now.setup ++ block.now) session.old && names.is_reservation (follows.lines_of script.now.setup ++ block.now) reservation.old) }
-    ensures session { session.new ≡ session.old }
-    ensures reservation { reservation.new ≡ reservation.old }
+fn of_reservation(script: &Script, block: &Block, session: &Ref, reservation: &Ref) -> bool
+    ensures { result ≡ (names.is_session (follows.lines_of script.now.setup ++ block.now) session.now && names.is_reservation (follows.lines_of script.now.setup ++ block.now) reservation.now) }
 {
     is_session(script, block, session) && is_reservation(script, block, reservation)
 }
 
 /// Whether these are a session and a filter by no job, or one that is there.
-fn of_filter(script: &Script, block: &Block, session: &mut Ref, filter: &mut Filter) -> bool
-    ensures value { result ≡ (names.is_session (follows.lines_of script.now.setup ++ block.now) session.old && names.if_some (names.is_job (follows.lines_of script.now.setup ++ block.now)) filter.old.job) }
-    ensures session { session.new ≡ session.old }
-    ensures filter { filter.new ≡ filter.old }
+fn of_filter(script: &Script, block: &Block, session: &Ref, filter: &Filter) -> bool
+    ensures { result ≡ (names.is_session (follows.lines_of script.now.setup ++ block.now) session.now && names.if_some (names.is_job (follows.lines_of script.now.setup ++ block.now)) filter.now.job) }
 {
-    is_session(script, block, session) && if_job(script, block, &mut filter.job)
+    is_session(script, block, session) && if_job(script, block, &filter.job)
 }
 
 /// Whether these are a session and the template of a job.
-fn of_template(script: &Script, block: &Block, session: &mut Ref, template: &mut Name) -> bool
-    ensures value { result ≡ (names.is_session (follows.lines_of script.now.setup ++ block.now) session.old && names.is_there script.now.jobs template.old) }
-    ensures session { session.new ≡ session.old }
-    ensures template { template.new ≡ template.old }
+fn of_template(script: &Script, block: &Block, session: &Ref, template: &Name) -> bool
+    ensures { result ≡ (names.is_session (follows.lines_of script.now.setup ++ block.now) session.now && names.is_there script.now.jobs template.now) }
 {
-    is_session(script, block, session) && has_template(&script.jobs, template)
+    is_session(script, block, session) && is_there(&script.jobs, template)
 }
 
 /// Whether these are a session and a reservation's template.
-fn of_frame(script: &Script, block: &Block, session: &mut Ref, template: &mut Name) -> bool
-    ensures value { result ≡ (names.is_session (follows.lines_of script.now.setup ++ block.now) session.old && names.is_there script.now.reservations template.old) }
-    ensures session { session.new ≡ session.old }
-    ensures template { template.new ≡ template.old }
+fn of_frame(script: &Script, block: &Block, session: &Ref, template: &Name) -> bool
+    ensures { result ≡ (names.is_session (follows.lines_of script.now.setup ++ block.now) session.now && names.is_there script.now.reservations template.now) }
 {
-    is_session(script, block, session) && has_template(&script.reservations, template)
+    is_session(script, block, session) && is_there(&script.reservations, template)
 }
 
-/// Whether what a line names is there. Its names become those that are kept.
-fn refers(alloc: Global, script: &Script, block: &Block, line: &mut Line) -> bool
-    ensures value { result ≡ follows.refers script.now (follows.lines_of script.now.setup ++ block.now) line.old }
-    ensures same { line.new ≡ line.old }
+/// Whether what a line names is there.
+fn refers(script: &Script, block: &Block, line: &Line) -> bool
+    ensures { result ≡ follows.refers script.now (follows.lines_of script.now.setup ++ block.now) line.now }
 {
     match line {
-        Line::NamesJobs => true,
-        Line::NamesReservations => true,
-        Line::Register => true,
-        Line::Launch => true,
-        Line::Signal => true,
-        Line::CreateJobs { .. } => true,
-        Line::CreateReservations { .. } => true,
-        Line::OpenJobs { .. } => true,
-        Line::OpenReservations { .. } => true,
-        Line::DestroyJobs { .. } => true,
-        Line::DestroyReservations { .. } => true,
-        Line::Monitor { .. } => true,
-        Line::At { .. } => true,
-        Line::Close { session } => is_session(script, block, session),
-        Line::Reservations { session } => is_session(script, block, session),
-        Line::AllReservations { session } => is_session(script, block, session),
-        Line::Queues { session } => is_session(script, block, session),
-        Line::Machines { session } => is_session(script, block, session),
+        Line::CreateJobs { .. }
+        | Line::CreateReservations { .. }
+        | Line::OpenJobs { .. }
+        | Line::OpenReservations { .. }
+        | Line::DestroyJobs { .. }
+        | Line::DestroyReservations { .. }
+        | Line::NamesJobs
+        | Line::NamesReservations
+        | Line::Monitor { .. }
+        | Line::Register
+        | Line::At { .. }
+        | Line::Launch
+        | Line::Signal => { true }
+        Line::Close { session }
+        | Line::Reservations { session }
+        | Line::AllReservations { session }
+        | Line::Queues { session }
+        | Line::Machines { session } => { is_session(script, block, session) }
         Line::Run {
             session,
             template,
@@ -120,60 +98,50 @@ fn refers(alloc: Global, script: &Script, block: &Block, line: &mut Line) -> boo
             reserved,
             ..
         } => {
-            of_template(script, block, session.get_mut(), template)
-                && if_reservation(script, block, reserved.get_mut())
+            of_template(script, block, session.get(), template)
+                && if_reservation(script, block, reserved.get())
         }
-        Line::Jobs { session, filter } => of_filter(script, block, session, filter.get_mut()),
-        Line::AllJobs { session, filter } => of_filter(script, block, session, filter.get_mut()),
-        Line::Array { session, array } => of_array(script, block, session, array),
-        Line::SuspendArray { session, array } => of_array(script, block, session, array),
-        Line::ResumeArray { session, array } => of_array(script, block, session, array),
-        Line::HoldArray { session, array } => of_array(script, block, session, array),
-        Line::ReleaseArray { session, array } => of_array(script, block, session, array),
-        Line::TerminateArray { session, array } => of_array(script, block, session, array),
-        Line::ReapArray { session, array } => of_array(script, block, session, array),
-        Line::Suspend { session, job } => of_job(script, block, session, job),
-        Line::Resume { session, job } => of_job(script, block, session, job),
-        Line::Hold { session, job } => of_job(script, block, session, job),
-        Line::Release { session, job } => of_job(script, block, session, job),
-        Line::Terminate { session, job } => of_job(script, block, session, job),
-        Line::Reap { session, job } => of_job(script, block, session, job),
-        Line::State { session, job } => of_job(script, block, session, job),
-        Line::Info { session, job } => of_job(script, block, session, job),
-        Line::WaitStarted { session, jobs, .. } => of_jobs(
-            alloc,
-            script,
-            block,
-            session.get_mut(),
-            jobs,
-        ),
-        Line::WaitTerminated { session, jobs, .. } => of_jobs(
-            alloc,
-            script,
-            block,
-            session.get_mut(),
-            jobs,
-        ),
+        Line::Jobs { session, filter } | Line::AllJobs { session, filter } => {
+            of_filter(script, block, session, filter.get())
+        }
+        Line::Array { session, array }
+        | Line::SuspendArray { session, array }
+        | Line::ResumeArray { session, array }
+        | Line::HoldArray { session, array }
+        | Line::ReleaseArray { session, array }
+        | Line::TerminateArray { session, array }
+        | Line::ReapArray { session, array } => { of_array(script, block, session, array) }
+        Line::Suspend { session, job }
+        | Line::Resume { session, job }
+        | Line::Hold { session, job }
+        | Line::Release { session, job }
+        | Line::Terminate { session, job }
+        | Line::Reap { session, job }
+        | Line::State { session, job }
+        | Line::Info { session, job } => { of_job(script, block, session, job) }
+        Line::WaitStarted { session, jobs, .. } | Line::WaitTerminated { session, jobs, .. } => {
+            of_jobs(script, block, session.get(), jobs.as_slice())
+        }
         Line::Reserve {
             session,
             template,
             ..
-        } => of_frame(script, block, session, template),
+        } => { of_frame(script, block, session, template) }
         Line::Reservation {
             session,
             reservation,
-        } => of_reservation(script, block, session, reservation),
-        Line::Cancel {
+        }
+        | Line::Cancel {
             session,
             reservation,
-        } => of_reservation(script, block, session, reservation),
-        Line::Started { job } => is_job(script, block, job),
-        Line::StartFailed { job } => is_job(script, block, job),
-        Line::ExitUnknown { job } => is_job(script, block, job),
-        Line::Exit { job, .. } => is_job(script, block, job),
-        Line::ExitSignal { job, .. } => is_job(script, block, job),
-        Line::SignalDone { job, .. } => is_job(script, block, job),
-        Line::SignalFailed { job, .. } => is_job(script, block, job),
+        } => { of_reservation(script, block, session, reservation) }
+        Line::Started { job }
+        | Line::StartFailed { job }
+        | Line::Exit { job, .. }
+        | Line::ExitSignal { job, .. }
+        | Line::ExitUnknown { job }
+        | Line::SignalDone { job, .. }
+        | Line::SignalFailed { job, .. } => { is_job(script, block, job) }
     }
 }
 
@@ -258,19 +226,15 @@ fn belongs(mode: Mode, in_setup: bool, line: &Line) -> bool
     }
 }
 
-/// Whether a line may stand behind those of its block and of the setup block. The names that it uses become those that are
-/// kept for these lines and for the templates.
+/// Whether a line may stand behind those of its block and of the setup block.
 pub(crate) fn may_stand(
-    alloc: Global,
     mode: Mode,
     in_setup: bool,
     script: &Script,
     block: &Block,
-    line: &mut Line,
+    line: &Line,
 ) -> bool
-    ensures value { result ≡ follows.may_stand mode in_setup script.now (follows.lines_of script.now.setup ++ block.now) line.old }
-    ensures same { line.new ≡ line.old }
+    ensures { result ≡ follows.may_stand mode in_setup script.now (follows.lines_of script.now.setup ++ block.now) line.now }
 {
-    belongs(mode, in_setup, &*line)
-        && (is_free(script, block, &*line) && refers(alloc, script, block, line))
+    belongs(mode, in_setup, line) && (is_free(script, block, line) && refers(script, block, line))
 }

@@ -6,6 +6,7 @@ mod blocks;
 mod follow;
 mod header;
 mod keyed;
+mod packed;
 mod reading;
 mod scripts;
 mod states;

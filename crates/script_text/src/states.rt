@@ -2,6 +2,7 @@
 ghost use Rattle.std.specs.Prelude.{◌≡◌, IfOk, Some};
 ghost use Rattle.std.specs.Str.{bytes_eq};
 ghost use Rattle.text_codec.specs.Formats.{Says};
+ghost use Rattle.script_lines.specs.Lines as lines;
 ghost use Rattle.script_lines.specs.Templates.{with_field, with_reservation_field};
 ghost use Rattle.script_text.specs.Automaton as automaton;
 ghost use Rattle.script_text.specs.Scripts as scripts;
@@ -258,7 +259,7 @@ fn read_name(cursor: &mut Cursor) -> Result<Name, Unread>
 {
     let name = text_codec::read_name(cursor)?;
     cursor.end()?;
-    Ok(Name::new(cursor.alloc(), name)?)
+    Ok(Name::new(name))
 }
 
 fn after_top(
@@ -517,19 +518,20 @@ fn with_block(
     }
 }
 
+/// With the line that these bytes spell.
 fn asked(
-    alloc: Global,
     mode: Mode,
     script: Boxed<Script>,
     block: Block,
     in_setup: bool,
-    line: Line,
+    text: &[u8],
+    line: &Line,
 ) -> Result<Reader, Unread>
-    ensures { Says (automaton.asked mode script block in_setup line) result }
+    requires { lines.read_line text.now ≡ Some line.now }
+    ensures { Says (automaton.asked mode script block in_setup line.now) result }
 {
-    let mut line = line;
-    if may_stand(alloc, mode, in_setup, script.get(), &block, &mut line) {
-        match block.with(line) {
+    if may_stand(mode, in_setup, script.get(), &block, line) {
+        match block.with(text, line) {
             Ok(block) => Ok(Reader::Asking {
                 mode,
                 script,
@@ -542,7 +544,6 @@ fn asked(
             }
         }
     } else {
-        drop(line);
         drop(block);
         drop(script);
         Err(Unread::Unspelled)
@@ -564,7 +565,7 @@ fn after_asking(
         Ok(Reader::Top { mode, script })
     } else {
         match read_line(alloc, line) {
-            Ok(said) => asked(alloc, mode, script, block, in_setup, said),
+            Ok(said) => asked(mode, script, block, in_setup, line, &said),
             Err(fault) => {
                 drop(block);
                 drop(script);

@@ -8,8 +8,7 @@ ghost use Rattle.thread_play.specs.Stages.{PlaysOn, Hired, IsReady, HasPlayed};
 use block_play::{Names, Stopped, play_block};
 use call_history::{Bell, Client, Desk, MachineOpener, SharedMachine};
 use drmaa_types::{CallerId, Clock, Clocks};
-use script_lines::Line;
-use script_text::Script;
+use script_text::{Block, Script};
 use std::alloc::{AllocError, Global};
 use std::sync::Wait;
 use std::time::Clock as Pause;
@@ -56,18 +55,18 @@ fn play_lines<R: Wait + Pause, C: Clock>(
     script: &Script,
     names: &Names,
     desk: &mut Desk<C>,
-    lines: &[Line],
+    block: &Block,
 ) -> Result<(), Stopped>
     requires { IsFree desk.old.shared.now desk.old.client }
     ensures desk { IsStillAt desk.old.shared.now desk.old.client desk.new.shared.now desk.new.client }
     ensures timed { StaysTimed (mine_of desk.old.client) (C.given desk.old.clock) (mine_of desk.new.client) (C.given desk.new.clock) }
     ensures played { mine_of desk.old.client ≡ [] →
-        PlaysOn desk.old.shared.now.fixed script.now names.now lines.now (mine_of desk.new.client) (seen_of desk.new.client) (C.given desk.new.clock) result }
+        PlaysOn desk.old.shared.now.fixed script.now names.now block.now (mine_of desk.new.client) (seen_of desk.new.client) (C.given desk.new.clock) result }
 {
     let Ok(names) = names.copied(alloc) else {
         return Err(Stopped::Memory);
     };
-    match play_block(rt, alloc, script, desk, names, lines) {
+    match play_block(rt, alloc, script, desk, names, block) {
         Ok(_) => Ok(()),
         Err(why) => Err(why),
     }
@@ -98,8 +97,8 @@ pub(crate) fn play_own<R: Wait + Pause, C: Clock>(
         clock,
         bell,
     };
-    let lines = script.clients.as_slice()[place].lines();
-    let ended = play_lines(rt, alloc, script, names, &mut desk, lines);
+    let block = &script.clients.as_slice()[place];
+    let ended = play_lines(rt, alloc, script, names, &mut desk, block);
     let Desk { client, clock, .. } = desk;
     Worker {
         client,

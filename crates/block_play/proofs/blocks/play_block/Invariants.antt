@@ -5,9 +5,9 @@ use Rattle.block_play.specs.Played.{PlayedLines}
 use Rattle.block_play.proofs.blocks.play_block.Given as goal
 
 -- the lines before this one were played
-abbrev pub invariant-loop-line : goal.invariant-loop-line
-invariant-loop-line g l = record {
+abbrev pub invariant-loop-place : goal.invariant-loop-place
+invariant-loop-place g l = record {
   still : IsStillAt l.fn.desk.shared.now l.fn.desk.client l.desk.shared.now l.desk.client;
   timed : StaysTimed (mine_of l.fn.desk.client) (g.C.Clock.given l.fn.desk.clock) (mine_of l.desk.client) (g.C.Clock.given l.desk.clock);
-  played : PlayedLines l.script l.fn.names (take l.line-index l.lines) 0 (mine_of l.fn.desk.client) (mine_of l.desk.client) l.names (g.C.Clock.least l.desk.clock);
+  played : PlayedLines l.script l.fn.names (take l.place l.block) 0 (mine_of l.fn.desk.client) (mine_of l.desk.client) l.names (g.C.Clock.least l.desk.clock);
 }

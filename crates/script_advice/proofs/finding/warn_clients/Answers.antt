@@ -1,5 +1,5 @@
-use Rattle.std.proofs.Common.{◌≡◌, ◌+◌, ◌<◌, ◌++◌, length, get_or, subst, ap, ◌∙◌}
-use Rattle.script_advice.specs.Warnings.{of_client, of_clients}
+use Rattle.std.proofs.Common.{◌≡◌, ◌<◌, ◌++◌, length, get_or, subst}
+use Rattle.script_advice.specs.Warnings.{of_clients}
 use Rattle.script_advice.specs.WarningLaws.{clients_more}
 use Rattle.script_advice.proofs.finding.warn_clients.Goals as goal
 
@@ -9,5 +9,5 @@ loop-i-preserved c =
     clients_more s c.loop-i.i s.clients c.block-item.result c.loop-i.found.items c.warn_client.new.found.items (c.args.found.now.items ++ of_clients s 1 s.clients)
     (subst (λ cs. c.loop-i.i < length cs) c.as_slice-block-items.ensures c.loop-i-test.true)
     (subst (λ cs. c.block-item.result ≡ get_or cs c.loop-i.i c.block-item.result) c.as_slice-block-items.ensures c.block-item.is)
-    (c.in_ok-warn_client.ensures ∙ ap (λ ls. c.loop-i.found.items ++ of_client s (c.loop-i.i + 1) ls) c.lines.ensures)
+    c.in_ok-warn_client.ensures
     c.loop-i.invariant

@@ -4,8 +4,8 @@ use Rattle.script_advice.specs.Warnings.{endless}
 use Rattle.script_advice.proofs.finding.warn_endless.Given as goal
 
 -- what was found so far, and what is left, are all of it; and what the lines so far hold is known
-abbrev pub invariant-loop-line : goal.invariant-loop-line
-invariant-loop-line l = record {
-  found : l.found.items ++ endless l.fn.place l.script (take l.line-index l.lines) (drop l.line-index l.lines) ≡ l.initial.found.items ++ endless l.fn.place l.script [] l.lines;
-  holds : AreHolds l.script (take l.line-index l.lines) l.earlier;
+abbrev pub invariant-loop-i : goal.invariant-loop-i
+invariant-loop-i l = record {
+  found : l.found.items ++ endless l.fn.place l.script (take l.i l.block) (drop l.i l.block) ≡ l.initial.found.items ++ endless l.fn.place l.script [] l.block;
+  holds : AreHolds l.script (take l.i l.block) l.earlier;
 }

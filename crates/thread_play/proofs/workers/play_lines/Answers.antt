@@ -14,10 +14,10 @@ returns-clause-played g c none =
     let early = g.C.Clock.given c.args.desk.now.clock in
     let given = g.C.Clock.given c.play_block.new.desk.clock in
     let named = c.in-Ok.ensures in
-    let on : PlaysOn config s c.in-Ok.names c.args.lines.now own seen given c.play_block.result =
-    plays-on config s c.in-Ok.names c.args.lines.now c.args.desk.now.client c.play_block.new.desk.client early given _ c.play_block.result none c.play_block.ensures.ok c.play_block.ensures.err in
-    let here : PlaysOn config s c.args.names.now c.args.lines.now own seen given c.play_block.result = subst (λ (n : Names). PlaysOn config s n c.args.lines.now own seen given c.play_block.result) named on in
+    let on : PlaysOn config s c.in-Ok.names c.args.block.now own seen given c.play_block.result =
+    plays-on config s c.in-Ok.names c.args.block.now c.args.desk.now.client c.play_block.new.desk.client early given _ c.play_block.result none c.play_block.ensures.ok c.play_block.ensures.err in
+    let here : PlaysOn config s c.args.names.now c.args.block.now own seen given c.play_block.result = subst (λ (n : Names). PlaysOn config s n c.args.block.now own seen given c.play_block.result) named on in
     elim c.match-play_block.branch [
-      | in-Ok-play_block w ↦ ends-well Names (Unit {0}) config s c.args.names.now c.args.lines.now own seen given c.play_block.result c.match-play_block.result w.in-Ok-play_block.field-0 tt w.in-Ok-play_block.is w.result-is here
-      | in-Err w ↦ ends-early Names (Unit {0}) config s c.args.names.now c.args.lines.now own seen given c.play_block.result c.match-play_block.result w.in-Err.why w.in-Err.is w.result-is here
+      | in-Ok-play_block w ↦ ends-well Names (Unit {0}) config s c.args.names.now c.args.block.now own seen given c.play_block.result c.match-play_block.result w.in-Ok-play_block.field-0 tt w.in-Ok-play_block.is w.result-is here
+      | in-Err w ↦ ends-early Names (Unit {0}) config s c.args.names.now c.args.block.now own seen given c.play_block.result c.match-play_block.result w.in-Err.why w.in-Err.is w.result-is here
     ]
