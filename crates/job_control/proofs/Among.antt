@@ -6,7 +6,7 @@ use Rattle.drmaa_model.specs.declared.rows.Row.{Row}
 use Rattle.drmaa_model.specs.Targets.{is_meant}
 use Rattle.plan_book.specs.Meant.{NoneMeant, HasAllMeant}
 
-find-behind : (test : Row → Bool) (front rows : List Row) → AllByRecursion (λ (row : Row). test row ≡ false) front → find test (front ++ rows) ≡ find test rows
+pub find-behind : (test : Row → Bool) (front rows : List Row) → AllByRecursion (λ (row : Row). test row ≡ false) front → find test (front ++ rows) ≡ find test rows
 find-behind test [] rows none = refl
 find-behind test (row ∷ front) rows none =
     ap (λ b. cond b (Some row) (find test (front ++ rows))) none.0 ∙ find-behind test front rows none.1

@@ -71,7 +71,7 @@ called-kill m rs r x =
     (λ h. (elim (is_unasked r.course.kill) as (λ u. (u && (not u && x)) ≡ false) [ true ↦ refl | false ↦ refl ]) ∙ sym (ap (λ b. b && x) h))
     (λ h started n. (let due = (and_parts (is_started r.course.state) (is_unasked r.course.kill && _) h).1 in ap (λ u. u && (true && x)) (and_parts (is_unasked r.course.kill) _ due).0) ∙ sym (ap (λ b. b && x) h))
 
-kill-due : (at : ℕ) (p : Plan) (r : Row) → (let m = max p.moment at in let rs = filter (lasts m) p.reservations in
+pub kill-due : (at : ℕ) (p : Plan) (r : Row) → (let m = max p.moment at in let rs = filter (lasts m) p.reservations in
     is_killed at p r ≡ (is_due m rs (lapsed m rs r) && is_alive (row_then at p r).course.phase))
 kill-due at p r =
     let m = max p.moment at in

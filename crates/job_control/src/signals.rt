@@ -137,12 +137,12 @@ fn kill_due(book: &Book, at: Moment) -> Option<Order>
     first_kill(book, at)
 }
 
-/// The same where time may have something to do.
+/// The same where time may have something to do. It asks for no kill of the jobs at the front that are over.
 fn first_kill(book: &Book, at: Moment) -> Option<Order>
     requires kept { IsKept book.now }
     ensures { result ≡ option_map kill_order (find (is_killed at (plan_of book.now)) book.now.rows.items) }
 {
-    for row in book.rows() {
+    for row in book.open_rows() {
         if is_killed(book, at, row) {
             return Some(kill_order(row));
         }

@@ -13,7 +13,7 @@ use drmaa_model::{Row, Target};
 use drmaa_types::{Control, JobState, Moment, Refusal, Which};
 use job_states::{after_control, has_terminated};
 use plan_book::Book;
-use plan_book::targets::{is_meant, meant_rows};
+use plan_book::targets::is_meant;
 
 /// What a call does to the jobs that are meant and whose state permits it.
 #[derive(Clone, Copy)]
@@ -65,7 +65,7 @@ fn first_meant<'a>(book: &'a Book, target: &Target) -> Option<&'a Row>
     requires kept { IsKept book.now }
     ensures { option_copied result ≡ find (is_meant target.now) book.now.rows.items }
 {
-    first_in(meant_rows(book.rows(), *target), target)
+    first_in(book.meant_rows(*target), target)
 }
 
 /// The first of these jobs that is meant.
@@ -80,7 +80,7 @@ fn is_any_permitted(book: &Book, at: Moment, target: &Target, act: Act) -> bool
     requires kept { IsKept book.now }
     ensures { result ≡ list_any (λ (row : Row). is_meant target.now row && may_act act row.course.state) (rows_at at (plan_of book.now)) }
 {
-    is_any_among(book, at, meant_rows(book.rows(), *target), target, act)
+    is_any_among(book, at, book.meant_rows(*target), target, act)
 }
 
 /// The same of these jobs.

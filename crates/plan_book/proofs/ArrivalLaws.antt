@@ -14,6 +14,7 @@ use Rattle.drmaa_model.specs.declared.reservations.Accepted.{Accepted}
 use Rattle.drmaa_model.specs.Effects.{left_by, is_forgotten, forget_home}
 use Rattle.drmaa_model.specs.Homes.{is_same_home}
 use Rattle.drmaa_model.specs.Fit.{IsSound, IsFit}
+use Rattle.drmaa_model.specs.Order.{held}
 use Rattle.drmaa_model.specs.Plan.{Plan}
 use Rattle.drmaa_model.specs.FitLaws.{not-using}
 use Rattle.drmaa_model.specs.RowLaws.{all-implied}
@@ -24,6 +25,7 @@ use Rattle.drmaa_model.specs.TimeLaws.{waits-not_started}
 use Rattle.reservation_calendar.specs.declared.bookings.Booking.{Booking}
 use Rattle.reservation_calendar.specs.Schedules.{Schedule}
 use Rattle.plan_book.specs.Book.{owes, may_ask, owed, askable, joined}
+use Rattle.plan_book.specs.Owed.{reports_due, reports_to_come}
 use Rattle.plan_book.specs.Ties.{counted_of, counted_for, booking_of, IsTied}
 use Rattle.plan_book.specs.Waiting.{AreWaiting}
 
@@ -86,6 +88,12 @@ module _ (meant : Row → Bool) (rows : List Row) (sound : AllByRecursion (λ (r
 
   pub left-askable : askable (filter (λ (r : Row). not (meant r && is_done r)) rows) ≡ askable rows
   left-askable = left (λ r. may_ask r.course) (λ r s done. ap (λ b. cond {A = ℕ} (b && is_unasked r.course.kill) 1 0) (done-over r.course.state done).1)
+
+  pub left-held : held (filter (λ (r : Row). not (meant r && is_done r)) rows) ≡ held rows
+  left-held = left (λ r. r.course.held) (λ r s done. (s.idle (done-over r.course.state done).1).1)
+
+  pub left-reports : reports_to_come (filter (λ (r : Row). not (meant r && is_done r)) rows) ≡ reports_to_come rows
+  left-reports = left (λ r. reports_due r.course.phase) (λ r s done. ap reports_due (s.idle (done-over r.course.state done).1).0)
 
   pub left-counted : (f : Booking → ℕ) → sum_by (counted_of f) (filter (λ (r : Row). not (meant r && is_done r)) rows) ≡ sum_by (counted_of f) rows
   left-counted f = left (counted_of f) (λ r s done. ap (λ b. cond b (f (booking_of r)) 0) (not-using r (done-over r.course.state done).1))

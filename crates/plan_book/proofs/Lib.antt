@@ -5,10 +5,13 @@ pub mod Flat
 pub mod MeantLaws
 pub mod MoveLaws
 pub mod OpenLaws
+pub mod PartLaws
 pub mod PassLaws
 pub mod QuietLaws
 pub mod RoomLaws
 pub mod Searched
+pub mod SettledLaws
+pub mod SpanLaws
 pub mod SumLaws
 pub mod SweepLaws
 pub mod TextLaws

@@ -53,7 +53,7 @@ among-none job rows none = record { before = rows; behind = []; none_before = ot
 
 -- ---- what is said of all is said of these
 
-flat-none : {Y : Type 0} (f : Row → List Y) (rows : List Row) → AllByRecursion (λ (row : Row). f row ≡ []) rows → flat_map f rows ≡ []
+pub flat-none : {Y : Type 0} (f : Row → List Y) (rows : List Row) → AllByRecursion (λ (row : Row). f row ≡ []) rows → flat_map f rows ≡ []
 flat-none f [] none = refl
 flat-none f (row ∷ rows) none = ap (λ ys. ys ++ flat_map f rows) none.0 ∙ flat-none f rows none.1
 
@@ -67,7 +67,7 @@ filter-none : (test : Row → Bool) (rows : List Row) → AllByRecursion (λ (ro
 filter-none test [] none = refl
 filter-none test (row ∷ rows) none = ap (λ b. cond b (row ∷ filter test rows) (filter test rows)) none.0 ∙ filter-none test rows none.1
 
-filter-part : (test : Row → Bool) (t : Target) → ((row : Row) → is_meant t row ≡ false → test row ≡ false) → (rows part : List Row) → HasAllMeant t rows part → filter test part ≡ filter test rows
+pub filter-part : (test : Row → Bool) (t : Target) → ((row : Row) → is_meant t row ≡ false → test row ≡ false) → (rows part : List Row) → HasAllMeant t rows part → filter test part ≡ filter test rows
 filter-part test t nothing rows part all =
     let none = λ (rs : List Row) (h : NoneMeant t rs). filter-none test rs (all-implied (λ (row : Row). is_meant t row ≡ false) (λ (row : Row). test row ≡ false) nothing rs h) in
     sym (ap (filter test) all.parts ∙ filter-append test all.before (part ++ all.behind) ∙ ap (λ ys. ys ++ filter test (part ++ all.behind)) (none all.before all.none_before)
@@ -75,7 +75,7 @@ filter-part test t nothing rows part all =
 
 -- ---- a call leaves those that are not meant
 
-step-stays : (moment : ℕ) (t : Target) (what : Control) (row : Row) → is_meant t row ≡ false → control_step moment t what row ≡ row
+pub step-stays : (moment : ℕ) (t : Target) (what : Control) (row : Row) → is_meant t row ≡ false → control_step moment t what row ≡ row
 step-stays moment t what row none = ap (λ b. cond (b && permits what row) (controlled_row moment what row) row) none
 
 pub noted-part : (entry moment : ℕ) (t : Target) (what : Control) (rows part : List Row) → HasAllMeant t rows part → flat_map (noted entry moment t what) part ≡ flat_map (noted entry moment t what) rows
@@ -103,7 +103,7 @@ map-same : (f g : Row → Row) (rows : List Row) → AllByRecursion (λ (row : R
 map-same f g [] same = refl
 map-same f g (row ∷ rows) same = ap (λ (r : Row). r ∷ map f rows) same.0 ∙ ap (λ (rs : List Row). g row ∷ rs) (map-same f g rows same.1)
 
-map-stays : (f : Row → Row) (rows : List Row) → AllByRecursion (λ (row : Row). f row ≡ row) rows → map f rows ≡ rows
+pub map-stays : (f : Row → Row) (rows : List Row) → AllByRecursion (λ (row : Row). f row ≡ row) rows → map f rows ≡ rows
 map-stays f [] same = refl
 map-stays f (row ∷ rows) same = ap (λ (r : Row). r ∷ map f rows) same.0 ∙ ap (λ (rs : List Row). row ∷ rs) (map-stays f rows same.1)
 

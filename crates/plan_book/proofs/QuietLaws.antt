@@ -32,10 +32,10 @@ pub not-true : (b : Bool) → not b ≡ true → b ≡ false
 not-true true h = absurd (cc)
 not-true false h = refl
 
-lapsed-same : (m : ℕ) (rs : List Accepted) (r : Row) → lapses m rs r ≡ false → lapsed m rs r ≡ r
+pub lapsed-same : (m : ℕ) (rs : List Accepted) (r : Row) → lapses m rs r ≡ false → lapsed m rs r ≡ r
 lapsed-same m rs r h = ap (λ (b : Bool). cond {A = Row} b (record r { course = failed m (cond (is_late m r) note.PastDeadline note.ReservationGone) r.course }) r) h
 
-called-same : (m : ℕ) (rs : List Accepted) (r : Row) → is_due m rs r ≡ false → called_in m rs r ≡ r
+pub called-same : (m : ℕ) (rs : List Accepted) (r : Row) → is_due m rs r ≡ false → called_in m rs r ≡ r
 called-same m rs r h = ap (λ (b : Bool). cond {A = Row} b (record r { course = called (cond (is_over m r) note.PastLimit note.ReservationGone) r.course }) r) h
 
 record Stays (m : ℕ) (rs : List Accepted) (rows : List Row) : Type 0 where

@@ -1,7 +1,7 @@
 -- What a search by halves finds in a list that is in order of number.
-use Rattle.std.proofs.Common.{◌≡◌, ◌≢◌, ℕ, zero, suc, ◌<◌, ◌≤◌, Bool, true, false, cond, not, ◌&&◌, eqb, List, [], ◌∷◌, length, take, drop, get_or, set, map, filter, find, Option, Some, None, Result, Ok, Err, IfOk, IfErr, refl, sym, ◌∙◌, ap, arith}
+use Rattle.std.proofs.Common.{◌≡◌, ◌≢◌, ℕ, zero, suc, ◌<◌, ◌≤◌, Bool, true, false, cond, not, ◌&&◌, eqb, List, [], ◌∷◌, ◌++◌, length, take, drop, get_or, set, map, filter, find, Option, Some, None, Result, Ok, Err, IfOk, IfErr, refl, sym, ◌∙◌, ap, arith}
 use Rattle.std.specs.Prelude.{is_some}
-use Rattle.std.specs.Option.{option_map_or}
+use Rattle.std.specs.Option.{option_map, option_map_or}
 use Rattle.std.specs.List.{AllByRecursion, remove}
 use Rattle.std.specs.List.Sorted.{IsSearchInRange, IsBinarySearchResult, IsNonDecreasingBy}
 use Rattle.std.specs.Ordering.{nat_cmp, ordering_index}
@@ -9,8 +9,23 @@ use Rattle.std.proofs.lemmas.Bool.{eqb-true, eq-eqb, ne_eqb}
 use Rattle.std.proofs.lemmas.Bool.Decides.{nat_tests}
 use Rattle.std.proofs.lemmas.Cmp.{ranked}
 use Rattle.drmaa_model.specs.Fit.{IsRising}
-use Rattle.drmaa_model.specs.RowLaws.{all-filter, all-implied}
+use Rattle.drmaa_model.specs.RowLaws.{all-filter, all-implied, all-map}
 use Rattle.plan_book.specs.Places.{IsAt}
+
+-- what holds of each element holds of all
+pub all-from : {X : Type 0} (P : X → Type 0) (xs : List X) → ((k : ℕ) (d : X) → k < length xs → P (get_or xs k d)) → AllByRecursion P xs
+all-from P [] each = tt
+all-from P (x ∷ xs) each = (each zero x (omega arith), all-from P xs (λ k d within. each (suc k) d (omega (arith, within))))
+
+pub all-taken : {X : Type 0} (P : X → Type 0) (xs : List X) (i : ℕ) → ((k : ℕ) (d : X) → k < i → k < length xs → P (get_or xs k d)) → AllByRecursion P (take i xs)
+all-taken P xs zero each = tt
+all-taken P [] (suc i) each = tt
+all-taken P (x ∷ xs) (suc i) each = (each zero x (omega arith) (omega arith), all-taken P xs i (λ k d low within. each (suc k) d (omega (arith, low)) (omega (arith, within))))
+
+pub all-dropped : {X : Type 0} (P : X → Type 0) (xs : List X) (i : ℕ) → ((k : ℕ) (d : X) → i ≤ k → k < length xs → P (get_or xs k d)) → AllByRecursion P (drop i xs)
+all-dropped P xs zero each = all-from P xs (λ k d within. each k d (omega arith) within)
+all-dropped P [] (suc i) each = tt
+all-dropped P (x ∷ xs) (suc i) each = all-dropped P xs i (λ k d high within. each (suc k) d (omega (arith, high)) (omega (arith, within)))
 
 module _ {X : Type 0} (number : X → ℕ) where
   pub all-at : (P : X → Type 0) (xs : List X) → AllByRecursion P xs → (i : ℕ) (d : X) → i < length xs → P (get_or xs i d)
@@ -68,6 +83,72 @@ module _ {X : Type 0} (number : X → ℕ) where
         found = tt;
         absent = find-none n xs (λ k d inside same. grind (arith, λ (low : k < i). ranked _ n _ (sym (point.0 k d (omega arith) low)), λ (high : i ≤ k). ranked _ n _ (sym (point.1 k d high inside))));
       })
+
+  -- the numbers don't fall
+  pub rising-by : (xs : List X) → IsRising number xs → IsNonDecreasingBy number xs
+  rising-by xs rising = λ a b d le inside. grind (arith, rising-at xs rising a b d, λ (same : a ≡ b). ap (λ k. number (get_or xs k d)) same)
+
+  -- where there is none, those before the place have lesser numbers, and those from it on greater ones
+  pub parted : (xs : List X) → IsRising number xs → (n : ℕ) (r : Result ℕ ℕ) → IsSearchInRange r (length xs) → IsBinarySearchResult (λ x. nat_cmp (number x) n) xs r
+      → record { below : IfErr r (λ (i : ℕ). AllByRecursion (λ x. number x < n) (take i xs)); above : IfErr r (λ (i : ℕ). AllByRecursion (λ x. n < number x) (drop i xs)); within : IfErr r (λ (i : ℕ). i ≤ length xs) }
+  parted xs rising n (Ok i) within equal = record { below = tt; above = tt; within = tt }
+  parted xs rising n (Err i) within split =
+      (let rise : IsNonDecreasingBy (λ x. ordering_index (nat_cmp (number x) n)) xs =
+      (λ a b d le inside.
+      (let up : number (get_or xs a d) ≤ number (get_or xs b d) = rising-by xs rising a b d le inside in
+      grind (arith, nat_tests))) in
+      let point = split rise in
+      record {
+        below = all-taken (λ x. number x < n) xs i (λ k d low inside. ranked _ n _ (sym (point.0 k d (omega arith) low)));
+        above = all-dropped (λ x. n < number x) xs i (λ k d high inside. ranked _ n _ (sym (point.1 k d high inside)));
+        within = within;
+      })
+
+  -- ---- putting in at the place
+
+  all-inserted : (P : X → Type 0) (xs : List X) (i : ℕ) (x : X) → AllByRecursion P xs → P x → AllByRecursion P (take i xs ++ x ∷ drop i xs)
+  all-inserted P xs zero x all here = (here, all)
+  all-inserted P [] (suc i) x all here = (here, tt)
+  all-inserted P (y ∷ ys) (suc i) x all here = (all.0, all-inserted P ys i x all.1 here)
+
+  pub rising-inserted : (xs : List X) (i : ℕ) (x : X) → IsRising number xs → AllByRecursion (λ y. number y < number x) (take i xs) → AllByRecursion (λ y. number x < number y) (drop i xs)
+      → IsRising number (take i xs ++ x ∷ drop i xs)
+  rising-inserted xs zero x rising below above = (above, rising)
+  rising-inserted [] (suc i) x rising below above = (tt, tt)
+  rising-inserted (y ∷ ys) (suc i) x rising below above = (all-inserted (λ z. number y < number z) ys i x rising.0 below.0, rising-inserted ys i x rising.1 below.1 above)
+
+  -- it is found by its number, and the others by theirs
+  pub find-beside : (n : ℕ) (xs : List X) (i : ℕ) (x : X) → eqb (number x) n ≡ false → find (λ y. eqb (number y) n) (take i xs ++ x ∷ drop i xs) ≡ find (λ y. eqb (number y) n) xs
+  find-beside n xs zero x other = ap (λ b. cond b (Some x) (find (λ y. eqb (number y) n) xs)) other
+  find-beside n [] (suc i) x other = ap (λ b. cond b (Some x) None) other
+  find-beside n (y ∷ ys) (suc i) x other = ap (λ (o : Option X). cond (eqb (number y) n) (Some y) o) (find-beside n ys i x other)
+
+  pub find-inserted : (n : ℕ) (xs : List X) (i : ℕ) (x : X) → eqb (number x) n ≡ true → find (λ y. eqb (number y) n) xs ≡ None → find (λ y. eqb (number y) n) (take i xs ++ x ∷ drop i xs) ≡ Some x
+  find-inserted n xs zero x is none = ap (λ b. cond b (Some x) (find (λ y. eqb (number y) n) xs)) is
+  find-inserted n [] (suc i) x is none = ap (λ b. cond b (Some x) None) is
+  find-inserted n (y ∷ ys) (suc i) x is none =
+      (elim (eqb (number y) n) as (λ b. cond b (Some y) (find (λ z. eqb (number z) n) ys) ≡ None → cond b (Some y) (find (λ z. eqb (number z) n) (take i ys ++ x ∷ drop i ys)) ≡ Some x) [
+        | true ↦ λ e. absurd (cc)
+        | false ↦ λ e. find-inserted n ys i x is e
+      ]) none
+
+  -- ---- elements that keep their numbers
+
+  pub rising-mapped : (g : X → X) → ((x : X) → number (g x) ≡ number x) → (xs : List X) → IsRising number xs → IsRising number (map g xs)
+  rising-mapped g same [] rising = tt
+  rising-mapped g same (x ∷ xs) rising = (
+    all-map (λ y. number (g x) < number y) g xs (all-implied (λ y. number x < number y) (λ y. number (g x) < number (g y)) (λ y less. omega (arith, less, same x, same y)) xs rising.0),
+    rising-mapped g same xs rising.1,
+  )
+
+  pub find-mapped : (g : X → X) → ((x : X) → number (g x) ≡ number x) → (n : ℕ) (xs : List X) → find (λ y. eqb (number y) n) (map g xs) ≡ option_map g (find (λ y. eqb (number y) n) xs)
+  find-mapped g same n [] = refl
+  find-mapped g same n (x ∷ xs) =
+      ap (λ m. cond (eqb m n) (Some (g x)) (find (λ y. eqb (number y) n) (map g xs))) (same x)
+      ∙ (elim (eqb (number x) n) as (λ b. cond b (Some (g x)) (find (λ y. eqb (number y) n) (map g xs)) ≡ option_map g (cond b (Some x) (find (λ y. eqb (number y) n) xs))) [
+        | true ↦ refl
+        | false ↦ find-mapped g same n xs
+      ])
 
   -- ---- writing at the place
 

@@ -11,8 +11,9 @@ use Rattle.drmaa_model.specs.declared.rows.Row.{Row}
 use Rattle.drmaa_model.specs.Courses.{is_unasked}
 use Rattle.drmaa_model.specs.Fit.{IsRising, number_of}
 use Rattle.drmaa_model.specs.Rows.{row_of, with_course}
-use Rattle.drmaa_model.specs.RowLaws.{all-implied, all-push, all_with_course, sum_with_course, sum-found}
+use Rattle.drmaa_model.specs.RowLaws.{all-implied, all-map, all-push, all_with_course, sum_with_course, sum-found}
 use Rattle.drmaa_model.specs.Size.{phase_room, room_of}
+use Rattle.drmaa_model.specs.TimeLaws.{sum-kept}
 use Rattle.plan_book.specs.declared.sums.Sums.{Sums}
 use Rattle.plan_book.specs.Owed.{owes, may_ask, reports_due}
 use Rattle.plan_book.specs.Sums.{AreSums, AreFew, AreParts, with_job, with_others, without_job}
@@ -78,7 +79,7 @@ sums-push rows row sums small are = record {
   small = all-push (λ r. r.course.held < 2 ^ 32) rows row are.small small;
 }
 
-all-append : (P : Row → Type 0) (rows more : List Row) → AllByRecursion P rows → AllByRecursion P more → AllByRecursion P (rows ++ more)
+pub all-append : (P : Row → Type 0) (rows more : List Row) → AllByRecursion P rows → AllByRecursion P more → AllByRecursion P (rows ++ more)
 all-append P [] more all others = others
 all-append P (row ∷ rows) more all others = (all.0, all-append P rows more all.1 others)
 
@@ -90,6 +91,18 @@ sums-append rows more sums added are others = record {
   held = omega (arith, are.held, others.held, sum_by-append (λ (r : Row). r.course.held) rows more);
   reports = omega (arith, are.reports, others.reports, sum_by-append (λ (r : Row). reports_due r.course.phase) rows more);
   small = all-append (λ r. r.course.held < 2 ^ 32) rows more are.small others.small;
+}
+
+-- ---- all jobs go on, each with its course
+
+pub sums-map : (f : Row → Row) → ((row : Row) → (f row).course ≡ row.course) → (rows : List Row) (sums : Sums) → AreSums rows sums → AreSums (map f rows) sums
+sums-map f same rows sums are = record {
+  promised = are.promised ∙ sym (sum-kept (λ (r : Row). room_of r.course) f (λ row. ap room_of (same row)) rows);
+  owed = are.owed ∙ sym (sum-kept (λ (r : Row). owes r.course) f (λ row. ap owes (same row)) rows);
+  askable = are.askable ∙ sym (sum-kept (λ (r : Row). may_ask r.course) f (λ row. ap may_ask (same row)) rows);
+  held = are.held ∙ sym (sum-kept (λ (r : Row). r.course.held) f (λ row. ap (λ (c : Course). c.held) (same row)) rows);
+  reports = are.reports ∙ sym (sum-kept (λ (r : Row). reports_due r.course.phase) f (λ row. ap (λ (c : Course). reports_due c.phase) (same row)) rows);
+  small = all-map (λ r. r.course.held < 2 ^ 32) f rows (all-implied (λ (r : Row). r.course.held < 2 ^ 32) (λ (r : Row). (f r).course.held < 2 ^ 32) (λ r less. subst (λ (c : Course). c.held < 2 ^ 32) (sym (same r)) less) rows are.small);
 }
 
 -- ---- one job goes on

@@ -1,9 +1,10 @@
 -- The text of the templates of rows as rows go on and leave.
-use Rattle.std.proofs.Common.{◌≡◌, ℕ, ◌+◌, ◌-◌, ◌<◌, ◌≤◌, Bool, true, false, cond, not, List, map, filter, drop, length, get_or, Option, Some, refl, sym, ap, subst, arith}
+use Rattle.std.proofs.Common.{◌≡◌, ℕ, ◌+◌, ◌-◌, ◌<◌, ◌≤◌, Bool, true, false, cond, not, List, ◌∷◌, map, filter, drop, length, get_or, Option, Some, refl, sym, ◌∙◌, ap, subst, arith}
 use Rattle.std.specs.List.{remove}
 use Rattle.std.proofs.Math.ListN.{drop_of_length-le}
 use Rattle.std.proofs.lemmas.List.Filters.{sum_by-filter_both}
-use Rattle.std.proofs.lemmas.List.Sums.{sum_by-remove}
+use Rattle.std.proofs.lemmas.List.{drop_more}
+use Rattle.std.proofs.lemmas.List.Sums.{sum_by-cons, sum_by-remove}
 use Rattle.job_template.specs.Texts.{text_length}
 use Rattle.drmaa_types.specs.declared.identifiers.JobId.{JobId}
 use Rattle.drmaa_types.specs.declared.states.Control.{Control}
@@ -47,6 +48,17 @@ text-step moment t what rows = text-map (control_step moment t what) (step-templ
 -- what leaves and what stays
 pub text-both : (leaves : Row → Bool) (rows : List Row) → kept_text (filter leaves rows) + kept_text (filter (λ row. not (leaves row)) rows) ≡ kept_text rows
 text-both leaves rows = sum_by-filter_both leaves (λ row. not (leaves row)) (λ row. refl) (λ (row : Row). text_length row.template) rows
+
+-- what the next job leaves of the text of those that leave
+pub text-leaves : (leaves : Row → Bool) (rows : List Row) (i : ℕ) (row : Row) (b : Bool) → i < length rows → row ≡ get_or rows i row → leaves row ≡ b
+    → kept_text (filter leaves (drop i rows)) ≡ cond b (text_length row.template) 0 + kept_text (filter leaves (drop (i + 1) rows))
+text-leaves leaves rows i row b within is test =
+    let rest = filter leaves (drop (i + 1) rows) in
+    ap (λ (rs : List Row). kept_text (filter leaves rs)) (drop_more rows i row within ∙ ap (λ (r : Row). r ∷ drop (i + 1) rows) (sym is)) ∙ ap (λ (t : Bool). kept_text (cond t (row ∷ rest) rest)) test
+    ∙ (elim b as (λ t. kept_text (cond t (row ∷ rest) rest) ≡ cond t (text_length row.template) 0 + kept_text rest) [
+      | true ↦ sum_by-cons (λ (r : Row). text_length r.template) row rest
+      | false ↦ omega arith
+    ])
 
 -- one leaves
 pub room-removed : (rows left : List Row) (place : ℕ) (row : Row) (room : Option ℕ) → place < length rows → row ≡ get_or rows place row → left ≡ remove rows place → IsRoomBeside (kept_text rows) room

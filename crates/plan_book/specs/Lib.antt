@@ -8,6 +8,8 @@ pub mod Owed
 pub mod Passes
 pub mod Places
 pub mod Quiet
+pub mod Settled
+pub mod Spans
 pub mod Sums
 pub mod Sweeps
 pub mod Texts

@@ -1,5 +1,5 @@
 -- Jobs that are open, behind those at the front that are over: our profile.
-use Rattle.std.specs.Prelude.{◌≡◌, ℕ, ◌≤◌, Bool, true, false, not, ◌&&◌, ◌++◌, is_none, int_lt, ℤ, List, length, take}
+use Rattle.std.specs.Prelude.{◌≡◌, Bool, true, false, not, ◌&&◌, ◌++◌, is_none, int_lt, ℤ, List}
 use Rattle.std.specs.List.{AllByRecursion}
 use Rattle.drmaa_types.specs.States.{is_waiting, is_started}
 use Rattle.drmaa_model.specs.declared.rows.Row.{Row}
@@ -13,11 +13,6 @@ pub record AreOpen (rows : List Row) (rest : List Row) : Type 0 where
   pub front : List Row
   pub over : AllByRecursion (λ (row : Row). is_over row ≡ true) front
   pub parts : rows ≡ front ++ rest
-
--- the first n jobs are over
-pub record AreOver (n : ℕ) (rows : List Row) : Type 0 where
-  pub within : n ≤ length rows
-  pub over : AllByRecursion (λ (row : Row). is_over row ≡ true) (take n rows)
 
 -- no job has a greater priority
 abbrev pub IsPriorityBound : List Row → ℤ → Type 0

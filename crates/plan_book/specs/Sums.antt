@@ -6,9 +6,12 @@ use Rattle.drmaa_model.specs.declared.rows.Row.{Row}
 use Rattle.drmaa_model.specs.Order.{held}
 use Rattle.drmaa_model.specs.Size.{room_of, promised}
 use Rattle.drmaa_model.specs.Submitting.{kept_text}
-use Rattle.plan_book.specs.Open.{AreOver, IsPriorityBound}
+use Rattle.plan_book.specs.Open.{IsPriorityBound}
 use Rattle.plan_book.specs.Owed.{owes, may_ask, reports_due, owed, askable, reports_to_come}
+use Rattle.plan_book.specs.Settled.{AreSettled}
+use Rattle.plan_book.specs.Spans.{AreSpanned}
 use Rattle.plan_book.specs.Texts.{IsRoomBeside}
+use Rattle.plan_book.specs.declared.spans.Spans.{Spans}
 use Rattle.plan_book.specs.declared.sums.Sums.{Sums}
 
 -- The sums are those of the rows.
@@ -22,11 +25,12 @@ pub record AreSums (rows : List Row) (sums : Sums) : Type 0 where
   pub small : AllByRecursion (λ (row : Row). row.course.held < 2 ^ 32) rows
 
 -- what is kept beside the rows is theirs
-pub record AreKept (rows : List Row) (sums : Sums) (room : Option ℕ) (front : ℕ) (most : ℤ) : Type 0 where
+pub record AreKept (rows : List Row) (sums : Sums) (room : Option ℕ) (front : ℕ) (most : ℤ) (spans : Spans) : Type 0 where
   pub totals : AreSums rows sums
   pub text : IsRoomBeside (kept_text rows) room
-  pub over : AreOver front rows
+  pub settled : AreSettled front rows
   pub greatest : IsPriorityBound rows most
+  pub members : AreSpanned rows spans
 
 -- the sums leave room for others
 pub record AreFew (sums : Sums) : Type 0 where
@@ -35,6 +39,14 @@ pub record AreFew (sums : Sums) : Type 0 where
   pub askable : sums.askable < 2 ^ 127
   pub held : sums.held < 2 ^ 127
   pub reports : sums.reports < 2 ^ 127
+
+-- what some of the jobs come to is among them
+pub record AreAmong (others sums : Sums) : Type 0 where
+  pub promised : others.promised ≤ sums.promised
+  pub owed : others.owed ≤ sums.owed
+  pub askable : others.askable ≤ sums.askable
+  pub held : others.held ≤ sums.held
+  pub reports : others.reports ≤ sums.reports
 
 -- what a job with this course adds is among them
 pub record AreParts (course : Course) (sums : Sums) : Type 0 where
@@ -72,4 +84,14 @@ without_job course sums = record {
   askable = sums.askable - may_ask course;
   held = sums.held - course.held;
   reports = sums.reports - reports_due course.phase;
+}
+
+-- without some of them
+abbrev pub without_others : Sums → Sums → Sums
+without_others sums others = record {
+  promised = sums.promised - others.promised;
+  owed = sums.owed - others.owed;
+  askable = sums.askable - others.askable;
+  held = sums.held - others.held;
+  reports = sums.reports - others.reports;
 }

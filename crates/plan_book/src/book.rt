@@ -13,6 +13,7 @@ ghost use Rattle.drmaa_model.specs.Time.{advance_plan, is_accepted, rows_at, las
 ghost use Rattle.drmaa_model.specs.Load.{reservation_of};
 ghost use Rattle.plan_book.specs.Book.{plan_of, calendar_of, IsKept, spare, course_then};
 ghost use Rattle.plan_book.specs.Facts.{facts_of};
+ghost use Rattle.plan_book.specs.Meant.{HasAllMeant};
 ghost use Rattle.plan_book.specs.Open.{AreOpen, IsPriorityBound};
 ghost use Rattle.plan_book.specs.Owed.{reports_to_come};
 ghost use Rattle.plan_book.specs.Places.{AreInOrder};
@@ -21,7 +22,7 @@ use crate::kept::Rows;
 use crate::reservations::{is_lasting, reservation_of};
 use crate::rows::Facts;
 use crate::time::{course_at, is_past};
-use drmaa_model::{Accepted, Course, Order, Row};
+use drmaa_model::{Accepted, Course, Order, Row, Target};
 use drmaa_types::{Change, End, JobId, Moment, QueueList, Refusal, ReservationId};
 use reservation_calendar::Calendar;
 use std::alloc::Global;
@@ -176,6 +177,15 @@ impl Book {
         ensures { AreOpen (plan_of self.now).rows result.now }
     {
         self.rows.open_rows()
+    }
+
+    /// The kept jobs, but for some at the front and at the end of which none is meant: that of one job alone, or those between the first
+    /// and the last member of an array.
+    pub fn meant_rows(&self, target: Target) -> &[Row]
+        requires kept { IsKept self.now }
+        ensures { HasAllMeant target (plan_of self.now).rows result.now }
+    {
+        self.rows.meant_rows(target)
     }
 
     /// A priority that no kept job's passes.

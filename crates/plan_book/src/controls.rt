@@ -12,7 +12,6 @@ ghost use Rattle.plan_book.specs.Sweeps.{acted, growth, asking, is_asking};
 
 use crate::book::Book;
 use crate::sweeps::{ask_controls, is_controlled, note_controls};
-use crate::targets::meant_rows;
 use crate::time::course_at;
 use drmaa_model::{Accepted, Row, Target};
 use drmaa_types::{Control, Limit, Moment, Refusal};
@@ -70,7 +69,7 @@ impl Book {
     {
         acted_then(
             &self.reservations,
-            meant_rows(self.rows.list(), *target),
+            self.meant_rows(*target),
             self.moment_at(at),
             target,
             what,
@@ -108,7 +107,7 @@ impl Book {
         ensures quiet { IsQuiet self.old.alarm (plan_of self.old) → IsQuiet self.new.alarm (plan_of self.new) }
     {
         note_controls(
-            meant_rows(self.rows.list(), *target),
+            self.rows.meant_rows(*target),
             &mut self.changes,
             self.moment,
             entry,
@@ -116,7 +115,7 @@ impl Book {
             what,
         );
         ask_controls(
-            meant_rows(self.rows.list(), *target),
+            self.rows.meant_rows(*target),
             &mut self.orders,
             target,
             what,

@@ -1,20 +1,21 @@
-//! The rows of a book with what they come to. Where one job goes on or is forgotten or jobs come in, that is kept up; else it is added
-//! up anew. The room that the text of their templates leaves is kept up always, and so are how many at the front are over, and the
-//! greatest priority, but where several jobs are forgotten.
-ghost use Rattle.std.specs.Prelude.{◌≡◌, ◌+◌, ◌≤◌, ◌^◌, ◌<◌, [], ◌++◌, ◌&&◌, not, map, filter, length, vec_len, vec_capacity, OnOk};
+//! The rows of a book with what they come to, which is kept up. Time goes over those behind the settled ones at the front alone, and
+//! what they come to is added up on the way; a call for an array goes over those between the first and the last of its
+//! members, or over all where its span found no memory, and a reap of an array closes up all.
+ghost use Rattle.std.specs.Prelude.{◌≡◌, ◌+◌, ◌≤◌, ◌^◌, ◌<◌, [], ◌++◌, ◌&&◌, not, map, filter, take, drop, length, vec_len, vec_capacity, OnOk};
 ghost use Rattle.std.specs.List.{AllByRecursion, flat_map, remove};
 ghost use Rattle.std.specs.Option.{option_copied};
 ghost use Rattle.drmaa_model.specs.declared.calls.Target.{Target};
 ghost use Rattle.drmaa_model.specs.declared.rows.Row.{Row};
 ghost use Rattle.drmaa_model.specs.Controlling.{control_step, is_done};
 ghost use Rattle.drmaa_model.specs.Effects.{left_by, is_forgotten};
-ghost use Rattle.drmaa_model.specs.Fit.{IsRising, number_of};
+ghost use Rattle.drmaa_model.specs.Fit.{IsRising, IsSound, number_of};
 ghost use Rattle.drmaa_model.specs.Order.{held};
 ghost use Rattle.drmaa_model.specs.Rows.{row_of, with_course};
 ghost use Rattle.drmaa_model.specs.Size.{promised};
 ghost use Rattle.drmaa_model.specs.Submitting.{kept_text};
 ghost use Rattle.drmaa_model.specs.Targets.{is_meant};
 ghost use Rattle.drmaa_model.specs.TimeLaws.{timed};
+ghost use Rattle.plan_book.specs.Meant.{HasAllMeant, NoneMeant};
 ghost use Rattle.plan_book.specs.Open.{AreOpen, IsPriorityBound};
 ghost use Rattle.plan_book.specs.Owed.{owed, askable, reports_to_come};
 ghost use Rattle.plan_book.specs.Passes.{ends, kills_then};
@@ -22,16 +23,20 @@ ghost use Rattle.plan_book.specs.Places.{AreInOrder};
 ghost use Rattle.plan_book.specs.Quiet.{IsLeftUntil};
 ghost use Rattle.plan_book.specs.Texts.{IsRoomBeside};
 
-use crate::open_jobs::{greatest_under, greatest_with, greatest_without, over_from, over_without};
-use crate::sums::{Sums, going_on, sums_of, with_others, without_job};
+use crate::open_jobs::{
+    greatest_under, greatest_with, greatest_without, settled_from, settled_without,
+};
+use crate::rows::{Places, places_within};
+use crate::spans::Spans;
+use crate::sums::{Sums, going_on, no_sums, sums_of, with_others, without_job, without_others};
 use crate::sweeps::controlled_course;
 use crate::targets::is_done;
 use crate::texts::{
     room_beside, room_with, room_without_done, room_without_forgotten, room_without_job, whole_room,
 };
-use crate::{arrivals, homes, passes, rows, sweeps};
+use crate::{arrivals, homes, passes, rows, sweeps, targets};
 use drmaa_model::{Accepted, Course, Order, Row, Target};
-use drmaa_types::{Change, Control, End, JobId, Moment};
+use drmaa_types::{ArrayId, Change, Control, End, JobId, Moment};
 use std::alloc::{AllocError, Global};
 use std::marker::Model;
 
@@ -41,10 +46,12 @@ pub struct Rows {
     sums: Sums,
     /// The room that the text of their templates leaves of the most that all kept jobs may have. None where it passes that.
     room: Option<usize>,
-    /// So many jobs at the front are over.
-    over: usize,
+    /// So many jobs at the front are settled.
+    settled: usize,
     /// No job's priority passes it.
     greatest: i32,
+    /// Between which numbers the members of arrays stand.
+    spans: Spans,
 }
 
 impl Drop for Rows {
@@ -53,8 +60,9 @@ impl Drop for Rows {
             list: _,
             sums: _,
             room: _,
-            over: _,
+            settled: _,
             greatest: _,
+            spans: _,
         } = self;
     }
 }
@@ -68,7 +76,7 @@ impl Model for Rows {
 
     ghost view = { λ r. r.list };
 
-    ghost invariant = { λ r. AreKept r.list.items r.sums r.room r.over r.greatest };
+    ghost invariant = { λ r. AreKept r.list.items r.sums r.room r.settled r.greatest r.spans };
 }
 
 impl Rows {
@@ -76,14 +84,13 @@ impl Rows {
     pub fn new(alloc: Global) -> Rows
         ensures { result.items ≡ [] }
     {
-        let list = Vec::new(alloc);
-        let sums = sums_of(&list);
         Rows {
-            list,
-            sums,
+            list: Vec::new(alloc),
+            sums: no_sums(),
             room: whole_room(),
-            over: 0,
+            settled: 0,
             greatest: i32::MIN,
+            spans: Spans::new(alloc),
         }
     }
 
@@ -98,7 +105,44 @@ impl Rows {
     pub fn open_rows(&self) -> &[Row]
         ensures { AreOpen self.now.items result.now }
     {
-        &self.list[self.over..]
+        &self.list[self.settled..]
+    }
+
+    /// Rows among which are all that are meant: that of the job alone, which is found by halves, or those between the first and the
+    /// last of the array's members.
+    pub fn meant_rows(&self, target: Target) -> &[Row]
+        requires rising { IsRising number_of self.now.items }
+        ensures { HasAllMeant target self.now.items result.now }
+    {
+        match target {
+            Target::Job(_) => targets::meant_rows(&self.list, target),
+            Target::Array(array) => self.rows_about(array),
+        }
+    }
+
+    fn rows_about(&self, array: ArrayId) -> &[Row]
+        requires rising { IsRising number_of self.now.items }
+        ensures { HasAllMeant (Target.Array array) self.now.items result.now }
+    {
+        let places = self.places_of(array);
+        &self.list[places.from..places.until]
+    }
+
+    /// The places outside of which no member of the array stands.
+    fn places_of(&self, array: ArrayId) -> Places
+        requires rising { IsRising number_of self.now.items }
+        ensures order { result.from ≤ result.until }
+        ensures within { result.until ≤ length self.now.items }
+        ensures before { NoneMeant (Target.Array array) (take result.from self.now.items) }
+        ensures behind { NoneMeant (Target.Array array) (drop result.until self.now.items) }
+    {
+        match self.spans.numbers_of(array) {
+            Some(span) => places_within(&self.list, span.first, span.last),
+            None => Places {
+                from: 0,
+                until: self.list.len(),
+            },
+        }
     }
 
     /// A priority that no job's passes.
@@ -181,9 +225,10 @@ impl Rows {
         requires { vec_len self.old + vec_len more ≤ vec_capacity self.old }
         ensures { self.new.items ≡ self.old.items ++ more.items }
     {
-        self.sums = with_others(&self.sums, &sums_of(&more));
+        self.sums = with_others(&self.sums, &sums_of(&more[..]));
         self.room = room_with(self.room, &more);
         self.greatest = greatest_with(self.greatest, &more);
+        self.spans.put_rows(&more);
         arrivals::append_rows(&mut self.list, more);
     }
 
@@ -196,13 +241,14 @@ impl Rows {
             Ok(place) => {
                 self.sums = going_on(&self.sums, &self.list[place].course, course);
                 self.list[place].course = *course;
-                self.over = over_from(&self.list, self.over.min(place));
+                self.settled = settled_from(&self.list, self.settled.min(place));
             }
             Err(_) => {}
         }
     }
 
-    /// The jobs whose time is over end or are asked to end. Before the answer time leaves each of the jobs as it is then.
+    /// The jobs whose time is over end or are asked to end. Before the answer time leaves each of the jobs as it is then. It goes over
+    /// those behind the settled ones at the front.
     pub(crate) fn sweep_rows(
         &mut self,
         rs: &Vec<Accepted>,
@@ -225,9 +271,16 @@ impl Rows {
         ensures orders_capacity { vec_capacity orders.new ≡ vec_capacity orders.old }
         ensures soonest { AllByRecursion (IsLeftUntil result rs.now.items) self.new.items }
     {
-        let swept = passes::sweep_rows(rs, &mut self.list, changes, orders, moment, entry);
+        let swept = passes::sweep_rows(
+            rs,
+            &mut self.list[self.settled..],
+            changes,
+            orders,
+            moment,
+            entry,
+        );
         self.sums = swept.sums;
-        self.over = over_from(&self.list, self.over);
+        self.settled = settled_from(&self.list, self.settled);
         swept.soonest
     }
 
@@ -238,7 +291,7 @@ impl Rows {
     {
         match target {
             Target::Job(job) => self.control_job(moment, *job, what),
-            Target::Array(_) => self.control_all(moment, target, what),
+            Target::Array(array) => self.control_members(moment, *array, what),
         }
     }
 
@@ -255,22 +308,32 @@ impl Rows {
         }
     }
 
-    fn control_all(&mut self, moment: Moment, target: &Target, what: Control)
-        ensures { self.new.items ≡ map (control_step moment target.now what) self.old.items }
+    fn control_members(&mut self, moment: Moment, array: ArrayId, what: Control)
+        requires { IsRising number_of self.old.items }
+        ensures { self.new.items ≡ map (control_step moment (Target.Array array) what) self.old.items }
     {
-        sweeps::control_rows(&mut self.list, moment, target, what);
-        self.sums = sums_of(&self.list);
-        self.over = over_from(&self.list, self.over);
+        let places = self.places_of(array);
+        let before = sums_of(&self.list[places.from..places.until]);
+        sweeps::control_rows(
+            &mut self.list[places.from..places.until],
+            moment,
+            &Target::Array(array),
+            what,
+        );
+        let after = sums_of(&self.list[places.from..places.until]);
+        self.sums = with_others(&without_others(&self.sums, &before), &after);
+        self.settled = settled_from(&self.list, self.settled);
     }
 
     /// Forgets the ended ones of the jobs that are meant: of one, whose row is found by halves, or of the members of an array.
     pub(crate) fn drop_done(&mut self, target: &Target)
-        requires { IsRising number_of self.old.items }
+        requires rising { IsRising number_of self.old.items }
+        requires sound { AllByRecursion (λ (row : Row). IsSound row.wants row.course) self.old.items }
         ensures { self.new.items ≡ filter (λ (row : Row). not (is_meant target.now row && is_done row)) self.old.items }
     {
         match target {
             Target::Job(job) => self.drop_done_job(*job),
-            Target::Array(_) => self.drop_done_all(target),
+            Target::Array(array) => self.drop_done_members(*array),
         }
     }
 
@@ -297,31 +360,38 @@ impl Rows {
         let known = room_without_job(self.room, &row);
         self.sums = without_job(&self.sums, &row.course);
         self.room = room_beside(known, &self.list);
-        self.over = over_without(self.over, place);
+        self.settled = settled_without(self.settled, place);
         self.greatest = greatest_without(self.greatest, &row, &self.list);
+        self.spans.prune(&self.list);
     }
 
-    fn drop_done_all(&mut self, target: &Target)
-        ensures { self.new.items ≡ filter (λ (row : Row). not (is_meant target.now row && is_done row)) self.old.items }
+    /// Forgets the ended members of an array. They come to nothing, so that the sums stay.
+    fn drop_done_members(&mut self, array: ArrayId)
+        requires rising { IsRising number_of self.old.items }
+        requires sound { AllByRecursion (λ (row : Row). IsSound row.wants row.course) self.old.items }
+        ensures { self.new.items ≡ filter (λ (row : Row). not (is_meant (Target.Array array) row && is_done row)) self.old.items }
     {
-        let known = room_without_done(self.room, &self.list, target);
-        arrivals::drop_done(&mut self.list, target);
-        self.sums = sums_of(&self.list);
+        let target = Target::Array(array);
+        let places = self.places_of(array);
+        let known = room_without_done(self.room, &self.list[places.from..places.until], &target);
+        arrivals::drop_done(&mut self.list, &target);
         self.room = room_beside(known, &self.list);
-        self.over = over_from(&self.list, 0);
+        self.settled = settled_from(&self.list, self.settled.min(places.from));
         self.greatest = greatest_under(&self.list, self.greatest);
+        self.spans.prune(&self.list);
     }
 
     /// Forgets the ended jobs of a home.
     pub(crate) fn drop_forgotten(&mut self, home: u64)
+        requires sound { AllByRecursion (λ (row : Row). IsSound row.wants row.course) self.old.items }
         ensures { self.new.items ≡ filter (λ (row : Row). not (is_forgotten home row)) self.old.items }
     {
         let known = room_without_forgotten(self.room, &self.list, home);
         homes::drop_forgotten(&mut self.list, home);
-        self.sums = sums_of(&self.list);
         self.room = room_beside(known, &self.list);
-        self.over = over_from(&self.list, 0);
+        self.settled = settled_from(&self.list, 0);
         self.greatest = greatest_under(&self.list, self.greatest);
+        self.spans.prune(&self.list);
     }
 
     /// The jobs of a home are left without one.
@@ -329,6 +399,5 @@ impl Rows {
         ensures { self.new.items ≡ map (λ (row : Row). record row { home = left_by home row.home }) self.old.items }
     {
         homes::leave_rows(&mut self.list, home);
-        self.sums = sums_of(&self.list);
     }
 }

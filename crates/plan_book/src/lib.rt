@@ -20,6 +20,7 @@ mod passes;
 mod reservations;
 mod rooms;
 mod rows;
+mod spans;
 pub mod states;
 mod sums;
 mod sweeps;

@@ -1,12 +1,14 @@
-//! The jobs at the front that are over, and the greatest priority of the jobs. None of it takes memory.
+//! The jobs at the front that are settled, and the greatest priority of the jobs. None of it takes memory.
 ghost use Rattle.std.specs.Prelude.{◌≡◌, ◌<◌, ◌≤◌, ◌++◌, false, List, length, slice_index_or};
 ghost use Rattle.std.specs.Int.{int_max};
 ghost use Rattle.std.specs.List.{remove};
 ghost use Rattle.drmaa_model.specs.declared.rows.Row.{Row};
-ghost use Rattle.plan_book.specs.Open.{AreOver, IsPriorityBound, is_over};
+ghost use Rattle.drmaa_model.specs.Reporting.{is_idle};
+ghost use Rattle.plan_book.specs.Open.{IsPriorityBound, is_over};
+ghost use Rattle.plan_book.specs.Settled.{AreSettled, is_settled};
 
 use crate::states::{is_started, is_waiting};
-use drmaa_model::Row;
+use drmaa_model::{Phase, Row};
 
 /// Whether the job neither waits nor is started, and has no planned end.
 fn is_over(row: &Row) -> bool
@@ -16,25 +18,45 @@ fn is_over(row: &Row) -> bool
     !is_waiting(course.state) && !is_started(course.state) && course.planned.is_none()
 }
 
-/// How many jobs at the front are over, where the first `from` are.
-pub fn over_from(rows: &Vec<Row>, from: usize) -> usize
-    requires { AreOver from rows.now.items }
-    ensures over { AreOver result rows.now.items }
-    ensures more { from ≤ result }
-    ensures all { (row : Row) → result < length rows.now.items → is_over (slice_index_or rows.now.items result row) ≡ false }
+fn is_idle(phase: Phase) -> bool
+    ensures { result ≡ is_idle phase }
 {
-    let mut over = from;
-    while over < rows.len() && is_over(&rows[over]) {
-        over += 1;
+    match phase {
+        Phase::Idle => true,
+        Phase::Launching | Phase::Alive => false,
     }
-    over
 }
 
-/// How many jobs at the front are over, where that many were, once the job at this place is forgotten.
-pub fn over_without(over: usize, place: usize) -> usize
-    ensures { (rows : List Row) → place < length rows → AreOver over rows → AreOver result (remove rows place) }
+/// Whether the job is over, has no process and holds no slots: time leaves it as it is, and it comes to nothing.
+fn is_settled(row: &Row) -> bool
+    ensures { result ≡ is_settled row.now }
 {
-    if place < over { over - 1 } else { over }
+    is_over(row) && is_idle(row.course.phase) && row.course.held == 0
+}
+
+/// How many jobs at the front are settled, where the first `from` are.
+pub fn settled_from(rows: &Vec<Row>, from: usize) -> usize
+    requires { AreSettled from rows.now.items }
+    ensures settled { AreSettled result rows.now.items }
+    ensures more { from ≤ result }
+    ensures all { (row : Row) → result < length rows.now.items → is_settled (slice_index_or rows.now.items result row) ≡ false }
+{
+    let mut settled = from;
+    while settled < rows.len() && is_settled(&rows[settled]) {
+        settled += 1;
+    }
+    settled
+}
+
+/// How many jobs at the front are settled, where that many were, once the job at this place is forgotten.
+pub fn settled_without(settled: usize, place: usize) -> usize
+    ensures { (rows : List Row) → place < length rows → AreSettled settled rows → AreSettled result (remove rows place) }
+{
+    if place < settled {
+        settled - 1
+    } else {
+        settled
+    }
 }
 
 /// A priority that no job's passes, where none passes this one, once a job is forgotten. It looks at the jobs where that one had it.

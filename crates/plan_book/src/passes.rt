@@ -1,6 +1,6 @@
-//! The pass over all jobs once time has come to its moment: the jobs whose time is over end or are asked to end, and what the jobs
+//! The pass over jobs once time has come to its moment: the jobs whose time is over end or are asked to end, and what the jobs
 //! come to then is added up on the way. It takes no memory.
-ghost use Rattle.std.specs.Prelude.{◌≡◌, ◌+◌, ◌≤◌, ◌++◌, map, length, vec_len, vec_capacity};
+ghost use Rattle.std.specs.Prelude.{◌≡◌, ◌+◌, ◌≤◌, ◌<◌, ◌^◌, ◌++◌, map, length, vec_len, vec_capacity};
 ghost use Rattle.std.specs.List.{AllByRecursion, flat_map};
 ghost use Rattle.drmaa_model.specs.Time.{lapsed, called_in};
 ghost use Rattle.drmaa_model.specs.TimeLaws.{timed};
@@ -75,26 +75,25 @@ fn call_in_row(rs: &Vec<Accepted>, row: &mut Row, orders: &mut Vec<Order>, momen
 /// The jobs whose time is over end or are asked to end.
 pub fn sweep_rows(
     rs: &Vec<Accepted>,
-    rows: &mut Vec<Row>,
+    rows: &mut [Row],
     changes: &mut Vec<Change>,
     orders: &mut Vec<Order>,
     moment: Moment,
     entry: u64,
 ) -> Swept
     requires order { AreInOrder rs.now.items }
-    requires changes { vec_len changes.old + length (flat_map (ends entry moment rs.now.items) rows.old.items) ≤ vec_capacity changes.old }
-    requires orders { vec_len orders.old + length (flat_map (kills_then moment rs.now.items) rows.old.items) ≤ vec_capacity orders.old }
-    ensures items { rows.new.items ≡ map (timed moment rs.now.items) rows.old.items }
-    ensures len { vec_len rows.new ≡ vec_len rows.old }
-    ensures capacity { vec_capacity rows.new ≡ vec_capacity rows.old }
-    ensures changes { changes.new.items ≡ changes.old.items ++ flat_map (ends entry moment rs.now.items) rows.old.items }
-    ensures changes_len { vec_len changes.new ≡ vec_len changes.old + length (flat_map (ends entry moment rs.now.items) rows.old.items) }
+    requires few { length rows.old < 2 ^ 63 }
+    requires changes { vec_len changes.old + length (flat_map (ends entry moment rs.now.items) rows.old) ≤ vec_capacity changes.old }
+    requires orders { vec_len orders.old + length (flat_map (kills_then moment rs.now.items) rows.old) ≤ vec_capacity orders.old }
+    ensures items { rows.new ≡ map (timed moment rs.now.items) rows.old }
+    ensures changes { changes.new.items ≡ changes.old.items ++ flat_map (ends entry moment rs.now.items) rows.old }
+    ensures changes_len { vec_len changes.new ≡ vec_len changes.old + length (flat_map (ends entry moment rs.now.items) rows.old) }
     ensures changes_capacity { vec_capacity changes.new ≡ vec_capacity changes.old }
-    ensures orders { orders.new.items ≡ orders.old.items ++ flat_map (kills_then moment rs.now.items) rows.old.items }
-    ensures orders_len { vec_len orders.new ≡ vec_len orders.old + length (flat_map (kills_then moment rs.now.items) rows.old.items) }
+    ensures orders { orders.new.items ≡ orders.old.items ++ flat_map (kills_then moment rs.now.items) rows.old }
+    ensures orders_len { vec_len orders.new ≡ vec_len orders.old + length (flat_map (kills_then moment rs.now.items) rows.old) }
     ensures orders_capacity { vec_capacity orders.new ≡ vec_capacity orders.old }
-    ensures sums { AreSums rows.new.items result.sums }
-    ensures soonest { AllByRecursion (IsLeftUntil result.soonest rs.now.items) rows.new.items }
+    ensures sums { AreSums rows.new result.sums }
+    ensures soonest { AllByRecursion (IsLeftUntil result.soonest rs.now.items) rows.new }
 {
     let mut sums = no_sums();
     let mut soonest = End::Never;

@@ -1,7 +1,9 @@
 //! The rows, as a plain list in order of number.
 ghost use Rattle.drmaa_model.specs.Fit.{IsRising, number_of};
+ghost use Rattle.drmaa_model.specs.declared.rows.Row.{Row};
 ghost use Rattle.plan_book.specs.Places.{IsAt};
-ghost use Rattle.std.specs.Prelude.{IfOk, IfErr, None, ◌≡◌};
+ghost use Rattle.std.specs.Prelude.{IfOk, IfErr, None, ◌≡◌, ◌<◌, ◌≤◌, take, drop, length};
+ghost use Rattle.std.specs.List.{AllByRecursion};
 ghost use Rattle.std.specs.Option.{option_copied};
 ghost use Rattle.drmaa_model.specs.Rows.{row_of};
 
@@ -35,4 +37,43 @@ pub fn row_of(rows: &Vec<Row>, job: JobId) -> Option<&Row>
         Ok(place) => Some(&rows[place]),
         Err(_) => None,
     }
+}
+
+/// The rows at the places from one up to another, without that.
+#[derive(Clone, Copy)]
+pub struct Places {
+    pub from: usize,
+    pub until: usize,
+}
+
+/// Where the rows stand that have the numbers from the first to the last. They are found by halves.
+pub fn places_within(rows: &Vec<Row>, first: u64, last: u64) -> Places
+    requires rising { IsRising number_of rows.now.items }
+    ensures order { result.from ≤ result.until }
+    ensures within { result.until ≤ length rows.now.items }
+    ensures before { AllByRecursion (λ (row : Row). row.job.0 < first) (take result.from rows.now.items) }
+    ensures behind { AllByRecursion (λ (row : Row). last < row.job.0) (drop result.until rows.now.items) }
+{
+    let until = count_through(rows, last);
+    Places {
+        from: count_below(rows, first).min(until),
+        until,
+    }
+}
+
+/// How many rows have lesser numbers.
+fn count_below(rows: &Vec<Row>, number: u64) -> usize
+    requires rising { IsRising number_of rows.now.items }
+    ensures { AllByRecursion (λ (row : Row). row.job.0 < number) (take result rows.now.items) }
+{
+    rows.partition_point(|row| row.job.0 < number)
+}
+
+/// How many rows have this number or lesser ones.
+fn count_through(rows: &Vec<Row>, number: u64) -> usize
+    requires rising { IsRising number_of rows.now.items }
+    ensures few { result ≤ length rows.now.items }
+    ensures behind { AllByRecursion (λ (row : Row). number < row.job.0) (drop result rows.now.items) }
+{
+    rows.partition_point(|row| row.job.0 <= number)
 }

@@ -1,6 +1,6 @@
 //! What rows come to.
-ghost use Rattle.std.specs.Prelude.{◌≡◌, ◌<◌, ◌^◌, []};
-ghost use Rattle.plan_book.specs.Sums.{AreSums, AreFew, AreParts, with_job, with_others, without_job};
+ghost use Rattle.std.specs.Prelude.{◌≡◌, ◌<◌, ◌^◌, length, []};
+ghost use Rattle.plan_book.specs.Sums.{AreSums, AreFew, AreAmong, AreParts, with_job, with_others, without_job, without_others};
 
 use crate::rooms::{may_ask, owes, reports_due, room_of};
 use drmaa_model::{Course, Row};
@@ -34,8 +34,9 @@ pub fn no_sums() -> Sums
 }
 
 /// What the rows come to.
-pub fn sums_of(rows: &Vec<Row>) -> Sums
-    ensures { AreSums rows.now.items result }
+pub fn sums_of(rows: &[Row]) -> Sums
+    requires few { length rows.now < 2 ^ 63 }
+    ensures { AreSums rows.now result }
 {
     let mut sums = no_sums();
     for row in rows {
@@ -71,6 +72,20 @@ pub fn with_others(sums: &Sums, others: &Sums) -> Sums
         askable: sums.askable + others.askable,
         held: sums.held + others.held,
         reports: sums.reports + others.reports,
+    }
+}
+
+/// What the jobs come to without some of them.
+pub fn without_others(sums: &Sums, others: &Sums) -> Sums
+    requires among { AreAmong others.now sums.now }
+    ensures { result ≡ without_others sums.now others.now }
+{
+    Sums {
+        promised: sums.promised - others.promised,
+        owed: sums.owed - others.owed,
+        askable: sums.askable - others.askable,
+        held: sums.held - others.held,
+        reports: sums.reports - others.reports,
     }
 }
 

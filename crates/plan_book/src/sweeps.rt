@@ -112,9 +112,9 @@ fn control_row(row: &mut Row, moment: Moment, target: &Target, what: Control)
     row.course = controlled_course(row, moment, target, what);
 }
 
-/// The jobs on which the call acts go on.
-pub fn control_rows(rows: &mut Vec<Row>, moment: Moment, target: &Target, what: Control)
-    ensures { rows.new.items ≡ map (control_step moment target.now what) rows.old.items }
+/// Those of these jobs on which the call acts go on.
+pub fn control_rows(rows: &mut [Row], moment: Moment, target: &Target, what: Control)
+    ensures { rows.new ≡ map (control_step moment target.now what) rows.old }
 {
     for row in rows.iter_mut() {
         control_row(row, moment, target, what);

@@ -41,11 +41,11 @@ pub fn room_with(room: Option<usize>, more: &Vec<Row>) -> Option<usize>
     without_rows(room?, more)
 }
 
-/// The room once the ended ones of the jobs that are meant are forgotten, at whose templates alone it looks. None where there was
-/// none: then it has to be counted anew.
-pub fn room_without_done(room: Option<usize>, rows: &Vec<Row>, target: &Target) -> Option<usize>
-    requires { IsRoomBeside (kept_text rows.now.items) room }
-    ensures { IfSome result (λ room. IsRoomBeside (kept_text (filter (λ (row : Row). not (is_meant target.now row && is_done row)) rows.now.items)) (Some room)) }
+/// The room once the ended ones of the jobs that are meant are forgotten, which are among these and at whose templates alone it
+/// looks. None where there was none: then it has to be counted anew.
+pub fn room_without_done(room: Option<usize>, rows: &[Row], target: &Target) -> Option<usize>
+    requires { IfSome room (λ room. room ≤ most_kept_text) }
+    ensures { (text : ℕ) → IsRoomBeside (text + kept_text (filter (λ (row : Row). is_meant target.now row && is_done row) rows.now)) room → IfSome result (λ room. IsRoomBeside text (Some room)) }
 {
     let mut text = MOST_KEPT_TEXT - room?;
     for row in rows {

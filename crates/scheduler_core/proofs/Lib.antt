@@ -3,6 +3,7 @@ pub mod FactSteps
 pub mod FirstRows
 pub mod LaunchSteps
 pub mod OpenLaws
+pub mod PartLaws
 pub mod PhaseSteps
 pub mod Priorities
 pub mod ReportSteps

@@ -25,7 +25,7 @@ use Rattle.scheduler_core.proofs.Priorities.{first_of}
 
 -- ---- what is known of a job that is over
 
-record OverFacts (row : Row) : Type 0 where
+pub record OverFacts (row : Row) : Type 0 where
   pub idle : is_waiting row.course.state ≡ false
   pub still : is_started row.course.state ≡ false
   pub planned : is_none row.course.planned ≡ true
@@ -34,7 +34,7 @@ from-not : (b : Bool) → not b ≡ true → b ≡ false
 from-not true h = absurd (cc)
 from-not false h = refl
 
-over-facts : (row : Row) → is_over row ≡ true → OverFacts row
+pub over-facts : (row : Row) → is_over row ≡ true → OverFacts row
 over-facts row over =
     let waits = is_waiting row.course.state in
     let started = is_started row.course.state in

@@ -8,7 +8,7 @@ ghost use Rattle.drmaa_model.specs.Time.{rows_at};
 ghost use Rattle.plan_book.specs.Book.{plan_of, IsKept};
 ghost use Rattle.scheduler_core.specs.Facts.{row_facts, job_from, is_own_member, lapses_at};
 
-use drmaa_model::{Course, Kill, Phase, Row};
+use drmaa_model::{Course, Kill, Phase, Row, Target};
 use drmaa_types::{ArrayId, End, Exit, JobId, JobState, Moment, Note, ReservationId};
 use plan_book::Book;
 use plan_book::states::{is_state, is_waiting};
@@ -119,13 +119,20 @@ pub fn job_from(book: &Book, number: u64) -> Option<JobId>
     }
 }
 
-/// Whether a member of an array is kept that belongs to this home. It goes over all jobs once.
+/// Whether a member of an array is kept that belongs to this home. It goes over the jobs between the array's first and last
+/// member.
 pub fn has_member(book: &Book, home: Option<u64>, array: ArrayId) -> bool
+    requires kept { IsKept book.now }
     ensures { result ≡ list_any (is_own_member home array) (plan_of book.now).rows }
 {
-    book.rows()
-        .iter()
-        .any(|row| is_own_member(row, home, array))
+    is_any_own(book.meant_rows(Target::Array(array)), home, array)
+}
+
+/// Whether one of these jobs is a member of an array, and belongs to this home.
+fn is_any_own(rows: &[Row], home: Option<u64>, array: ArrayId) -> bool
+    ensures { result ≡ list_any (is_own_member home array) rows.now }
+{
+    rows.iter().any(|row| is_own_member(row, home, array))
 }
 
 /// Whether a job is a member of an array, and belongs to this home.

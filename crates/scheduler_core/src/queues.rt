@@ -52,10 +52,10 @@ pub fn capped(most: u32, left: Option<u32>) -> u32
     }
 }
 
-/// The slots held by the ordinary jobs of the queue at this place.
-pub fn in_queue(rows: &Vec<Row>, place: u32) -> u32
-    requires { in_queue place rows.now.items < 2 ^ 32 }
-    ensures { result ≡ in_queue place rows.now.items }
+/// The slots held by those of these jobs that are ordinary ones of the queue at this place.
+pub fn in_queue(rows: &[Row], place: u32) -> u32
+    requires { in_queue place rows.now < 2 ^ 32 }
+    ensures { result ≡ in_queue place rows.now }
 {
     let mut sum = 0;
     for row in rows {

@@ -164,10 +164,10 @@ fn has_turn(book: &Book, wants: &Wants, known: &mut Known) -> bool
     known.in_array(book, array) < bound
 }
 
-/// How many members of an array hold slots.
-pub fn in_array(rows: &Vec<Row>, array: ArrayId) -> u32
-    requires { in_array array rows.now.items < 2 ^ 32 }
-    ensures { result ≡ in_array array rows.now.items }
+/// How many members of an array hold slots, of these jobs.
+pub fn in_array(rows: &[Row], array: ArrayId) -> u32
+    requires { in_array array rows.now < 2 ^ 32 }
+    ensures { result ≡ in_array array rows.now }
 {
     let mut sum = 0;
     for row in rows {
@@ -189,10 +189,10 @@ fn held_by_member(row: &Row, array: ArrayId) -> u32
     }
 }
 
-/// The slots held by the jobs that name a reservation.
-pub fn in_reservation(rows: &Vec<Row>, number: ReservationId) -> u32
-    requires { in_reservation number rows.now.items < 2 ^ 32 }
-    ensures { result ≡ in_reservation number rows.now.items }
+/// The slots held by those of these jobs that name a reservation.
+pub fn in_reservation(rows: &[Row], number: ReservationId) -> u32
+    requires { in_reservation number rows.now < 2 ^ 32 }
+    ensures { result ≡ in_reservation number rows.now }
 {
     let mut sum = 0;
     for row in rows {
@@ -273,14 +273,16 @@ fn covers(r: &Accepted, moment: Moment) -> bool
     r.from.number() <= moment.number() && moment.number() < r.until.number()
 }
 
-/// The slots of a reservation that are left.
+/// The slots of a reservation that are left. Jobs at the front that are over hold none.
 fn left_in(book: &Book, number: ReservationId, moment: Moment) -> u32
     requires kept { IsKept book.now }
     requires few { (plan_of book.now).total < 2 ^ 32 }
     ensures { result ≡ option_map_or (λ (r : Accepted). r.slots - in_reservation number (plan_of book.now).rows) (reservation_of number (filter (lasts moment) (plan_of book.now).reservations)) 0 }
 {
     match lasting_of(book.reservations(), number, moment) {
-        Some(r) => r.slots.saturating_sub(in_reservation(book.rows(), number)),
+        Some(r) => r
+            .slots
+            .saturating_sub(in_reservation(book.open_rows(), number)),
         None => 0,
     }
 }

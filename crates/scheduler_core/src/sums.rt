@@ -7,6 +7,7 @@ ghost use Rattle.scheduler_core.specs.Sums.{IsMade, IsKnown};
 
 use crate::queues::in_queue;
 use crate::ready::{in_array, in_reservation};
+use drmaa_model::Target;
 use drmaa_types::{ArrayId, ReservationId};
 use plan_book::Book;
 
@@ -84,7 +85,7 @@ impl Known {
         }
     }
 
-    /// How many members of an array hold slots.
+    /// How many members of an array hold slots. They are looked for between its first and its last member.
     pub fn in_array(&mut self, book: &Book, array: ArrayId) -> u32
         requires kept { IsKept book.now }
         requires few { (plan_of book.now).total < 2 ^ 32 }
@@ -95,12 +96,12 @@ impl Known {
         if let Some(sum) = self.arrays.find(array.0) {
             return sum;
         }
-        let sum = in_array(book.rows(), array);
+        let sum = in_array(book.meant_rows(Target::Array(array)), array);
         self.arrays.note(array.0, sum);
         sum
     }
 
-    /// The slots held by the ordinary jobs of the queue at this place.
+    /// The slots held by the ordinary jobs of the queue at this place. Jobs at the front that are over hold none.
     pub fn in_queue(&mut self, book: &Book, place: u32) -> u32
         requires kept { IsKept book.now }
         requires few { (plan_of book.now).total < 2 ^ 32 }
@@ -112,12 +113,12 @@ impl Known {
         if let Some(sum) = self.queues.find(number) {
             return sum;
         }
-        let sum = in_queue(book.rows(), place);
+        let sum = in_queue(book.open_rows(), place);
         self.queues.note(number, sum);
         sum
     }
 
-    /// The slots held by the jobs that name a reservation.
+    /// The slots held by the jobs that name a reservation. Jobs at the front that are over hold none.
     pub fn in_reservation(&mut self, book: &Book, number: ReservationId) -> u32
         requires kept { IsKept book.now }
         requires few { (plan_of book.now).total < 2 ^ 32 }
@@ -128,7 +129,7 @@ impl Known {
         if let Some(sum) = self.reservations.find(number.0) {
             return sum;
         }
-        let sum = in_reservation(book.rows(), number);
+        let sum = in_reservation(book.open_rows(), number);
         self.reservations.note(number.0, sum);
         sum
     }

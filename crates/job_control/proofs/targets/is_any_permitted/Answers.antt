@@ -1,7 +1,5 @@
-use Rattle.std.proofs.Common.{◌&&◌, Bool, ◌∙◌, ap}
-use Rattle.std.specs.List.{list_any}
+use Rattle.std.proofs.Common.{Bool, ◌∙◌}
 use Rattle.drmaa_model.specs.declared.rows.Row.{Row}
-use Rattle.drmaa_model.specs.Targets.{is_meant}
 use Rattle.plan_book.specs.Book.{plan_of}
 use Rattle.job_control.specs.Targets.{may_act, row_then}
 use Rattle.job_control.proofs.Among.{any-among}
@@ -12,6 +10,5 @@ pub returns : goal.returns
 returns c =
     let p = plan_of c.args.book.now in
     let acts : Row → Bool = λ (row : Row). may_act c.args.act (row_then c.args.at p row).course.state in
-    let test : Row → Bool = λ (row : Row). is_meant c.args.target.now row && may_act c.args.act (row_then c.args.at p row).course.state in
-    c.is_any_among.ensures ∙ any-among c.args.target.now acts c.rows.result.now.items c.meant_rows.result.now c.meant_rows.ensures
-    ∙ ap (list_any test) c.rows.ensures ∙ any-then c.args.target.now c.args.at p c.args.act
+    c.is_any_among.ensures ∙ any-among c.args.target.now acts p.rows c.meant_rows.result.now c.meant_rows.ensures
+    ∙ any-then c.args.target.now c.args.at p c.args.act

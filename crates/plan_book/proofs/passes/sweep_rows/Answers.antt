@@ -22,10 +22,10 @@ pub expire_row-requires-clause-room : goal.expire_row-requires-clause-room
 expire_row-requires-clause-room c =
     let rs = c.args.rs.now.items in
     let f = ends c.args.entry c.args.moment rs in
-    let xs = c.deref_mut-row-items.result.now in
+    let xs = c.args.rows.now in
     let i = c.loop-row.row-index in
     let x = c.row-item.result in
-    let read = read-more (timed c.args.moment rs) xs c.loop-row.row-items i x c.loop-row-test.true c.loop-row.invariant.rows c.row-item.is in
+    let read = read-more (timed c.args.moment rs) xs c.loop-row.rows i x c.loop-row-test.true c.loop-row.invariant.rows c.row-item.is in
     let next = flat-more f xs i x c.loop-row-test.true read in
     omega (arith, c.loop-row.invariant.changes_room, ap length next, length-append (f x) (flat_map f (drop (i + 1) xs)), ap (λ (r : Row). length (f r)) c.row-item.is)
 
@@ -33,10 +33,10 @@ pub call_in_row-requires-clause-room : goal.call_in_row-requires-clause-room
 call_in_row-requires-clause-room c =
     let rs = c.args.rs.now.items in
     let f = kills_then c.args.moment rs in
-    let xs = c.deref_mut-row-items.result.now in
+    let xs = c.args.rows.now in
     let i = c.loop-row.row-index in
     let x = c.row-item.result in
-    let read = read-more (timed c.args.moment rs) xs c.loop-row.row-items i x c.loop-row-test.true c.loop-row.invariant.rows c.row-item.is in
+    let read = read-more (timed c.args.moment rs) xs c.loop-row.rows i x c.loop-row-test.true c.loop-row.invariant.rows c.row-item.is in
     let next = flat-more f xs i x c.loop-row-test.true read in
     omega (arith, c.loop-row.invariant.orders_room, ap length next, length-append (f x) (flat_map f (drop (i + 1) xs)), ap (λ (r : Row). length (kills c.args.moment rs r)) (c.expire_row.ensures.row ∙ ap (lapsed c.args.moment rs) (sym c.row-item.is)))
 
@@ -44,10 +44,9 @@ pub with_job-sums-requires : goal.with_job-sums-requires
 with_job-sums-requires c =
     let rs = c.args.rs.now.items in
     let f = timed c.args.moment rs in
-    let xs = c.deref_mut-row-items.result.now in
+    let xs = c.args.rows.now in
     let i = c.loop-row.row-index in
-    let vec = c.args.rows.now in
-    record { few = sums-few (map f (take i xs)) c.loop-row.sums (omega (arith, length-map (take i xs) f, length-take i xs, ap (λ (rows : List Row). length rows) c.deref_mut-row-items.ensures.value, vec.ok.0, vec.ok.1, vec.small)) c.loop-row.invariant.sums }
+    record { few = sums-few (map f (take i xs)) c.loop-row.sums (omega (arith, length-map (take i xs) f, length-take i xs, c.requires.few)) c.loop-row.invariant.sums }
 
 pub loop-row-preserved : goal.loop-row-preserved
 loop-row-preserved c =
@@ -56,11 +55,11 @@ loop-row-preserved c =
     let f = timed m rs in
     let e = ends c.args.entry m rs in
     let k = kills_then m rs in
-    let xs = c.deref_mut-row-items.result.now in
+    let xs = c.args.rows.now in
     let i = c.loop-row.row-index in
     let x = c.row-item.result in
     let within = c.loop-row-test.true in
-    let read : x ≡ get_or xs i x = read-more f xs c.loop-row.row-items i x within c.loop-row.invariant.rows c.row-item.is in
+    let read : x ≡ get_or xs i x = read-more f xs c.loop-row.rows i x within c.loop-row.invariant.rows c.row-item.is in
     let goes : c.call_in_row.new.row ≡ f x = c.call_in_row.ensures.row ∙ ap (called_in m rs) c.expire_row.ensures.row ∙ ap f (sym c.row-item.is) in
     let ended = flat_map e (drop (i + 1) xs) in
     let asked = flat_map k (drop (i + 1) xs) in
@@ -69,9 +68,9 @@ loop-row-preserved c =
     let long_e = length-append (e x) ended in
     let long_k = length-append (k x) asked in
     let kills_is : kills m rs c.expire_row.new.row ≡ k x = ap (kills m rs) c.expire_row.ensures.row ∙ ap k (sym c.row-item.is) in
-    let ends_is : e (get_or c.loop-row.row-items i x) ≡ e x = ap e (sym c.row-item.is) in
+    let ends_is : e (get_or c.loop-row.rows i x) ≡ e x = ap e (sym c.row-item.is) in
     record {
-      rows = ap (λ (r : Row). set c.loop-row.row-items i r) goes ∙ map_over_more f xs c.loop-row.row-items i x within c.loop-row.invariant.rows c.row-item.is;
+      rows = ap (λ (r : Row). set c.loop-row.rows i r) goes ∙ map_over_more f xs c.loop-row.rows i x within c.loop-row.invariant.rows c.row-item.is;
       changes = ap (λ (ys : List Change). ys ++ ended) (c.expire_row.ensures.items ∙ ap (λ (ys : List Change). c.loop-row.changes.items ++ ys) ends_is) ∙ append_assoc c.loop-row.changes.items (e x) ended
           ∙ ap (λ (ys : List Change). c.loop-row.changes.items ++ ys) (sym next_e) ∙ c.loop-row.invariant.changes;
       changes_room = omega (arith, c.loop-row.invariant.changes_room, ap length next_e, long_e, ap length ends_is, c.expire_row.ensures.len, c.expire_row.ensures.capacity);

@@ -10,12 +10,12 @@ use Rattle.plan_book.proofs.passes.sweep_rows.Given as goal
 -- the jobs so far have gone on and are added up, and there is room for what the rest adds
 abbrev pub invariant-loop-row : goal.invariant-loop-row
 invariant-loop-row l =
-    let all = l.initial.row-items in
+    let all = l.initial.rows in
     let rs = l.rs.items in
     let ended = flat_map (ends l.entry l.moment rs) (drop l.row-index all) in
     let asked = flat_map (kills_then l.moment rs) (drop l.row-index all) in
     record {
-      rows : l.row-items ≡ map (timed l.moment rs) (take l.row-index all) ++ drop l.row-index all;
+      rows : l.rows ≡ map (timed l.moment rs) (take l.row-index all) ++ drop l.row-index all;
       changes : l.changes.items ++ ended ≡ l.fn.changes.items ++ flat_map (ends l.entry l.moment rs) all;
       changes_room : vec_len l.changes + length ended ≤ vec_capacity l.changes;
       changes_len : vec_len l.changes + length ended ≡ vec_len l.fn.changes + length (flat_map (ends l.entry l.moment rs) all);

@@ -1,4 +1,4 @@
-use Rattle.std.proofs.Common.{◌≡◌, ◌+◌, ◌++◌, ◌∷◌, [], List, length, take, ap, sym, ◌∙◌, subst, arith, length-take}
+use Rattle.std.proofs.Common.{◌≡◌, ◌+◌, ◌++◌, ◌∷◌, [], List, take, ap, sym, ◌∙◌, subst, arith, length-take}
 use Rattle.std.proofs.lemmas.List.{take_more}
 use Rattle.drmaa_model.specs.declared.rows.Row.{Row}
 use Rattle.plan_book.specs.declared.sums.Sums.{Sums}
@@ -8,14 +8,13 @@ use Rattle.plan_book.proofs.sums.sums_of.Goals as goal
 
 pub with_job-sums-requires : goal.with_job-sums-requires
 with_job-sums-requires c =
-    let xs = c.deref-row-items.result.now in
+    let xs = c.args.rows.now in
     let i = c.loop-row.row-index in
-    let vec = c.args.rows.now in
-    record { few = sums-few (take i xs) c.loop-row.sums (omega (arith, length-take i xs, ap (λ (rows : List Row). length rows) c.deref-row-items.ensures.value, vec.ok.0, vec.ok.1, vec.small)) c.loop-row.invariant }
+    record { few = sums-few (take i xs) c.loop-row.sums (omega (arith, length-take i xs, c.requires.few)) c.loop-row.invariant }
 
 pub loop-row-preserved : goal.loop-row-preserved
 loop-row-preserved c =
-    let xs = c.deref-row-items.result.now in
+    let xs = c.args.rows.now in
     let i = c.loop-row.row-index in
     let row = c.row-item.result in
     let front : take (i + 1) xs ≡ take i xs ++ row ∷ [] =

@@ -3,4 +3,4 @@ use Rattle.plan_book.specs.Sums.{AreSums}
 use Rattle.plan_book.proofs.sums.sums_of.Given as goal
 
 abbrev pub invariant-loop-row : goal.invariant-loop-row
-invariant-loop-row l = AreSums (take l.row-index l.row-items) l.sums
+invariant-loop-row l = AreSums (take l.row-index l.rows) l.sums

@@ -1,8 +1,7 @@
-use Rattle.std.proofs.Common.{◌≡◌, ℕ, List, filter, length, sym, ◌∙◌, ap, subst, arith}
-use Rattle.std.specs.Global.{Vec}
+use Rattle.std.proofs.Common.{◌≡◌, ℕ, List, filter, length, sym, ◌∙◌, ap, arith}
 use Rattle.drmaa_model.specs.declared.rows.Row.{Row}
 use Rattle.drmaa_model.specs.Controlling.{is_controlled}
-use Rattle.drmaa_model.specs.Fit.{IsRising, IsFit, number_of}
+use Rattle.drmaa_model.specs.Fit.{IsFit}
 use Rattle.drmaa_model.specs.FitLaws.{advance-fit}
 use Rattle.drmaa_model.specs.Time.{advance_plan, come_to, let_go, lasts, lapsed, called_in, rows_at}
 use Rattle.drmaa_model.specs.TimeLaws.{timed, map-twice, weight-advance}
@@ -21,14 +20,10 @@ value c =
     let what = c.args.what in
     let count : ℕ → ℕ = λ m. length (filter (λ (row : Row). is_controlled t what (timed m (filter (lasts m) p.reservations) row)) p.rows) in
     c.acted_then.ensures
-    ∙ ap length (acted-part c.moment_at.result (filter (lasts c.moment_at.result) p.reservations) t what c.list.result.now.items c.meant_rows.result.now c.meant_rows.ensures)
-    ∙ ap (λ (v : Vec Row). length (filter (λ (row : Row). is_controlled t what (timed c.moment_at.result (filter (lasts c.moment_at.result) p.reservations) row)) v.items)) c.list.ensures
+    ∙ ap length (acted-part c.moment_at.result (filter (lasts c.moment_at.result) p.reservations) t what p.rows c.meant_rows.result.now c.meant_rows.ensures)
     ∙ ap count c.moment_at.ensures
     ∙ sym (filter-map (is_controlled t what) (timed q.moment q.reservations) p.rows)
     ∙ ap (λ (rows : List Row). length (filter (is_controlled t what) rows)) (map-twice (called_in q.moment q.reservations) (lapsed q.moment q.reservations) p.rows)
-
-pub meant_rows-requires : goal.meant_rows-requires
-meant_rows-requires c = record { rising = subst (λ (v : Vec Row). IsRising number_of v.items) (sym c.list.ensures) c.requires.kept.fit.jobs.rising }
 
 pub returns-clause-value : goal.returns-clause-value
 returns-clause-value c = value c

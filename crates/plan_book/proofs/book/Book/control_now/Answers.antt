@@ -1,38 +1,35 @@
 use Rattle.std.proofs.Common.{List, ◌++◌, map, length, ap, sym, ◌∙◌, subst, arith}
-use Rattle.std.specs.Global.{Vec}
-use Rattle.std.specs.List.{AllByRecursion, flat_map}
+use Rattle.std.specs.List.{AllByRecursion}
 use Rattle.drmaa_types.specs.declared.changes.Change.{Change}
 use Rattle.drmaa_model.specs.declared.courses.Order.{Order}
 use Rattle.drmaa_model.specs.declared.rows.Row.{Row}
-use Rattle.drmaa_model.specs.Controlling.{control, control_step, asked_orders}
-use Rattle.drmaa_model.specs.Fit.{IsRising, number_of}
+use Rattle.drmaa_model.specs.Controlling.{control, control_step}
 use Rattle.drmaa_model.specs.Plan.{Plan}
 use Rattle.plan_book.specs.Book.{plan_of, owed, askable}
 use Rattle.plan_book.specs.Quiet.{IsLeftUntil}
-use Rattle.plan_book.specs.Sweeps.{noted}
 use Rattle.plan_book.proofs.AlarmLaws.{quiet-controlled}
 use Rattle.plan_book.proofs.MeantLaws.{noted-part, asked-part}
 use Rattle.plan_book.proofs.SweepLaws.{control-owed, control-askable}
 use Rattle.plan_book.proofs.book.Book.control_now.Goals as goal
 
 pub meant_rows-requires : goal.meant_rows-requires
-meant_rows-requires c = record { rising = subst (λ (v : Vec Row). IsRising number_of v.items) (sym c.list.ensures) c.requires.fit.jobs.rising }
+meant_rows-requires c = record { rising = c.requires.fit.jobs.rising }
 
 pub meant_rows-requires-2 : goal.meant_rows-requires-2
-meant_rows-requires-2 c = record { rising = subst (λ (v : Vec Row). IsRising number_of v.items) (sym c.list-2.ensures) c.requires.fit.jobs.rising }
+meant_rows-requires-2 c = record { rising = c.requires.fit.jobs.rising }
 
 pub note_controls-requires : goal.note_controls-requires
 note_controls-requires c =
     let s = c.args.self.now in
     let sum = control-owed c.args.entry s.moment c.args.target.now c.args.what s.rows.items in
-    let notes = ap length (noted-part c.args.entry s.moment c.args.target.now c.args.what c.list.result.now.items c.meant_rows.result.now c.meant_rows.ensures) ∙ ap (λ (v : Vec Row). length (flat_map (noted c.args.entry s.moment c.args.target.now c.args.what) v.items)) c.list.ensures in
+    let notes = ap length (noted-part c.args.entry s.moment c.args.target.now c.args.what s.rows.items c.meant_rows.result.now c.meant_rows.ensures) in
     omega (arith, sum, notes, c.requires.room.changes, c.requires.changes)
 
 pub ask_controls-requires : goal.ask_controls-requires
 ask_controls-requires c =
     let s = c.args.self.now in
     let sum = control-askable s.moment c.args.target.now c.args.what s.rows.items in
-    let orders = ap length (asked-part c.args.target.now c.args.what c.list-2.result.now.items c.meant_rows-2.result.now c.meant_rows-2.ensures) ∙ ap (λ (v : Vec Row). length (flat_map (asked_orders c.args.target.now c.args.what) v.items)) c.list-2.ensures in
+    let orders = ap length (asked-part c.args.target.now c.args.what s.rows.items c.meant_rows-2.result.now c.meant_rows-2.ensures) in
     omega (arith, sum, orders, c.requires.room.orders, c.requires.orders)
 
 pub returns-clause-plan : goal.returns-clause-plan
@@ -41,17 +38,17 @@ returns-clause-plan c =
     let p = plan_of s in
     let f = control_step s.moment c.args.target.now c.args.what in
     ap (λ (rs : List Row). let q : Plan = record p { rows = rs; orders = c.ask_controls.new.orders.items; changes = c.note_controls.new.changes.items } in q) c.control_rows.ensures
-    ∙ ap (λ (os : List Order). let q : Plan = record p { rows = map f p.rows; orders = os; changes = c.note_controls.new.changes.items } in q) (c.ask_controls.ensures.items ∙ ap (λ (os : List Order). s.orders.items ++ os) (asked-part c.args.target.now c.args.what c.list-2.result.now.items c.meant_rows-2.result.now c.meant_rows-2.ensures) ∙ ap (λ (v : Vec Row). s.orders.items ++ flat_map (asked_orders c.args.target.now c.args.what) v.items) c.list-2.ensures)
+    ∙ ap (λ (os : List Order). let q : Plan = record p { rows = map f p.rows; orders = os; changes = c.note_controls.new.changes.items } in q) (c.ask_controls.ensures.items ∙ ap (λ (os : List Order). s.orders.items ++ os) (asked-part c.args.target.now c.args.what s.rows.items c.meant_rows-2.result.now c.meant_rows-2.ensures))
     ∙ ap (λ (cs : List Change). let q : Plan = record ((control c.args.target.now c.args.what).effect c.args.entry p) { changes = cs } in q)
-    (c.note_controls.ensures.items ∙ ap (λ (cs : List Change). s.changes.items ++ cs) (noted-part c.args.entry s.moment c.args.target.now c.args.what c.list.result.now.items c.meant_rows.result.now c.meant_rows.ensures) ∙ ap (λ (v : Vec Row). s.changes.items ++ flat_map (noted c.args.entry s.moment c.args.target.now c.args.what) v.items) c.list.ensures)
+    (c.note_controls.ensures.items ∙ ap (λ (cs : List Change). s.changes.items ++ cs) (noted-part c.args.entry s.moment c.args.target.now c.args.what s.rows.items c.meant_rows.result.now c.meant_rows.ensures))
 
 pub returns-clause-room : goal.returns-clause-room
 returns-clause-room c =
     let s = c.args.self.now in
     let sum = control-owed c.args.entry s.moment c.args.target.now c.args.what s.rows.items in
     let asks = control-askable s.moment c.args.target.now c.args.what s.rows.items in
-    let notes = ap length (noted-part c.args.entry s.moment c.args.target.now c.args.what c.list.result.now.items c.meant_rows.result.now c.meant_rows.ensures) ∙ ap (λ (v : Vec Row). length (flat_map (noted c.args.entry s.moment c.args.target.now c.args.what) v.items)) c.list.ensures in
-    let orders = ap length (asked-part c.args.target.now c.args.what c.list-2.result.now.items c.meant_rows-2.result.now c.meant_rows-2.ensures) ∙ ap (λ (v : Vec Row). length (flat_map (asked_orders c.args.target.now c.args.what) v.items)) c.list-2.ensures in
+    let notes = ap length (noted-part c.args.entry s.moment c.args.target.now c.args.what s.rows.items c.meant_rows.result.now c.meant_rows.ensures) in
+    let orders = ap length (asked-part c.args.target.now c.args.what s.rows.items c.meant_rows-2.result.now c.meant_rows-2.ensures) in
     record {
       changes = omega (arith, notes, ap owed c.control_rows.ensures, sum, c.requires.room.changes, c.requires.changes, c.note_controls.ensures.len, c.note_controls.ensures.capacity);
       orders = omega (arith, orders, ap askable c.control_rows.ensures, asks, c.requires.room.orders, c.requires.orders, c.ask_controls.ensures.len, c.ask_controls.ensures.capacity);
@@ -61,7 +58,7 @@ pub returns-clause-spare : goal.returns-clause-spare
 returns-clause-spare c =
     let s = c.args.self.now in
     let sum = control-owed c.args.entry s.moment c.args.target.now c.args.what s.rows.items in
-    let notes = ap length (noted-part c.args.entry s.moment c.args.target.now c.args.what c.list.result.now.items c.meant_rows.result.now c.meant_rows.ensures) ∙ ap (λ (v : Vec Row). length (flat_map (noted c.args.entry s.moment c.args.target.now c.args.what) v.items)) c.list.ensures in
+    let notes = ap length (noted-part c.args.entry s.moment c.args.target.now c.args.what s.rows.items c.meant_rows.result.now c.meant_rows.ensures) in
     omega (arith, notes, ap owed c.control_rows.ensures, sum, c.requires.room.changes, c.requires.changes, c.note_controls.ensures.len, c.note_controls.ensures.capacity)
 
 pub returns-clause-quiet : goal.returns-clause-quiet

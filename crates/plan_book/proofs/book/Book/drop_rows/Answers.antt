@@ -44,7 +44,7 @@ fit-then c = subst IsFit (sym c.advance.ensures.plan) (fit c)
 pub drop_done-requires : goal.drop_done-requires
 drop_done-requires c =
     (let then : IsFit (plan_of c.advance.new.self) = subst IsFit (sym c.advance.ensures.plan) (advance-fit c.args.entry c.args.at (plan_of c.args.self.now) c.requires.kept.fit) in
-    then.jobs.rising)
+    record { rising = then.jobs.rising; sound = then.sound })
 
 pub returns-clause-meets : goal.returns-clause-meets
 returns-clause-meets c =

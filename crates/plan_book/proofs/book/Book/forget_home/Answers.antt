@@ -38,6 +38,11 @@ fit c = advance-fit c.args.entry c.args.at (plan_of c.args.self.now) c.requires.
 fit-then : (c : After-leave_reservations) → IsFit (plan_of c.advance.new.self)
 fit-then c = subst IsFit (sym c.advance.ensures.plan) (fit c)
 
+pub drop_forgotten-requires : goal.drop_forgotten-requires
+drop_forgotten-requires c =
+    (let then : IsFit (plan_of c.advance.new.self) = subst IsFit (sym c.advance.ensures.plan) (advance-fit c.args.entry c.args.at (plan_of c.args.self.now) c.requires.kept.fit) in
+    record { sound = then.sound })
+
 pub returns-clause-plan : goal.returns-clause-plan
 returns-clause-plan c = plan c
 

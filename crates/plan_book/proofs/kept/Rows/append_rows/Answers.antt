@@ -4,12 +4,18 @@ use Rattle.job_template.specs.Texts.{text_length}
 use Rattle.drmaa_model.specs.declared.rows.Row.{Row}
 use Rattle.drmaa_model.specs.Submitting.{kept_text}
 use Rattle.plan_book.specs.declared.sums.Sums.{Sums}
-use Rattle.plan_book.specs.Open.{AreOver, IsPriorityBound}
+use Rattle.plan_book.specs.Open.{IsPriorityBound}
+use Rattle.plan_book.specs.Settled.{AreSettled}
+use Rattle.plan_book.specs.Spans.{AreSpanned}
 use Rattle.plan_book.specs.Sums.{AreSums}
-use Rattle.plan_book.proofs.OpenLaws.{over-append}
+use Rattle.plan_book.proofs.OpenLaws.{settled-append}
+use Rattle.plan_book.proofs.SpanLaws.{spanned-append}
 use Rattle.plan_book.proofs.SumLaws.{sums-few, sums-append}
 use Rattle.plan_book.proofs.TextLaws.{same-room}
 use Rattle.plan_book.proofs.kept.Rows.append_rows.Goals as goal
+
+pub put_rows-requires : goal.put_rows-requires
+put_rows-requires c = c.self.invariant.members.order
 
 pub with_others-self-inside-requires-clause-few : goal.with_others-self-inside-requires-clause-few
 with_others-self-inside-requires-clause-few c =
@@ -19,7 +25,7 @@ with_others-self-inside-requires-clause-few c =
 pub with_others-self-inside-requires-clause-few_others : goal.with_others-self-inside-requires-clause-few_others
 with_others-self-inside-requires-clause-few_others c =
     let vec = c.args.more in
-    sums-few vec.items c.sums_of.result (omega (arith, vec.ok.0, vec.ok.1, vec.small)) c.sums_of.ensures
+    sums-few vec.items c.sums_of.result (omega (arith, vec.ok.0, vec.ok.1, vec.small)) (subst (λ (rows : List Row). AreSums rows c.sums_of.result) c.deref.ensures.value c.sums_of.ensures)
 
 pub invariant_of-self : goal.invariant_of-self
 invariant_of-self c =
@@ -30,11 +36,13 @@ invariant_of-self c =
     record {
       totals = subst (λ (rows : List Row). AreSums rows c.with_others-self-inside.result) (sym c.append_rows.ensures)
           (subst (λ (sums : Sums). AreSums (xs ++ more) sums) (sym c.with_others-self-inside.ensures)
-          (sums-append xs more c.self.inside.sums c.sums_of.result c.self.invariant.totals c.sums_of.ensures));
-      over = subst (AreOver c.self.inside.over) (sym c.append_rows.ensures) (over-append xs more c.self.inside.over c.self.invariant.over);
+          (sums-append xs more c.self.inside.sums c.sums_of.result c.self.invariant.totals (subst (λ (rows : List Row). AreSums rows c.sums_of.result) c.deref.ensures.value c.sums_of.ensures)));
+      settled = subst (AreSettled c.self.inside.settled) (sym c.append_rows.ensures) (settled-append xs more c.self.inside.settled c.self.invariant.settled);
       greatest = subst (IsPriorityBound c.append_rows.new.rows.items) (sym (to_z-of_z now_fits))
           (subst (λ (rows : List Row). IsPriorityBound rows c.greatest_with-self-inside.result) (sym c.append_rows.ensures)
           (c.greatest_with-self-inside.ensures xs (subst (IsPriorityBound xs) (sym (to_z-of_z fits)) c.self.invariant.greatest)));
       text = same-room (kept_text xs + kept_text more) (kept_text c.append_rows.new.rows.items) c.room_with-self-inside.result
           (ap kept_text c.append_rows.ensures ∙ sum_by-append (λ (row : Row). text_length row.template) xs more) (c.room_with-self-inside.ensures (kept_text xs) c.self.invariant.text);
+      members = subst (λ (rows : List Row). AreSpanned rows c.put_rows.new.self) (sym c.append_rows.ensures)
+          (spanned-append xs more c.self.inside.spans c.put_rows.new.self c.self.invariant.members c.put_rows.ensures.order c.put_rows.ensures.keeps c.put_rows.ensures.members);
     }

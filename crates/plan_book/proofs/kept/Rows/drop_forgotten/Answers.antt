@@ -1,9 +1,36 @@
 use Rattle.std.proofs.Common.{rules, FitsSigned, not, List, sym, subst, to_z-of_z, w32}
+use Rattle.std.specs.Prelude.{Some}
+use Rattle.std.specs.Global.{Vec}
+use Rattle.std.specs.List.{AllByRecursion}
 use Rattle.drmaa_model.specs.declared.rows.Row.{Row}
 use Rattle.drmaa_model.specs.Effects.{is_forgotten}
+use Rattle.drmaa_model.specs.Fit.{IsSound}
+use Rattle.drmaa_model.specs.Homes.{is_same_home}
 use Rattle.plan_book.specs.Open.{IsPriorityBound}
+use Rattle.plan_book.specs.Spans.{AreSpanned}
+use Rattle.plan_book.specs.Sums.{AreSums}
 use Rattle.plan_book.proofs.OpenLaws.{greatest-filter}
+use Rattle.plan_book.proofs.PartLaws.{sums-left}
+use Rattle.plan_book.proofs.SpanLaws.{spanned-filter}
 use Rattle.plan_book.proofs.kept.Rows.drop_forgotten.Goals as goal
+
+pub prune-requires : goal.prune-requires
+prune-requires c =
+    subst (λ (rows : List Row). AreSpanned rows c.self.inside.spans) (sym c.drop_forgotten.ensures)
+    (spanned-filter (λ (row : Row). not (is_forgotten c.args.home row)) c.self.inside.list.items c.self.inside.spans c.self.invariant.members)
+
+pub invariant_of-self : goal.invariant_of-self
+invariant_of-self c =
+    let fits : FitsSigned w32 c.greatest_under-self-inside.result = search rules in
+    let sound = subst (λ (v : Vec Row). AllByRecursion (λ (row : Row). IsSound row.wants row.course) v.items) (sym c.self.view_is) c.requires.sound in
+    record {
+      totals = subst (λ (rows : List Row). AreSums rows c.self.inside.sums) (sym c.drop_forgotten.ensures)
+          (sums-left (λ (row : Row). is_same_home (Some c.args.home) row.home) c.self.inside.list.items c.self.inside.sums sound c.self.invariant.totals);
+      text = c.room_beside-self-inside.ensures;
+      settled = c.settled_from-self-inside.ensures.settled;
+      greatest = subst (IsPriorityBound c.drop_forgotten.new.rows.items) (sym (to_z-of_z fits)) c.greatest_under-self-inside.ensures;
+      members = c.prune.ensures;
+    }
 
 pub greatest_under-self-inside-requires : goal.greatest_under-self-inside-requires
 greatest_under-self-inside-requires c =

@@ -1,9 +1,12 @@
-use Rattle.std.proofs.Common.{rules, FitsSigned, ◌<◌, length, sym, subst, arith, to_z-of_z, w32}
+use Rattle.std.proofs.Common.{rules, FitsSigned, ◌<◌, List, length, sym, subst, arith, to_z-of_z, w32}
 use Rattle.std.specs.Global.{Vec}
 use Rattle.drmaa_model.specs.declared.rows.Row.{Row}
 use Rattle.drmaa_model.specs.Submitting.{kept_text}
-use Rattle.plan_book.specs.Open.{AreOver, IsPriorityBound}
+use Rattle.plan_book.specs.Open.{IsPriorityBound}
+use Rattle.plan_book.specs.Settled.{AreSettled}
+use Rattle.plan_book.specs.Spans.{AreSpanned}
 use Rattle.plan_book.proofs.OpenLaws.{greatest-removed}
+use Rattle.plan_book.proofs.SpanLaws.{spanned-removed}
 use Rattle.plan_book.proofs.SumLaws.{sums-few, removed-parts, sums-removed}
 use Rattle.plan_book.proofs.TextLaws.{room-removed}
 use Rattle.plan_book.proofs.kept.Rows.drop_row.Goals as goal
@@ -25,6 +28,10 @@ room_beside-self-inside-requires c =
     c.room_without_job-known.ensures (kept_text left)
     (room-removed c.self.inside.list.items left c.args.place c.remove-row.result c.self.inside.room within c.remove-row.ensures.value c.remove-row.ensures.items c.self.invariant.text)
 
+pub prune-requires : goal.prune-requires
+prune-requires c =
+    subst (λ (rows : List Row). AreSpanned rows c.self.inside.spans) (sym c.remove-row.ensures.items) (spanned-removed c.self.inside.list.items c.args.place c.self.inside.spans c.self.invariant.members)
+
 pub greatest_without-self-inside-requires : goal.greatest_without-self-inside-requires
 greatest_without-self-inside-requires c =
     let left = c.remove-row.new.self.items in
@@ -40,6 +47,7 @@ invariant_of-self c =
     record {
       totals = sums-removed xs c.args.place c.remove-row.result c.self.inside.sums within c.remove-row.ensures.value c.self.invariant.totals left c.without_job-self-inside.result c.remove-row.ensures.items c.without_job-self-inside.ensures.value;
       text = c.room_beside-self-inside.ensures;
-      over = subst (AreOver c.over_without-self-inside.result) (sym c.remove-row.ensures.items) (c.over_without-self-inside.ensures xs within c.self.invariant.over);
+      settled = subst (AreSettled c.settled_without-self-inside.result) (sym c.remove-row.ensures.items) (c.settled_without-self-inside.ensures xs within c.self.invariant.settled);
+      members = c.prune.ensures;
       greatest = subst (IsPriorityBound left) (sym (to_z-of_z fits)) c.greatest_without-self-inside.ensures;
     }

@@ -6,9 +6,11 @@ use Rattle.drmaa_model.specs.Rows.{row_of, with_course}
 use Rattle.drmaa_model.specs.Submitting.{kept_text}
 use Rattle.plan_book.specs.declared.sums.Sums.{Sums}
 use Rattle.plan_book.specs.Open.{IsPriorityBound}
+use Rattle.plan_book.specs.Spans.{AreSpanned}
 use Rattle.plan_book.specs.Sums.{AreSums}
-use Rattle.plan_book.proofs.OpenLaws.{over-set, over-fewer, greatest-course}
+use Rattle.plan_book.proofs.OpenLaws.{settled-set, settled-fewer, greatest-course}
 use Rattle.plan_book.proofs.Searched.{find-at, set-at, map-absent}
+use Rattle.plan_book.proofs.SpanLaws.{spanned-course}
 use Rattle.plan_book.proofs.SumLaws.{sums-few, sums-parts, sums-change}
 use Rattle.plan_book.proofs.TextLaws.{same-room, text-course}
 use Rattle.plan_book.proofs.kept.Rows.put_course.Goals as goal
@@ -26,11 +28,11 @@ going_on-self-inside-requires-clause-parts c =
     let found : row_of c.args.job xs ≡ Some row = find-at number_of c.args.job.0 xs c.in-Ok.place row rising (c.in-Ok.ensures {u = tt}).found ∙ ap (λ (r : Row). Some r) (sym c.index.ensures) in
     sums-parts c.args.job c.args.course.now xs row c.self.inside.sums rising found c.self.invariant.totals
 
-pub over_from-self-inside-requires : goal.over_from-self-inside-requires
-over_from-self-inside-requires c =
+pub settled_from-self-inside-requires : goal.settled_from-self-inside-requires
+settled_from-self-inside-requires c =
     let xs = c.self.inside.list.items in
     let row : Row = record c.index_mut.result.now { course = c.args.course.now } in
-    over-set xs c.min.result c.in-Ok.place row (omega (arith, c.min.ensures)) (over-fewer xs c.self.inside.over c.min.result (omega (arith, c.min.ensures)) c.self.invariant.over)
+    settled-set xs c.min.result c.in-Ok.place row (omega (arith, c.min.ensures)) (settled-fewer xs c.self.inside.settled c.min.result (omega (arith, c.min.ensures)) c.self.invariant.settled)
 
 pub invariant_of-self : goal.invariant_of-self
 invariant_of-self c =
@@ -47,7 +49,8 @@ invariant_of-self c =
       totals = subst (λ (rows : List Row). AreSums rows c.going_on-self-inside.result) (sym is)
           (subst (λ (sums : Sums). AreSums (map (with_course c.args.job course) xs) sums) (sym c.going_on-self-inside.ensures.value)
           (sums-change c.args.job course xs row c.self.inside.sums rising found c.self.invariant.totals c.going_on-self-inside.ensures.small));
-      over = c.over_from-self-inside.ensures.over;
+      settled = c.settled_from-self-inside.ensures.settled;
+      members = subst (λ (rows : List Row). AreSpanned rows c.self.inside.spans) (sym is) (spanned-course c.args.job course xs c.self.inside.spans c.self.invariant.members);
       greatest = subst (λ (rows : List Row). IsPriorityBound rows c.self.inside.greatest) (sym is) (greatest-course c.args.job course xs c.self.inside.greatest c.self.invariant.greatest);
       text = same-room (kept_text xs) (kept_text (set xs c.in-Ok.place (give c.index_mut.result.now))) c.self.inside.room (ap kept_text is ∙ text-course c.args.job course xs) c.self.invariant.text;
     }

@@ -1,0 +1,18 @@
+use Rattle.std.proofs.Common.{take}
+use Rattle.drmaa_model.specs.RowLaws.{all-implied}
+use Rattle.plan_book.specs.Spans.{IsSpanned}
+use Rattle.plan_book.proofs.QuietLaws.{all-more}
+use Rattle.plan_book.proofs.spans.Spans.put_rows.Goals as goal
+
+pub loop-row-preserved : goal.loop-row-preserved
+loop-row-preserved c =
+    let xs = c.deref-row-items.result.now in
+    let i = c.loop-row.row-index in
+    let was = c.loop-row.self in
+    let now = c.put_row.new.self in
+    record {
+      order = c.put_row.ensures.order;
+      keeps = λ array job within. c.put_row.ensures.keeps array job (c.loop-row.invariant.keeps array job within);
+      members = all-more (IsSpanned now) xs i c.row-item.result c.loop-row-test.true c.row-item.is
+          (all-implied (IsSpanned was) (IsSpanned now) (λ row spanned array is. c.put_row.ensures.keeps array.0 row.job.0 (spanned array is)) (take i xs) c.loop-row.invariant.members) c.put_row.ensures.member;
+    }
