@@ -16,7 +16,6 @@ use Rattle.drmaa_model.specs.declared.replies.Reply.TheVariants as reply
 use Rattle.drmaa_model.specs.AnswerLaws.{answer-cases, reply-kind}
 use Rattle.drmaa_model.specs.Effects.{StepAnswer, gives, nothing, not_yet}
 use Rattle.drmaa_model.specs.History.{IsLegal, replay}
-use Rattle.drmaa_model.specs.HistoryLaws.{legal-last}
 use Rattle.drmaa_model.specs.Homes.{session_test, seen_test}
 use Rattle.drmaa_model.specs.Refusals.{refusal}
 use Rattle.drmaa_model.specs.ReplyKinds.{kind_of_reply, a_state, a_refusal, IsReplyOf}
@@ -30,26 +29,18 @@ use Rattle.call_history.specs.Clients.{Seat, seen_of, number_of}
 use Rattle.call_history.specs.Clocks.{Dial}
 use Rattle.call_history.specs.Refused.{IsRefused}
 use Rattle.call_history.specs.Refused.IsRefused.{by_fault}
+use Rattle.wait_calls.proofs.Seats.{made-step}
 use Rattle.client_sessions.specs.Tries.{IsRefusedAtOnce, IsRefusalOf}
 
 -- the refusal does not ask to try later
 abbrev pub StandsFirm : Refusal → Type 0
-StandsFirm (why.DeniedByDrms moment) = Unit {0}
-StandsFirm (why.TryLater served drawn) = ⊥
-StandsFirm why.Timeout = Unit {0}
-StandsFirm (why.InvalidArgument which) = Unit {0}
-StandsFirm why.InvalidSession = Unit {0}
-StandsFirm (why.InvalidState state) = Unit {0}
-StandsFirm (why.OutOfResource limit) = Unit {0}
-StandsFirm why.OutOfMemory = Unit {0}
-StandsFirm (why.UnsupportedAttribute attribute) = Unit {0}
-StandsFirm why.UnsupportedOperation = Unit {0}
+StandsFirm reason = (served drawn : ℕ) → reason ≡ why.TryLater served drawn → ⊥
 
 -- such a refusal is told at once as it would be after waiting
 pub told-at-once : (config : Config) (before : Dial) (old : Seat) (asked : Call) (after : Dial) (new : Seat) (reason : Refusal) → StandsFirm reason
     → IsRefused config before old asked reason after new → IsRefusedAtOnce config before old asked after new reason
 told-at-once config before old asked after new (why.DeniedByDrms moment) firm is = is
-told-at-once config before old asked after new (why.TryLater served drawn) firm is = absurd firm
+told-at-once config before old asked after new (why.TryLater served drawn) firm is = absurd (firm served drawn refl)
 told-at-once config before old asked after new why.Timeout firm is = is
 told-at-once config before old asked after new (why.InvalidArgument which) firm is = is
 told-at-once config before old asked after new why.InvalidSession firm is = is
@@ -73,7 +64,7 @@ two-tests a b P first second reason is =
 
 -- a question for a state is refused for its session or its job
 state-refusal : (w : World) (session : SessionId) (job : JobId) (reason : Refusal) → refusal w (call.GetState session job) ≡ Some reason → StandsFirm reason
-state-refusal w session job reason is = two-tests (session_test (Jobs ∷ Monitoring ∷ []) session w) (seen_test session job w) StandsFirm tt tt reason is
+state-refusal w session job reason is = two-tests (session_test (Jobs ∷ Monitoring ∷ []) session w) (seen_test session job w) StandsFirm (λ served drawn e. cc) (λ served drawn e. cc) reason is
 
 -- a reply that refuses does not ask to try later
 abbrev RefusesFirmly : Reply → Type 0
@@ -101,8 +92,7 @@ pub turned-down : (config : Config) (before : Dial) (old : Seat) (session : Sess
 turned-down config before old session job r after new legal s reason other refused =
     let asked : Call = call.GetState session job in
     let front : List Entry = seen_of old ++ s.made.between in
-    let entry : Entry = entry_by (number_of old) s.at asked r in
-    let step = legal-last config front entry (subst (IsLegal config) s.made.seen legal) in
+    let step = made-step config old (entry_by (number_of old) s.at asked r) new legal s.made in
     let kind : IsReplyOf asked r = reply-kind (replay config front) s.at asked r _ step.answered in
     let same : r ≡ reply.Refused reason = elim kind as (λ _. r ≡ reply.Refused reason) [ inl is ↦ refused is | inr is ↦ absurd (other is) ] in
     let firm : RefusesFirmly r = subst AnswersFirmly step.answered (state-answer (replay config front) s.at session job) in
@@ -125,6 +115,3 @@ failed-try config before old session job after new (tried.Not (fault.Journal n))
 pub err-both : {A E : Type 0} (r : Result A E) (P Q R : E → Type 0) → IfErr r P → IfErr r Q → ((e : E) → P e → Q e → R e) → IfErr r R
 err-both (Ok a) P Q R p q f = tt
 err-both (Err e) P Q R p q f = f e p q
-
-pub err-is : {A E : Type 0} (r : Result A E) (P : E → Type 0) (e : E) → IfErr r P → r ≡ Err e → P e
-err-is {A = A} {E = E} r P e is same = subst (λ (x : Result A E). IfErr x P) same is

@@ -1,5 +1,6 @@
 -- Waits for each of several jobs, one after another: our profile.
 use Rattle.std.specs.Prelude.{◌≡◌, ◌⊎◌, ℕ, List, [], ◌∷◌}
+use Rattle.drmaa_types.specs.Readings.{Readings}
 use Rattle.drmaa_types.specs.declared.identifiers.ArrayId.{ArrayId}
 use Rattle.drmaa_types.specs.declared.identifiers.JobId.{JobId}
 use Rattle.drmaa_types.specs.declared.identifiers.SessionId.{SessionId}
@@ -11,12 +12,14 @@ use Rattle.drmaa_model.specs.declared.calls.Call.{Call}
 use Rattle.drmaa_model.specs.declared.calls.Call.TheVariants as call
 use Rattle.drmaa_model.specs.declared.configs.Config.{Config}
 use Rattle.drmaa_model.specs.declared.replies.Reply.TheVariants as reply
+use Rattle.call_history.specs.declared.desks.Desk.{Desk}
 use Rattle.call_history.specs.Calls.{IsServed}
-use Rattle.call_history.specs.Clients.{Seat, number_of}
+use Rattle.call_history.specs.Clients.{Seat, number_of, StaysAt}
 use Rattle.call_history.specs.Clocks.{Dial}
 use Rattle.wait_calls.specs.Waited.{IsWaited, Reaches, Refuses}
 use Rattle.client_sessions.specs.declared.jobs.Job.{Job}
-use Rattle.client_sessions.specs.Lists.{jobs_of}
+use Rattle.client_sessions.specs.Desks.{dial_of, WaitDenies}
+use Rattle.client_sessions.specs.Lists.{jobs_of, IsUnlisted}
 
 -- the wait for one job alone, through a session, begun at a moment
 abbrev pub wait_for : SessionId → WaitKind → Timeout → Job → ℕ → Call
@@ -53,3 +56,29 @@ pub record OfMembers (session : SessionId) (array : ArrayId) (before : Dial) (ol
   pub number : number_of client ≡ number_of old
   pub told : IsServed before old (call.GetJobArray session array) (reply.Jobs numbers) clock client
   pub follows : Follows (jobs_of session numbers) clock client
+
+-- ---- by the desk that the waits go through
+
+-- each of these jobs had reached the state
+abbrev pub AllReach : {C : Type 0} → (C → Readings) → (C → ℕ) → Desk C → (Job → ℕ → Call) → List Job → Desk C → Type 0
+AllReach given least old asked jobs new = AreWaited old.shared.now.fixed asked (dial_of given least old) old.client jobs (dial_of given least new) new.client
+
+-- the wait for one of them was refused
+abbrev pub OneDenies : {C : Type 0} → (C → Readings) → (C → ℕ) → Desk C → (Job → ℕ → Call) → List Job → Refusal → Desk C → Type 0
+OneDenies given least old asked jobs reason new = AreStopped old.shared.now.fixed asked (dial_of given least old) old.client jobs reason (dial_of given least new) new.client
+
+-- each kept job of an array had reached the state
+abbrev pub MembersReach : {C : Type 0} → (C → Readings) → (C → ℕ) → Desk C → SessionId → ArrayId → WaitKind → Timeout → Desk C → Type 0
+MembersReach given least old session array kind timeout new =
+    OfMembers session array (dial_of given least old) old.client (λ jobs clock client. AreWaited old.shared.now.fixed (wait_for session kind timeout) clock client jobs (dial_of given least new) new.client)
+
+-- they were not listed, and nothing was waited for; or the wait for one of them was refused
+abbrev pub MemberDenies : {C : Type 0} → (C → Readings) → (C → ℕ) → Desk C → SessionId → ArrayId → WaitKind → Timeout → Refusal → Desk C → Type 0
+MemberDenies given least old session array kind timeout reason new =
+    IsUnlisted old.shared.now.fixed (dial_of given least old) old.client (call.GetJobArray session array) (λ numbers. reply.Jobs numbers) reason (dial_of given least new) new.client
+    ⊎ OfMembers session array (dial_of given least old) old.client (λ jobs clock client. AreStopped old.shared.now.fixed (wait_for session kind timeout) clock client jobs reason (dial_of given least new) new.client)
+
+-- the wait for one job was refused; or there was no memory for the list of the one job, and nothing has happened
+abbrev pub JobDenies : {C : Type 0} → (C → Readings) → (C → ℕ) → Desk C → (ℕ → Call) → Refusal → Desk C → Type 0
+JobDenies given least old asked reason new =
+    (StaysAt old.shared.now old.client new.shared.now new.client × WaitDenies given least old asked reason new) ⊎ ((reason ≡ OutOfMemory) × (new ≡ old))

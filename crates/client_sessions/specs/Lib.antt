@@ -1,4 +1,5 @@
 pub mod AllWaits
+pub mod Desks
 pub mod Indices
 pub mod Lists
 pub mod Machines

@@ -13,16 +13,8 @@ use Rattle.call_history.specs.Refused.{IsRefused, refusal_of}
 
 -- TryLater with these numbers: another client had its turn, and nothing was read, seen or made. Any other refusal is that of the one entry, or comes with no entry.
 abbrev pub IsRefusedAtOnce : Config → Dial → Seat → Call → Dial → Seat → Refusal → Type 0
-IsRefusedAtOnce config before old asked after new (why.DeniedByDrms moment) = IsRefused config before old asked (why.DeniedByDrms moment) after new
 IsRefusedAtOnce config before old asked after new (why.TryLater served drawn) = IsBusy before old served drawn after new
-IsRefusedAtOnce config before old asked after new why.Timeout = IsRefused config before old asked why.Timeout after new
-IsRefusedAtOnce config before old asked after new (why.InvalidArgument which) = IsRefused config before old asked (why.InvalidArgument which) after new
-IsRefusedAtOnce config before old asked after new why.InvalidSession = IsRefused config before old asked why.InvalidSession after new
-IsRefusedAtOnce config before old asked after new (why.InvalidState state) = IsRefused config before old asked (why.InvalidState state) after new
-IsRefusedAtOnce config before old asked after new (why.OutOfResource limit) = IsRefused config before old asked (why.OutOfResource limit) after new
-IsRefusedAtOnce config before old asked after new why.OutOfMemory = IsRefused config before old asked why.OutOfMemory after new
-IsRefusedAtOnce config before old asked after new (why.UnsupportedAttribute attribute) = IsRefused config before old asked (why.UnsupportedAttribute attribute) after new
-IsRefusedAtOnce config before old asked after new why.UnsupportedOperation = IsRefused config before old asked why.UnsupportedOperation after new
+IsRefusedAtOnce config before old asked after new reason = IsRefused config before old asked reason after new
 
 -- the refusal that stands for the fault of a try, of a call that is always answered
 abbrev pub IsRefusalOf : TryFault → Refusal → Type 0

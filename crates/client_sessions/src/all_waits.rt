@@ -1,13 +1,9 @@
 //! Waits for all of some jobs: those that are listed, or those of an array.
-ghost use Rattle.std.specs.Prelude.{◌⊎◌, IfOk, IfErr};
+ghost use Rattle.std.specs.Prelude.{IfOk, IfErr};
 ghost use Rattle.drmaa_types.specs.declared.states.WaitKind.{WaitKind};
-ghost use Rattle.drmaa_model.specs.declared.calls.Call.{Call};
-ghost use Rattle.drmaa_model.specs.declared.replies.Reply.{Reply};
 ghost use Rattle.turn_lock.specs.Tokens.{IsFree};
 ghost use Rattle.call_history.specs.Clients.{StaysAt, IsStillAt};
-ghost use Rattle.call_history.specs.Clocks.{dial};
-ghost use Rattle.client_sessions.specs.AllWaits.{wait_for, AreWaited, AreStopped, OfMembers};
-ghost use Rattle.client_sessions.specs.Lists.{IsUnlisted};
+ghost use Rattle.client_sessions.specs.AllWaits.{wait_for, AllReach, OneDenies, MembersReach, MemberDenies};
 
 use crate::arrays::JobArray;
 use crate::job_sessions::JobSession;
@@ -38,10 +34,8 @@ impl JobSession {
     ) -> Result<(), Refusal>
         requires { IsFree desk.old.shared.now desk.old.client }
         ensures desk { IsStillAt desk.old.shared.now desk.old.client desk.new.shared.now desk.new.client }
-        ensures ok { IfOk result (λ _. AreWaited desk.old.shared.now.fixed (wait_for self.session WaitKind.Started timeout) (dial (C.given desk.old.clock) (C.least desk.old.clock)) desk.old.client jobs.now
-            (dial (C.given desk.new.clock) (C.least desk.new.clock)) desk.new.client) }
-        ensures err { IfErr result (λ why. AreStopped desk.old.shared.now.fixed (wait_for self.session WaitKind.Started timeout) (dial (C.given desk.old.clock) (C.least desk.old.clock)) desk.old.client jobs.now why
-            (dial (C.given desk.new.clock) (C.least desk.new.clock)) desk.new.client) }
+        ensures ok { IfOk result (λ _. AllReach C.given C.least desk.old (wait_for self.session WaitKind.Started timeout) jobs.now desk.new) }
+        ensures err { IfErr result (λ why. OneDenies C.given C.least desk.old (wait_for self.session WaitKind.Started timeout) jobs.now why desk.new) }
     {
         wait_for_each(
             alloc,
@@ -71,10 +65,8 @@ impl JobSession {
     ) -> Result<(), Refusal>
         requires { IsFree desk.old.shared.now desk.old.client }
         ensures desk { IsStillAt desk.old.shared.now desk.old.client desk.new.shared.now desk.new.client }
-        ensures ok { IfOk result (λ _. AreWaited desk.old.shared.now.fixed (wait_for self.session WaitKind.Terminated timeout) (dial (C.given desk.old.clock) (C.least desk.old.clock)) desk.old.client jobs.now
-            (dial (C.given desk.new.clock) (C.least desk.new.clock)) desk.new.client) }
-        ensures err { IfErr result (λ why. AreStopped desk.old.shared.now.fixed (wait_for self.session WaitKind.Terminated timeout) (dial (C.given desk.old.clock) (C.least desk.old.clock)) desk.old.client jobs.now why
-            (dial (C.given desk.new.clock) (C.least desk.new.clock)) desk.new.client) }
+        ensures ok { IfOk result (λ _. AllReach C.given C.least desk.old (wait_for self.session WaitKind.Terminated timeout) jobs.now desk.new) }
+        ensures err { IfErr result (λ why. OneDenies C.given C.least desk.old (wait_for self.session WaitKind.Terminated timeout) jobs.now why desk.new) }
     {
         wait_for_each(
             alloc,
@@ -105,12 +97,8 @@ impl JobArray {
     ) -> Result<(), Refusal>
         requires { IsFree desk.old.shared.now desk.old.client }
         ensures desk { StaysAt desk.old.shared.now desk.old.client desk.new.shared.now desk.new.client }
-        ensures ok { IfOk result (λ _. OfMembers self.session self.array (dial (C.given desk.old.clock) (C.least desk.old.clock)) desk.old.client
-            (λ jobs clock client. AreWaited desk.old.shared.now.fixed (wait_for self.session WaitKind.Started timeout) clock client jobs (dial (C.given desk.new.clock) (C.least desk.new.clock)) desk.new.client)) }
-        ensures err { IfErr result (λ why. IsUnlisted desk.old.shared.now.fixed (dial (C.given desk.old.clock) (C.least desk.old.clock)) desk.old.client
-            (Call.GetJobArray self.session self.array) (λ numbers. Reply.Jobs numbers) why (dial (C.given desk.new.clock) (C.least desk.new.clock)) desk.new.client
-            ⊎ OfMembers self.session self.array (dial (C.given desk.old.clock) (C.least desk.old.clock)) desk.old.client
-            (λ jobs clock client. AreStopped desk.old.shared.now.fixed (wait_for self.session WaitKind.Started timeout) clock client jobs why (dial (C.given desk.new.clock) (C.least desk.new.clock)) desk.new.client)) }
+        ensures ok { IfOk result (λ _. MembersReach C.given C.least desk.old self.session self.array WaitKind.Started timeout desk.new) }
+        ensures err { IfErr result (λ why. MemberDenies C.given C.least desk.old self.session self.array WaitKind.Started timeout why desk.new) }
     {
         self.wait_for_all(alloc, rt, desk, WaitKind::Started, timeout)
     }
@@ -130,12 +118,8 @@ impl JobArray {
     ) -> Result<(), Refusal>
         requires { IsFree desk.old.shared.now desk.old.client }
         ensures desk { StaysAt desk.old.shared.now desk.old.client desk.new.shared.now desk.new.client }
-        ensures ok { IfOk result (λ _. OfMembers self.session self.array (dial (C.given desk.old.clock) (C.least desk.old.clock)) desk.old.client
-            (λ jobs clock client. AreWaited desk.old.shared.now.fixed (wait_for self.session WaitKind.Terminated timeout) clock client jobs (dial (C.given desk.new.clock) (C.least desk.new.clock)) desk.new.client)) }
-        ensures err { IfErr result (λ why. IsUnlisted desk.old.shared.now.fixed (dial (C.given desk.old.clock) (C.least desk.old.clock)) desk.old.client
-            (Call.GetJobArray self.session self.array) (λ numbers. Reply.Jobs numbers) why (dial (C.given desk.new.clock) (C.least desk.new.clock)) desk.new.client
-            ⊎ OfMembers self.session self.array (dial (C.given desk.old.clock) (C.least desk.old.clock)) desk.old.client
-            (λ jobs clock client. AreStopped desk.old.shared.now.fixed (wait_for self.session WaitKind.Terminated timeout) clock client jobs why (dial (C.given desk.new.clock) (C.least desk.new.clock)) desk.new.client)) }
+        ensures ok { IfOk result (λ _. MembersReach C.given C.least desk.old self.session self.array WaitKind.Terminated timeout desk.new) }
+        ensures err { IfErr result (λ why. MemberDenies C.given C.least desk.old self.session self.array WaitKind.Terminated timeout why desk.new) }
     {
         self.wait_for_all(alloc, rt, desk, WaitKind::Terminated, timeout)
     }
@@ -151,12 +135,8 @@ impl JobArray {
     ) -> Result<(), Refusal>
         requires { IsFree desk.old.shared.now desk.old.client }
         ensures desk { StaysAt desk.old.shared.now desk.old.client desk.new.shared.now desk.new.client }
-        ensures ok { IfOk result (λ _. OfMembers self.session self.array (dial (C.given desk.old.clock) (C.least desk.old.clock)) desk.old.client
-            (λ jobs clock client. AreWaited desk.old.shared.now.fixed (wait_for self.session kind timeout) clock client jobs (dial (C.given desk.new.clock) (C.least desk.new.clock)) desk.new.client)) }
-        ensures err { IfErr result (λ why. IsUnlisted desk.old.shared.now.fixed (dial (C.given desk.old.clock) (C.least desk.old.clock)) desk.old.client
-            (Call.GetJobArray self.session self.array) (λ numbers. Reply.Jobs numbers) why (dial (C.given desk.new.clock) (C.least desk.new.clock)) desk.new.client
-            ⊎ OfMembers self.session self.array (dial (C.given desk.old.clock) (C.least desk.old.clock)) desk.old.client
-            (λ jobs clock client. AreStopped desk.old.shared.now.fixed (wait_for self.session kind timeout) clock client jobs why (dial (C.given desk.new.clock) (C.least desk.new.clock)) desk.new.client)) }
+        ensures ok { IfOk result (λ _. MembersReach C.given C.least desk.old self.session self.array kind timeout desk.new) }
+        ensures err { IfErr result (λ why. MemberDenies C.given C.least desk.old self.session self.array kind timeout why desk.new) }
     {
         match self.jobs(alloc, rt, desk) {
             Ok(jobs) => wait_for_each(
@@ -185,10 +165,8 @@ fn wait_for_each<R: Wait + Pause, C: Clock>(
 ) -> Result<(), Refusal>
     requires { IsFree desk.old.shared.now desk.old.client }
     ensures desk { IsStillAt desk.old.shared.now desk.old.client desk.new.shared.now desk.new.client }
-    ensures ok { IfOk result (λ _. AreWaited desk.old.shared.now.fixed (wait_for session kind timeout) (dial (C.given desk.old.clock) (C.least desk.old.clock)) desk.old.client jobs.now
-        (dial (C.given desk.new.clock) (C.least desk.new.clock)) desk.new.client) }
-    ensures err { IfErr result (λ why. AreStopped desk.old.shared.now.fixed (wait_for session kind timeout) (dial (C.given desk.old.clock) (C.least desk.old.clock)) desk.old.client jobs.now why
-        (dial (C.given desk.new.clock) (C.least desk.new.clock)) desk.new.client) }
+    ensures ok { IfOk result (λ _. AllReach C.given C.least desk.old (wait_for session kind timeout) jobs.now desk.new) }
+    ensures err { IfErr result (λ why. OneDenies C.given C.least desk.old (wait_for session kind timeout) jobs.now why desk.new) }
 {
     for listed in jobs {
         let job = listed.job;

@@ -2,13 +2,11 @@
 ghost use Rattle.std.specs.Prelude.{◌≡◌, ℕ, List, IfOk, IfErr};
 ghost use Rattle.turn_lock.specs.Tokens.{IsFree};
 ghost use Rattle.call_history.specs.Clients.{StaysAt};
-ghost use Rattle.call_history.specs.Clocks.{dial};
-ghost use Rattle.call_history.specs.Calls.{IsServed};
-ghost use Rattle.call_history.specs.Refused.{IsRefused};
+ghost use Rattle.client_sessions.specs.Desks.{dial_of, Serves, Denies};
 ghost use Rattle.client_sessions.specs.Lists.{jobs_of, IsUnlisted};
 
 use crate::job_sessions::JobSession;
-use crate::jobs::Job;
+use crate::jobs::{Job, ask_to_control};
 use crate::lists::jobs_of;
 use call_history::{Call, Desk, Reply};
 use drmaa_model::Target;
@@ -40,12 +38,11 @@ impl JobArray {
     pub fn suspend<R: Wait, C: Clock>(self, rt: &R, desk: &mut Desk<C>) -> Result<(), Refusal>
         requires { IsFree desk.old.shared.now desk.old.client }
         ensures desk { StaysAt desk.old.shared.now desk.old.client desk.new.shared.now desk.new.client }
-        ensures ok { IfOk result (λ told. IsServed (dial (C.given desk.old.clock) (C.least desk.old.clock)) desk.old.client
-            (Call.Control self.session (Target.Array self.array) Control.Suspend) Reply.Unit (dial (C.given desk.new.clock) (C.least desk.new.clock)) desk.new.client) }
-        ensures err { IfErr result (λ why. IsRefused desk.old.shared.now.fixed (dial (C.given desk.old.clock) (C.least desk.old.clock)) desk.old.client
-            (Call.Control self.session (Target.Array self.array) Control.Suspend) why (dial (C.given desk.new.clock) (C.least desk.new.clock)) desk.new.client) }
+        ensures ok { IfOk result (λ told. Serves C.given C.least desk.old (Call.Control self.session (Target.Array self.array) Control.Suspend) Reply.Unit desk.new) }
+        ensures err { IfErr result (λ why. Denies C.given C.least desk.old (Call.Control self.session (Target.Array self.array) Control.Suspend) why desk.new) }
     {
-        self.control(rt, desk, Control::Suspend)
+        let target = Target::Array(self.array);
+        ask_to_control(rt, desk, self.session, target, Control::Suspend)
     }
 
     /// Resumes the suspended jobs of the array (GFD.231, JobArray::resume).
@@ -58,12 +55,11 @@ impl JobArray {
     pub fn resume<R: Wait, C: Clock>(self, rt: &R, desk: &mut Desk<C>) -> Result<(), Refusal>
         requires { IsFree desk.old.shared.now desk.old.client }
         ensures desk { StaysAt desk.old.shared.now desk.old.client desk.new.shared.now desk.new.client }
-        ensures ok { IfOk result (λ told. IsServed (dial (C.given desk.old.clock) (C.least desk.old.clock)) desk.old.client
-            (Call.Control self.session (Target.Array self.array) Control.Resume) Reply.Unit (dial (C.given desk.new.clock) (C.least desk.new.clock)) desk.new.client) }
-        ensures err { IfErr result (λ why. IsRefused desk.old.shared.now.fixed (dial (C.given desk.old.clock) (C.least desk.old.clock)) desk.old.client
-            (Call.Control self.session (Target.Array self.array) Control.Resume) why (dial (C.given desk.new.clock) (C.least desk.new.clock)) desk.new.client) }
+        ensures ok { IfOk result (λ told. Serves C.given C.least desk.old (Call.Control self.session (Target.Array self.array) Control.Resume) Reply.Unit desk.new) }
+        ensures err { IfErr result (λ why. Denies C.given C.least desk.old (Call.Control self.session (Target.Array self.array) Control.Resume) why desk.new) }
     {
-        self.control(rt, desk, Control::Resume)
+        let target = Target::Array(self.array);
+        ask_to_control(rt, desk, self.session, target, Control::Resume)
     }
 
     /// Holds the queued and requeued jobs of the array (GFD.231, JobArray::hold).
@@ -76,12 +72,11 @@ impl JobArray {
     pub fn hold<R: Wait, C: Clock>(self, rt: &R, desk: &mut Desk<C>) -> Result<(), Refusal>
         requires { IsFree desk.old.shared.now desk.old.client }
         ensures desk { StaysAt desk.old.shared.now desk.old.client desk.new.shared.now desk.new.client }
-        ensures ok { IfOk result (λ told. IsServed (dial (C.given desk.old.clock) (C.least desk.old.clock)) desk.old.client
-            (Call.Control self.session (Target.Array self.array) Control.Hold) Reply.Unit (dial (C.given desk.new.clock) (C.least desk.new.clock)) desk.new.client) }
-        ensures err { IfErr result (λ why. IsRefused desk.old.shared.now.fixed (dial (C.given desk.old.clock) (C.least desk.old.clock)) desk.old.client
-            (Call.Control self.session (Target.Array self.array) Control.Hold) why (dial (C.given desk.new.clock) (C.least desk.new.clock)) desk.new.client) }
+        ensures ok { IfOk result (λ told. Serves C.given C.least desk.old (Call.Control self.session (Target.Array self.array) Control.Hold) Reply.Unit desk.new) }
+        ensures err { IfErr result (λ why. Denies C.given C.least desk.old (Call.Control self.session (Target.Array self.array) Control.Hold) why desk.new) }
     {
-        self.control(rt, desk, Control::Hold)
+        let target = Target::Array(self.array);
+        ask_to_control(rt, desk, self.session, target, Control::Hold)
     }
 
     /// Releases the held jobs of the array (GFD.231, JobArray::release).
@@ -94,12 +89,11 @@ impl JobArray {
     pub fn release<R: Wait, C: Clock>(self, rt: &R, desk: &mut Desk<C>) -> Result<(), Refusal>
         requires { IsFree desk.old.shared.now desk.old.client }
         ensures desk { StaysAt desk.old.shared.now desk.old.client desk.new.shared.now desk.new.client }
-        ensures ok { IfOk result (λ told. IsServed (dial (C.given desk.old.clock) (C.least desk.old.clock)) desk.old.client
-            (Call.Control self.session (Target.Array self.array) Control.Release) Reply.Unit (dial (C.given desk.new.clock) (C.least desk.new.clock)) desk.new.client) }
-        ensures err { IfErr result (λ why. IsRefused desk.old.shared.now.fixed (dial (C.given desk.old.clock) (C.least desk.old.clock)) desk.old.client
-            (Call.Control self.session (Target.Array self.array) Control.Release) why (dial (C.given desk.new.clock) (C.least desk.new.clock)) desk.new.client) }
+        ensures ok { IfOk result (λ told. Serves C.given C.least desk.old (Call.Control self.session (Target.Array self.array) Control.Release) Reply.Unit desk.new) }
+        ensures err { IfErr result (λ why. Denies C.given C.least desk.old (Call.Control self.session (Target.Array self.array) Control.Release) why desk.new) }
     {
-        self.control(rt, desk, Control::Release)
+        let target = Target::Array(self.array);
+        ask_to_control(rt, desk, self.session, target, Control::Release)
     }
 
     /// Makes the waiting jobs of the array fail at once, and asks for the processes of the started ones to be killed
@@ -113,12 +107,11 @@ impl JobArray {
     pub fn terminate<R: Wait, C: Clock>(self, rt: &R, desk: &mut Desk<C>) -> Result<(), Refusal>
         requires { IsFree desk.old.shared.now desk.old.client }
         ensures desk { StaysAt desk.old.shared.now desk.old.client desk.new.shared.now desk.new.client }
-        ensures ok { IfOk result (λ told. IsServed (dial (C.given desk.old.clock) (C.least desk.old.clock)) desk.old.client
-            (Call.Control self.session (Target.Array self.array) Control.Terminate) Reply.Unit (dial (C.given desk.new.clock) (C.least desk.new.clock)) desk.new.client) }
-        ensures err { IfErr result (λ why. IsRefused desk.old.shared.now.fixed (dial (C.given desk.old.clock) (C.least desk.old.clock)) desk.old.client
-            (Call.Control self.session (Target.Array self.array) Control.Terminate) why (dial (C.given desk.new.clock) (C.least desk.new.clock)) desk.new.client) }
+        ensures ok { IfOk result (λ told. Serves C.given C.least desk.old (Call.Control self.session (Target.Array self.array) Control.Terminate) Reply.Unit desk.new) }
+        ensures err { IfErr result (λ why. Denies C.given C.least desk.old (Call.Control self.session (Target.Array self.array) Control.Terminate) why desk.new) }
     {
-        self.control(rt, desk, Control::Terminate)
+        let target = Target::Array(self.array);
+        ask_to_control(rt, desk, self.session, target, Control::Terminate)
     }
 
     /// Forgets the terminated jobs of the array (GFD.231, JobArray::reap).
@@ -131,10 +124,8 @@ impl JobArray {
     pub fn reap<R: Wait, C: Clock>(self, rt: &R, desk: &mut Desk<C>) -> Result<(), Refusal>
         requires { IsFree desk.old.shared.now desk.old.client }
         ensures desk { StaysAt desk.old.shared.now desk.old.client desk.new.shared.now desk.new.client }
-        ensures ok { IfOk result (λ told. IsServed (dial (C.given desk.old.clock) (C.least desk.old.clock)) desk.old.client
-            (Call.Reap self.session (Target.Array self.array)) Reply.Unit (dial (C.given desk.new.clock) (C.least desk.new.clock)) desk.new.client) }
-        ensures err { IfErr result (λ why. IsRefused desk.old.shared.now.fixed (dial (C.given desk.old.clock) (C.least desk.old.clock)) desk.old.client
-            (Call.Reap self.session (Target.Array self.array)) why (dial (C.given desk.new.clock) (C.least desk.new.clock)) desk.new.client) }
+        ensures ok { IfOk result (λ told. Serves C.given C.least desk.old (Call.Reap self.session (Target.Array self.array)) Reply.Unit desk.new) }
+        ensures err { IfErr result (λ why. Denies C.given C.least desk.old (Call.Reap self.session (Target.Array self.array)) why desk.new) }
     {
         let session = self.session;
         let target = Target::Array(self.array);
@@ -156,41 +147,13 @@ impl JobArray {
     ) -> Result<ListOf<Job>, Refusal>
         requires { IsFree desk.old.shared.now desk.old.client }
         ensures desk { StaysAt desk.old.shared.now desk.old.client desk.new.shared.now desk.new.client }
-        ensures ok { IfOk result (λ jobs. (numbers : List ℕ) × (jobs ≡ jobs_of self.session numbers) × IsServed (dial (C.given desk.old.clock) (C.least desk.old.clock)) desk.old.client
-            (Call.GetJobArray self.session self.array) (Reply.Jobs numbers) (dial (C.given desk.new.clock) (C.least desk.new.clock)) desk.new.client) }
-        ensures err { IfErr result (λ why. IsUnlisted desk.old.shared.now.fixed (dial (C.given desk.old.clock) (C.least desk.old.clock)) desk.old.client
-            (Call.GetJobArray self.session self.array) (λ numbers. Reply.Jobs numbers) why (dial (C.given desk.new.clock) (C.least desk.new.clock)) desk.new.client) }
+        ensures ok { IfOk result (λ jobs. (numbers : List ℕ) × (jobs ≡ jobs_of self.session numbers) × Serves C.given C.least desk.old (Call.GetJobArray self.session self.array) (Reply.Jobs numbers) desk.new) }
+        ensures err { IfErr result (λ why. IsUnlisted desk.old.shared.now.fixed (dial_of C.given C.least desk.old) desk.old.client (Call.GetJobArray self.session self.array) (λ numbers. Reply.Jobs numbers) why (dial_of C.given C.least desk.new) desk.new.client) }
     {
         let session = self.session;
         match (JobSession { session }).get_job_array(rt, desk, self.array) {
             Ok(numbers) => jobs_of(alloc, session, &numbers),
             Err(why) => Err(why),
         }
-    }
-
-    /// Controls the jobs of the array whose state permits it.
-    fn control<R: Wait, C: Clock>(
-        self,
-        rt: &R,
-        desk: &mut Desk<C>,
-        what: Control,
-    ) -> Result<(), Refusal>
-        requires { IsFree desk.old.shared.now desk.old.client }
-        ensures desk { StaysAt desk.old.shared.now desk.old.client desk.new.shared.now desk.new.client }
-        ensures ok { IfOk result (λ told. IsServed (dial (C.given desk.old.clock) (C.least desk.old.clock)) desk.old.client
-            (Call.Control self.session (Target.Array self.array) what) Reply.Unit (dial (C.given desk.new.clock) (C.least desk.new.clock)) desk.new.client) }
-        ensures err { IfErr result (λ why. IsRefused desk.old.shared.now.fixed (dial (C.given desk.old.clock) (C.least desk.old.clock)) desk.old.client
-            (Call.Control self.session (Target.Array self.array) what) why (dial (C.given desk.new.clock) (C.least desk.new.clock)) desk.new.client) }
-    {
-        let session = self.session;
-        let target = Target::Array(self.array);
-        desk.ask_for::<R, ()>(
-            rt,
-            Call::Control {
-                session,
-                target,
-                what,
-            },
-        )
     }
 }

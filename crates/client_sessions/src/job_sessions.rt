@@ -2,9 +2,7 @@
 ghost use Rattle.std.specs.Prelude.{◌≡◌, ℕ, List, IfOk, IfErr};
 ghost use Rattle.turn_lock.specs.Tokens.{IsFree};
 ghost use Rattle.call_history.specs.Clients.{StaysAt};
-ghost use Rattle.call_history.specs.Clocks.{dial};
-ghost use Rattle.call_history.specs.Calls.{IsServed};
-ghost use Rattle.call_history.specs.Refused.{IsRefused};
+ghost use Rattle.client_sessions.specs.Desks.{dial_of, Serves, Denies};
 ghost use Rattle.client_sessions.specs.Indices.{bulk_indices};
 ghost use Rattle.client_sessions.specs.Lists.{jobs_of, IsUnlisted};
 
@@ -42,11 +40,9 @@ impl JobSession {
     ) -> Result<Job, Refusal>
         requires { IsFree desk.old.shared.now desk.old.client }
         ensures desk { StaysAt desk.old.shared.now desk.old.client desk.new.shared.now desk.new.client }
-        ensures ok { IfOk result (λ made. IsServed (dial (C.given desk.old.clock) (C.least desk.old.clock)) desk.old.client
-            (Call.RunJob self.session template) (Reply.Job made.job) (dial (C.given desk.new.clock) (C.least desk.new.clock)) desk.new.client) }
+        ensures ok { IfOk result (λ made. Serves C.given C.least desk.old (Call.RunJob self.session template) (Reply.Job made.job) desk.new) }
         ensures session { IfOk result (λ made. made.session ≡ self.session) }
-        ensures err { IfErr result (λ why. IsRefused desk.old.shared.now.fixed (dial (C.given desk.old.clock) (C.least desk.old.clock)) desk.old.client
-            (Call.RunJob self.session template) why (dial (C.given desk.new.clock) (C.least desk.new.clock)) desk.new.client) }
+        ensures err { IfErr result (λ why. Denies C.given C.least desk.old (Call.RunJob self.session template) why desk.new) }
     {
         let session = self.session;
         let job = desk.ask_to_run(rt, session, template)?;
@@ -77,11 +73,9 @@ impl JobSession {
     ) -> Result<JobArray, Refusal>
         requires { IsFree desk.old.shared.now desk.old.client }
         ensures desk { StaysAt desk.old.shared.now desk.old.client desk.new.shared.now desk.new.client }
-        ensures ok { IfOk result (λ made. IsServed (dial (C.given desk.old.clock) (C.least desk.old.clock)) desk.old.client
-            (Call.RunBulk self.session template (bulk_indices begin end step max_parallel)) (Reply.Array made.array made.first made.count) (dial (C.given desk.new.clock) (C.least desk.new.clock)) desk.new.client) }
+        ensures ok { IfOk result (λ made. Serves C.given C.least desk.old (Call.RunBulk self.session template (bulk_indices begin end step max_parallel)) (Reply.Array made.array made.first made.count) desk.new) }
         ensures session { IfOk result (λ made. made.session ≡ self.session) }
-        ensures err { IfErr result (λ why. IsRefused desk.old.shared.now.fixed (dial (C.given desk.old.clock) (C.least desk.old.clock)) desk.old.client
-            (Call.RunBulk self.session template (bulk_indices begin end step max_parallel)) why (dial (C.given desk.new.clock) (C.least desk.new.clock)) desk.new.client) }
+        ensures err { IfErr result (λ why. Denies C.given C.least desk.old (Call.RunBulk self.session template (bulk_indices begin end step max_parallel)) why desk.new) }
     {
         let session = self.session;
         let indices = Indices {
@@ -112,10 +106,8 @@ impl JobSession {
     ) -> Result<IdList, Refusal>
         requires { IsFree desk.old.shared.now desk.old.client }
         ensures desk { StaysAt desk.old.shared.now desk.old.client desk.new.shared.now desk.new.client }
-        ensures ok { IfOk result (λ told. IsServed (dial (C.given desk.old.clock) (C.least desk.old.clock)) desk.old.client
-            (Call.GetJobs self.session filter) (Reply.Jobs told) (dial (C.given desk.new.clock) (C.least desk.new.clock)) desk.new.client) }
-        ensures err { IfErr result (λ why. IsRefused desk.old.shared.now.fixed (dial (C.given desk.old.clock) (C.least desk.old.clock)) desk.old.client
-            (Call.GetJobs self.session filter) why (dial (C.given desk.new.clock) (C.least desk.new.clock)) desk.new.client) }
+        ensures ok { IfOk result (λ told. Serves C.given C.least desk.old (Call.GetJobs self.session filter) (Reply.Jobs told) desk.new) }
+        ensures err { IfErr result (λ why. Denies C.given C.least desk.old (Call.GetJobs self.session filter) why desk.new) }
     {
         let session = self.session;
         let told = desk.ask_for_jobs(rt, session, filter)?;
@@ -137,10 +129,8 @@ impl JobSession {
     ) -> Result<ListOf<Job>, Refusal>
         requires { IsFree desk.old.shared.now desk.old.client }
         ensures desk { StaysAt desk.old.shared.now desk.old.client desk.new.shared.now desk.new.client }
-        ensures ok { IfOk result (λ jobs. (numbers : List ℕ) × (jobs ≡ jobs_of self.session numbers) × IsServed (dial (C.given desk.old.clock) (C.least desk.old.clock)) desk.old.client
-            (Call.GetJobs self.session filter) (Reply.Jobs numbers) (dial (C.given desk.new.clock) (C.least desk.new.clock)) desk.new.client) }
-        ensures err { IfErr result (λ why. IsUnlisted desk.old.shared.now.fixed (dial (C.given desk.old.clock) (C.least desk.old.clock)) desk.old.client
-            (Call.GetJobs self.session filter) (λ numbers. Reply.Jobs numbers) why (dial (C.given desk.new.clock) (C.least desk.new.clock)) desk.new.client) }
+        ensures ok { IfOk result (λ jobs. (numbers : List ℕ) × (jobs ≡ jobs_of self.session numbers) × Serves C.given C.least desk.old (Call.GetJobs self.session filter) (Reply.Jobs numbers) desk.new) }
+        ensures err { IfErr result (λ why. IsUnlisted desk.old.shared.now.fixed (dial_of C.given C.least desk.old) desk.old.client (Call.GetJobs self.session filter) (λ numbers. Reply.Jobs numbers) why (dial_of C.given C.least desk.new) desk.new.client) }
     {
         match self.get_jobs(rt, desk, filter) {
             Ok(numbers) => jobs_of(alloc, self.session, &numbers),
@@ -162,10 +152,8 @@ impl JobSession {
     ) -> Result<IdList, Refusal>
         requires { IsFree desk.old.shared.now desk.old.client }
         ensures desk { StaysAt desk.old.shared.now desk.old.client desk.new.shared.now desk.new.client }
-        ensures ok { IfOk result (λ told. IsServed (dial (C.given desk.old.clock) (C.least desk.old.clock)) desk.old.client
-            (Call.GetJobArray self.session array) (Reply.Jobs told) (dial (C.given desk.new.clock) (C.least desk.new.clock)) desk.new.client) }
-        ensures err { IfErr result (λ why. IsRefused desk.old.shared.now.fixed (dial (C.given desk.old.clock) (C.least desk.old.clock)) desk.old.client
-            (Call.GetJobArray self.session array) why (dial (C.given desk.new.clock) (C.least desk.new.clock)) desk.new.client) }
+        ensures ok { IfOk result (λ told. Serves C.given C.least desk.old (Call.GetJobArray self.session array) (Reply.Jobs told) desk.new) }
+        ensures err { IfErr result (λ why. Denies C.given C.least desk.old (Call.GetJobArray self.session array) why desk.new) }
     {
         let session = self.session;
         let told = desk.ask_for::<R, JobNumbers>(rt, Call::GetJobArray { session, array })?;

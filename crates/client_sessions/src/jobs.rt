@@ -2,9 +2,7 @@
 ghost use Rattle.std.specs.Prelude.{◌≡◌, ℕ, Err, IfOk, IfErr};
 ghost use Rattle.turn_lock.specs.Tokens.{IsFree};
 ghost use Rattle.call_history.specs.Clients.{StaysAt};
-ghost use Rattle.call_history.specs.Clocks.{dial};
-ghost use Rattle.call_history.specs.Calls.{IsServed};
-ghost use Rattle.call_history.specs.Refused.{IsRefused};
+ghost use Rattle.client_sessions.specs.Desks.{dial_of, Serves, Denies};
 ghost use Rattle.client_sessions.specs.Tries.{IsRefusedAtOnce};
 
 use crate::tries::{refusal_at_once, state_told};
@@ -33,12 +31,11 @@ impl Job {
     pub fn suspend<R: Wait, C: Clock>(self, rt: &R, desk: &mut Desk<C>) -> Result<(), Refusal>
         requires { IsFree desk.old.shared.now desk.old.client }
         ensures desk { StaysAt desk.old.shared.now desk.old.client desk.new.shared.now desk.new.client }
-        ensures ok { IfOk result (λ told. IsServed (dial (C.given desk.old.clock) (C.least desk.old.clock)) desk.old.client
-            (Call.Control self.session (Target.Job self.job) Control.Suspend) Reply.Unit (dial (C.given desk.new.clock) (C.least desk.new.clock)) desk.new.client) }
-        ensures err { IfErr result (λ why. IsRefused desk.old.shared.now.fixed (dial (C.given desk.old.clock) (C.least desk.old.clock)) desk.old.client
-            (Call.Control self.session (Target.Job self.job) Control.Suspend) why (dial (C.given desk.new.clock) (C.least desk.new.clock)) desk.new.client) }
+        ensures ok { IfOk result (λ told. Serves C.given C.least desk.old (Call.Control self.session (Target.Job self.job) Control.Suspend) Reply.Unit desk.new) }
+        ensures err { IfErr result (λ why. Denies C.given C.least desk.old (Call.Control self.session (Target.Job self.job) Control.Suspend) why desk.new) }
     {
-        self.control(rt, desk, Control::Suspend)
+        let target = Target::Job(self.job);
+        ask_to_control(rt, desk, self.session, target, Control::Suspend)
     }
 
     /// Resumes a suspended job, and asks for its process to be continued (GFD.231, Job::resume).
@@ -51,12 +48,11 @@ impl Job {
     pub fn resume<R: Wait, C: Clock>(self, rt: &R, desk: &mut Desk<C>) -> Result<(), Refusal>
         requires { IsFree desk.old.shared.now desk.old.client }
         ensures desk { StaysAt desk.old.shared.now desk.old.client desk.new.shared.now desk.new.client }
-        ensures ok { IfOk result (λ told. IsServed (dial (C.given desk.old.clock) (C.least desk.old.clock)) desk.old.client
-            (Call.Control self.session (Target.Job self.job) Control.Resume) Reply.Unit (dial (C.given desk.new.clock) (C.least desk.new.clock)) desk.new.client) }
-        ensures err { IfErr result (λ why. IsRefused desk.old.shared.now.fixed (dial (C.given desk.old.clock) (C.least desk.old.clock)) desk.old.client
-            (Call.Control self.session (Target.Job self.job) Control.Resume) why (dial (C.given desk.new.clock) (C.least desk.new.clock)) desk.new.client) }
+        ensures ok { IfOk result (λ told. Serves C.given C.least desk.old (Call.Control self.session (Target.Job self.job) Control.Resume) Reply.Unit desk.new) }
+        ensures err { IfErr result (λ why. Denies C.given C.least desk.old (Call.Control self.session (Target.Job self.job) Control.Resume) why desk.new) }
     {
-        self.control(rt, desk, Control::Resume)
+        let target = Target::Job(self.job);
+        ask_to_control(rt, desk, self.session, target, Control::Resume)
     }
 
     /// Holds a queued or requeued job: it is not launched until it is released (GFD.231, Job::hold).
@@ -69,12 +65,11 @@ impl Job {
     pub fn hold<R: Wait, C: Clock>(self, rt: &R, desk: &mut Desk<C>) -> Result<(), Refusal>
         requires { IsFree desk.old.shared.now desk.old.client }
         ensures desk { StaysAt desk.old.shared.now desk.old.client desk.new.shared.now desk.new.client }
-        ensures ok { IfOk result (λ told. IsServed (dial (C.given desk.old.clock) (C.least desk.old.clock)) desk.old.client
-            (Call.Control self.session (Target.Job self.job) Control.Hold) Reply.Unit (dial (C.given desk.new.clock) (C.least desk.new.clock)) desk.new.client) }
-        ensures err { IfErr result (λ why. IsRefused desk.old.shared.now.fixed (dial (C.given desk.old.clock) (C.least desk.old.clock)) desk.old.client
-            (Call.Control self.session (Target.Job self.job) Control.Hold) why (dial (C.given desk.new.clock) (C.least desk.new.clock)) desk.new.client) }
+        ensures ok { IfOk result (λ told. Serves C.given C.least desk.old (Call.Control self.session (Target.Job self.job) Control.Hold) Reply.Unit desk.new) }
+        ensures err { IfErr result (λ why. Denies C.given C.least desk.old (Call.Control self.session (Target.Job self.job) Control.Hold) why desk.new) }
     {
-        self.control(rt, desk, Control::Hold)
+        let target = Target::Job(self.job);
+        ask_to_control(rt, desk, self.session, target, Control::Hold)
     }
 
     /// Releases a held job (GFD.231, Job::release).
@@ -87,12 +82,11 @@ impl Job {
     pub fn release<R: Wait, C: Clock>(self, rt: &R, desk: &mut Desk<C>) -> Result<(), Refusal>
         requires { IsFree desk.old.shared.now desk.old.client }
         ensures desk { StaysAt desk.old.shared.now desk.old.client desk.new.shared.now desk.new.client }
-        ensures ok { IfOk result (λ told. IsServed (dial (C.given desk.old.clock) (C.least desk.old.clock)) desk.old.client
-            (Call.Control self.session (Target.Job self.job) Control.Release) Reply.Unit (dial (C.given desk.new.clock) (C.least desk.new.clock)) desk.new.client) }
-        ensures err { IfErr result (λ why. IsRefused desk.old.shared.now.fixed (dial (C.given desk.old.clock) (C.least desk.old.clock)) desk.old.client
-            (Call.Control self.session (Target.Job self.job) Control.Release) why (dial (C.given desk.new.clock) (C.least desk.new.clock)) desk.new.client) }
+        ensures ok { IfOk result (λ told. Serves C.given C.least desk.old (Call.Control self.session (Target.Job self.job) Control.Release) Reply.Unit desk.new) }
+        ensures err { IfErr result (λ why. Denies C.given C.least desk.old (Call.Control self.session (Target.Job self.job) Control.Release) why desk.new) }
     {
-        self.control(rt, desk, Control::Release)
+        let target = Target::Job(self.job);
+        ask_to_control(rt, desk, self.session, target, Control::Release)
     }
 
     /// Makes a waiting job fail at once, and asks for the process of a started one to be killed (GFD.231,
@@ -106,12 +100,11 @@ impl Job {
     pub fn terminate<R: Wait, C: Clock>(self, rt: &R, desk: &mut Desk<C>) -> Result<(), Refusal>
         requires { IsFree desk.old.shared.now desk.old.client }
         ensures desk { StaysAt desk.old.shared.now desk.old.client desk.new.shared.now desk.new.client }
-        ensures ok { IfOk result (λ told. IsServed (dial (C.given desk.old.clock) (C.least desk.old.clock)) desk.old.client
-            (Call.Control self.session (Target.Job self.job) Control.Terminate) Reply.Unit (dial (C.given desk.new.clock) (C.least desk.new.clock)) desk.new.client) }
-        ensures err { IfErr result (λ why. IsRefused desk.old.shared.now.fixed (dial (C.given desk.old.clock) (C.least desk.old.clock)) desk.old.client
-            (Call.Control self.session (Target.Job self.job) Control.Terminate) why (dial (C.given desk.new.clock) (C.least desk.new.clock)) desk.new.client) }
+        ensures ok { IfOk result (λ told. Serves C.given C.least desk.old (Call.Control self.session (Target.Job self.job) Control.Terminate) Reply.Unit desk.new) }
+        ensures err { IfErr result (λ why. Denies C.given C.least desk.old (Call.Control self.session (Target.Job self.job) Control.Terminate) why desk.new) }
     {
-        self.control(rt, desk, Control::Terminate)
+        let target = Target::Job(self.job);
+        ask_to_control(rt, desk, self.session, target, Control::Terminate)
     }
 
     /// Forgets a terminated job (GFD.231, Job::reap).
@@ -124,10 +117,8 @@ impl Job {
     pub fn reap<R: Wait, C: Clock>(self, rt: &R, desk: &mut Desk<C>) -> Result<(), Refusal>
         requires { IsFree desk.old.shared.now desk.old.client }
         ensures desk { StaysAt desk.old.shared.now desk.old.client desk.new.shared.now desk.new.client }
-        ensures ok { IfOk result (λ told. IsServed (dial (C.given desk.old.clock) (C.least desk.old.clock)) desk.old.client
-            (Call.Reap self.session (Target.Job self.job)) Reply.Unit (dial (C.given desk.new.clock) (C.least desk.new.clock)) desk.new.client) }
-        ensures err { IfErr result (λ why. IsRefused desk.old.shared.now.fixed (dial (C.given desk.old.clock) (C.least desk.old.clock)) desk.old.client
-            (Call.Reap self.session (Target.Job self.job)) why (dial (C.given desk.new.clock) (C.least desk.new.clock)) desk.new.client) }
+        ensures ok { IfOk result (λ told. Serves C.given C.least desk.old (Call.Reap self.session (Target.Job self.job)) Reply.Unit desk.new) }
+        ensures err { IfErr result (λ why. Denies C.given C.least desk.old (Call.Reap self.session (Target.Job self.job)) why desk.new) }
     {
         let session = self.session;
         let target = Target::Job(self.job);
@@ -147,10 +138,8 @@ impl Job {
     ) -> Result<JobState, Refusal>
         requires { IsFree desk.old.shared.now desk.old.client }
         ensures desk { StaysAt desk.old.shared.now desk.old.client desk.new.shared.now desk.new.client }
-        ensures ok { IfOk result (λ told. IsServed (dial (C.given desk.old.clock) (C.least desk.old.clock)) desk.old.client
-            (Call.GetState self.session self.job) (Reply.State told) (dial (C.given desk.new.clock) (C.least desk.new.clock)) desk.new.client) }
-        ensures err { IfErr result (λ why. IsRefused desk.old.shared.now.fixed (dial (C.given desk.old.clock) (C.least desk.old.clock)) desk.old.client
-            (Call.GetState self.session self.job) why (dial (C.given desk.new.clock) (C.least desk.new.clock)) desk.new.client) }
+        ensures ok { IfOk result (λ told. Serves C.given C.least desk.old (Call.GetState self.session self.job) (Reply.State told) desk.new) }
+        ensures err { IfErr result (λ why. Denies C.given C.least desk.old (Call.GetState self.session self.job) why desk.new) }
     {
         let Job { session, job } = self;
         desk.ask_for::<R, JobState>(rt, Call::GetState { session, job })
@@ -165,10 +154,8 @@ impl Job {
     pub fn get_info<R: Wait, C: Clock>(self, rt: &R, desk: &mut Desk<C>) -> Result<JobInfo, Refusal>
         requires { IsFree desk.old.shared.now desk.old.client }
         ensures desk { StaysAt desk.old.shared.now desk.old.client desk.new.shared.now desk.new.client }
-        ensures ok { IfOk result (λ told. IsServed (dial (C.given desk.old.clock) (C.least desk.old.clock)) desk.old.client
-            (Call.GetInfo self.session self.job) (Reply.Info told) (dial (C.given desk.new.clock) (C.least desk.new.clock)) desk.new.client) }
-        ensures err { IfErr result (λ why. IsRefused desk.old.shared.now.fixed (dial (C.given desk.old.clock) (C.least desk.old.clock)) desk.old.client
-            (Call.GetInfo self.session self.job) why (dial (C.given desk.new.clock) (C.least desk.new.clock)) desk.new.client) }
+        ensures ok { IfOk result (λ told. Serves C.given C.least desk.old (Call.GetInfo self.session self.job) (Reply.Info told) desk.new) }
+        ensures err { IfErr result (λ why. Denies C.given C.least desk.old (Call.GetInfo self.session self.job) why desk.new) }
     {
         let Job { session, job } = self;
         desk.ask_for::<R, JobInfo>(rt, Call::GetInfo { session, job })
@@ -183,10 +170,8 @@ impl Job {
     pub fn try_get_state<C: Clock>(self, desk: &mut Desk<C>) -> Result<JobState, Refusal>
         requires { IsFree desk.old.shared.now desk.old.client }
         ensures desk { StaysAt desk.old.shared.now desk.old.client desk.new.shared.now desk.new.client }
-        ensures ok { IfOk result (λ told. IsServed (dial (C.given desk.old.clock) (C.least desk.old.clock)) desk.old.client
-            (Call.GetState self.session self.job) (Reply.State told) (dial (C.given desk.new.clock) (C.least desk.new.clock)) desk.new.client) }
-        ensures err { IfErr result (λ why. IsRefusedAtOnce desk.old.shared.now.fixed (dial (C.given desk.old.clock) (C.least desk.old.clock)) desk.old.client
-            (Call.GetState self.session self.job) (dial (C.given desk.new.clock) (C.least desk.new.clock)) desk.new.client why) }
+        ensures ok { IfOk result (λ told. Serves C.given C.least desk.old (Call.GetState self.session self.job) (Reply.State told) desk.new) }
+        ensures err { IfErr result (λ why. IsRefusedAtOnce desk.old.shared.now.fixed (dial_of C.given C.least desk.old) desk.old.client (Call.GetState self.session self.job) (dial_of C.given C.least desk.new) desk.new.client why) }
         ensures unread { (served drawn : ℕ) → result ≡ Err (Refusal.TryLater served drawn) → desk.new.clock ≡ desk.old.clock }
     {
         let Job { session, job } = self;
@@ -195,30 +180,25 @@ impl Job {
             Err(fault) => Err(refusal_at_once(fault)),
         }
     }
+}
 
-    /// Controls the job.
-    fn control<R: Wait, C: Clock>(
-        self,
-        rt: &R,
-        desk: &mut Desk<C>,
-        what: Control,
-    ) -> Result<(), Refusal>
-        requires { IsFree desk.old.shared.now desk.old.client }
-        ensures desk { StaysAt desk.old.shared.now desk.old.client desk.new.shared.now desk.new.client }
-        ensures ok { IfOk result (λ told. IsServed (dial (C.given desk.old.clock) (C.least desk.old.clock)) desk.old.client
-            (Call.Control self.session (Target.Job self.job) what) Reply.Unit (dial (C.given desk.new.clock) (C.least desk.new.clock)) desk.new.client) }
-        ensures err { IfErr result (λ why. IsRefused desk.old.shared.now.fixed (dial (C.given desk.old.clock) (C.least desk.old.clock)) desk.old.client
-            (Call.Control self.session (Target.Job self.job) what) why (dial (C.given desk.new.clock) (C.least desk.new.clock)) desk.new.client) }
-    {
-        let session = self.session;
-        let target = Target::Job(self.job);
-        desk.ask_for::<R, ()>(
-            rt,
-            Call::Control {
-                session,
-                target,
-                what,
-            },
-        )
-    }
+/// Controls a job, or the jobs of an array whose state permits it.
+pub(crate) fn ask_to_control<R: Wait, C: Clock>(
+    rt: &R,
+    desk: &mut Desk<C>,
+    session: SessionId,
+    target: Target,
+    what: Control,
+) -> Result<(), Refusal>
+    requires { IsFree desk.old.shared.now desk.old.client }
+    ensures desk { StaysAt desk.old.shared.now desk.old.client desk.new.shared.now desk.new.client }
+    ensures ok { IfOk result (λ told. Serves C.given C.least desk.old (Call.Control session target what) Reply.Unit desk.new) }
+    ensures err { IfErr result (λ why. Denies C.given C.least desk.old (Call.Control session target what) why desk.new) }
+{
+    let call = Call::Control {
+        session,
+        target,
+        what,
+    };
+    desk.ask_for::<R, ()>(rt, call)
 }

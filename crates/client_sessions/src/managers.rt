@@ -2,9 +2,7 @@
 ghost use Rattle.std.specs.Prelude.{IfOk, IfErr};
 ghost use Rattle.turn_lock.specs.Tokens.{IsFree};
 ghost use Rattle.call_history.specs.Clients.{StaysAt};
-ghost use Rattle.call_history.specs.Clocks.{dial};
-ghost use Rattle.call_history.specs.Calls.{IsServed};
-ghost use Rattle.call_history.specs.Refused.{IsRefused};
+ghost use Rattle.client_sessions.specs.Desks.{Serves, Denies};
 
 use crate::job_sessions::JobSession;
 use crate::reservation_sessions::ReservationSession;
@@ -33,10 +31,8 @@ impl SessionManager {
     ) -> Result<JobSession, Refusal>
         requires { IsFree desk.old.shared.now desk.old.client }
         ensures desk { StaysAt desk.old.shared.now desk.old.client desk.new.shared.now desk.new.client }
-        ensures ok { IfOk result (λ made. IsServed (dial (C.given desk.old.clock) (C.least desk.old.clock)) desk.old.client
-            (Call.CreateJobSession name) (Reply.Session made.session) (dial (C.given desk.new.clock) (C.least desk.new.clock)) desk.new.client) }
-        ensures err { IfErr result (λ why. IsRefused desk.old.shared.now.fixed (dial (C.given desk.old.clock) (C.least desk.old.clock)) desk.old.client
-            (Call.CreateJobSession name) why (dial (C.given desk.new.clock) (C.least desk.new.clock)) desk.new.client) }
+        ensures ok { IfOk result (λ made. Serves C.given C.least desk.old (Call.CreateJobSession name) (Reply.Session made.session) desk.new) }
+        ensures err { IfErr result (λ why. Denies C.given C.least desk.old (Call.CreateJobSession name) why desk.new) }
     {
         let session = desk.ask_for::<R, SessionId>(rt, Call::CreateJobSession { name })?;
         Ok(JobSession { session })
@@ -56,10 +52,8 @@ impl SessionManager {
     ) -> Result<JobSession, Refusal>
         requires { IsFree desk.old.shared.now desk.old.client }
         ensures desk { StaysAt desk.old.shared.now desk.old.client desk.new.shared.now desk.new.client }
-        ensures ok { IfOk result (λ made. IsServed (dial (C.given desk.old.clock) (C.least desk.old.clock)) desk.old.client
-            (Call.OpenJobSession name) (Reply.Session made.session) (dial (C.given desk.new.clock) (C.least desk.new.clock)) desk.new.client) }
-        ensures err { IfErr result (λ why. IsRefused desk.old.shared.now.fixed (dial (C.given desk.old.clock) (C.least desk.old.clock)) desk.old.client
-            (Call.OpenJobSession name) why (dial (C.given desk.new.clock) (C.least desk.new.clock)) desk.new.client) }
+        ensures ok { IfOk result (λ made. Serves C.given C.least desk.old (Call.OpenJobSession name) (Reply.Session made.session) desk.new) }
+        ensures err { IfErr result (λ why. Denies C.given C.least desk.old (Call.OpenJobSession name) why desk.new) }
     {
         let session = desk.ask_for::<R, SessionId>(rt, Call::OpenJobSession { name })?;
         Ok(JobSession { session })
@@ -80,10 +74,8 @@ impl SessionManager {
     ) -> Result<(), Refusal>
         requires { IsFree desk.old.shared.now desk.old.client }
         ensures desk { StaysAt desk.old.shared.now desk.old.client desk.new.shared.now desk.new.client }
-        ensures ok { IfOk result (λ told. IsServed (dial (C.given desk.old.clock) (C.least desk.old.clock)) desk.old.client
-            (Call.DestroyJobSession name) Reply.Unit (dial (C.given desk.new.clock) (C.least desk.new.clock)) desk.new.client) }
-        ensures err { IfErr result (λ why. IsRefused desk.old.shared.now.fixed (dial (C.given desk.old.clock) (C.least desk.old.clock)) desk.old.client
-            (Call.DestroyJobSession name) why (dial (C.given desk.new.clock) (C.least desk.new.clock)) desk.new.client) }
+        ensures ok { IfOk result (λ told. Serves C.given C.least desk.old (Call.DestroyJobSession name) Reply.Unit desk.new) }
+        ensures err { IfErr result (λ why. Denies C.given C.least desk.old (Call.DestroyJobSession name) why desk.new) }
     {
         desk.ask_for::<R, ()>(rt, Call::DestroyJobSession { name })
     }
@@ -100,10 +92,8 @@ impl SessionManager {
     ) -> Result<TextList, Refusal>
         requires { IsFree desk.old.shared.now desk.old.client }
         ensures desk { StaysAt desk.old.shared.now desk.old.client desk.new.shared.now desk.new.client }
-        ensures ok { IfOk result (λ told. IsServed (dial (C.given desk.old.clock) (C.least desk.old.clock)) desk.old.client
-            Call.JobSessionNames (Reply.Names told) (dial (C.given desk.new.clock) (C.least desk.new.clock)) desk.new.client) }
-        ensures err { IfErr result (λ why. IsRefused desk.old.shared.now.fixed (dial (C.given desk.old.clock) (C.least desk.old.clock)) desk.old.client
-            Call.JobSessionNames why (dial (C.given desk.new.clock) (C.least desk.new.clock)) desk.new.client) }
+        ensures ok { IfOk result (λ told. Serves C.given C.least desk.old Call.JobSessionNames (Reply.Names told) desk.new) }
+        ensures err { IfErr result (λ why. Denies C.given C.least desk.old Call.JobSessionNames why desk.new) }
     {
         desk.ask_for::<R, TextList>(rt, Call::JobSessionNames)
     }
@@ -123,10 +113,8 @@ impl SessionManager {
     ) -> Result<ReservationSession, Refusal>
         requires { IsFree desk.old.shared.now desk.old.client }
         ensures desk { StaysAt desk.old.shared.now desk.old.client desk.new.shared.now desk.new.client }
-        ensures ok { IfOk result (λ made. IsServed (dial (C.given desk.old.clock) (C.least desk.old.clock)) desk.old.client
-            (Call.CreateReservationSession name) (Reply.Session made.session) (dial (C.given desk.new.clock) (C.least desk.new.clock)) desk.new.client) }
-        ensures err { IfErr result (λ why. IsRefused desk.old.shared.now.fixed (dial (C.given desk.old.clock) (C.least desk.old.clock)) desk.old.client
-            (Call.CreateReservationSession name) why (dial (C.given desk.new.clock) (C.least desk.new.clock)) desk.new.client) }
+        ensures ok { IfOk result (λ made. Serves C.given C.least desk.old (Call.CreateReservationSession name) (Reply.Session made.session) desk.new) }
+        ensures err { IfErr result (λ why. Denies C.given C.least desk.old (Call.CreateReservationSession name) why desk.new) }
     {
         let session = desk.ask_for::<R, SessionId>(rt, Call::CreateReservationSession { name })?;
         Ok(ReservationSession { session })
@@ -147,10 +135,8 @@ impl SessionManager {
     ) -> Result<ReservationSession, Refusal>
         requires { IsFree desk.old.shared.now desk.old.client }
         ensures desk { StaysAt desk.old.shared.now desk.old.client desk.new.shared.now desk.new.client }
-        ensures ok { IfOk result (λ made. IsServed (dial (C.given desk.old.clock) (C.least desk.old.clock)) desk.old.client
-            (Call.OpenReservationSession name) (Reply.Session made.session) (dial (C.given desk.new.clock) (C.least desk.new.clock)) desk.new.client) }
-        ensures err { IfErr result (λ why. IsRefused desk.old.shared.now.fixed (dial (C.given desk.old.clock) (C.least desk.old.clock)) desk.old.client
-            (Call.OpenReservationSession name) why (dial (C.given desk.new.clock) (C.least desk.new.clock)) desk.new.client) }
+        ensures ok { IfOk result (λ made. Serves C.given C.least desk.old (Call.OpenReservationSession name) (Reply.Session made.session) desk.new) }
+        ensures err { IfErr result (λ why. Denies C.given C.least desk.old (Call.OpenReservationSession name) why desk.new) }
     {
         let session = desk.ask_for::<R, SessionId>(rt, Call::OpenReservationSession { name })?;
         Ok(ReservationSession { session })
@@ -171,10 +157,8 @@ impl SessionManager {
     ) -> Result<(), Refusal>
         requires { IsFree desk.old.shared.now desk.old.client }
         ensures desk { StaysAt desk.old.shared.now desk.old.client desk.new.shared.now desk.new.client }
-        ensures ok { IfOk result (λ told. IsServed (dial (C.given desk.old.clock) (C.least desk.old.clock)) desk.old.client
-            (Call.DestroyReservationSession name) Reply.Unit (dial (C.given desk.new.clock) (C.least desk.new.clock)) desk.new.client) }
-        ensures err { IfErr result (λ why. IsRefused desk.old.shared.now.fixed (dial (C.given desk.old.clock) (C.least desk.old.clock)) desk.old.client
-            (Call.DestroyReservationSession name) why (dial (C.given desk.new.clock) (C.least desk.new.clock)) desk.new.client) }
+        ensures ok { IfOk result (λ told. Serves C.given C.least desk.old (Call.DestroyReservationSession name) Reply.Unit desk.new) }
+        ensures err { IfErr result (λ why. Denies C.given C.least desk.old (Call.DestroyReservationSession name) why desk.new) }
     {
         desk.ask_for::<R, ()>(rt, Call::DestroyReservationSession { name })
     }
@@ -192,10 +176,8 @@ impl SessionManager {
     ) -> Result<TextList, Refusal>
         requires { IsFree desk.old.shared.now desk.old.client }
         ensures desk { StaysAt desk.old.shared.now desk.old.client desk.new.shared.now desk.new.client }
-        ensures ok { IfOk result (λ told. IsServed (dial (C.given desk.old.clock) (C.least desk.old.clock)) desk.old.client
-            Call.ReservationSessionNames (Reply.Names told) (dial (C.given desk.new.clock) (C.least desk.new.clock)) desk.new.client) }
-        ensures err { IfErr result (λ why. IsRefused desk.old.shared.now.fixed (dial (C.given desk.old.clock) (C.least desk.old.clock)) desk.old.client
-            Call.ReservationSessionNames why (dial (C.given desk.new.clock) (C.least desk.new.clock)) desk.new.client) }
+        ensures ok { IfOk result (λ told. Serves C.given C.least desk.old Call.ReservationSessionNames (Reply.Names told) desk.new) }
+        ensures err { IfErr result (λ why. Denies C.given C.least desk.old Call.ReservationSessionNames why desk.new) }
     {
         desk.ask_for::<R, TextList>(rt, Call::ReservationSessionNames)
     }
@@ -213,10 +195,8 @@ impl SessionManager {
     ) -> Result<MonitoringSession, Refusal>
         requires { IsFree desk.old.shared.now desk.old.client }
         ensures desk { StaysAt desk.old.shared.now desk.old.client desk.new.shared.now desk.new.client }
-        ensures ok { IfOk result (λ made. IsServed (dial (C.given desk.old.clock) (C.least desk.old.clock)) desk.old.client
-            Call.OpenMonitoring (Reply.Session made.session) (dial (C.given desk.new.clock) (C.least desk.new.clock)) desk.new.client) }
-        ensures err { IfErr result (λ why. IsRefused desk.old.shared.now.fixed (dial (C.given desk.old.clock) (C.least desk.old.clock)) desk.old.client
-            Call.OpenMonitoring why (dial (C.given desk.new.clock) (C.least desk.new.clock)) desk.new.client) }
+        ensures ok { IfOk result (λ made. Serves C.given C.least desk.old Call.OpenMonitoring (Reply.Session made.session) desk.new) }
+        ensures err { IfErr result (λ why. Denies C.given C.least desk.old Call.OpenMonitoring why desk.new) }
     {
         let session = desk.ask_for::<R, SessionId>(rt, Call::OpenMonitoring)?;
         Ok(MonitoringSession { session })
@@ -236,10 +216,8 @@ impl SessionManager {
     ) -> Result<(), Refusal>
         requires { IsFree desk.old.shared.now desk.old.client }
         ensures desk { StaysAt desk.old.shared.now desk.old.client desk.new.shared.now desk.new.client }
-        ensures ok { IfOk result (λ told. IsServed (dial (C.given desk.old.clock) (C.least desk.old.clock)) desk.old.client
-            (Call.CloseSession session) Reply.Unit (dial (C.given desk.new.clock) (C.least desk.new.clock)) desk.new.client) }
-        ensures err { IfErr result (λ why. IsRefused desk.old.shared.now.fixed (dial (C.given desk.old.clock) (C.least desk.old.clock)) desk.old.client
-            (Call.CloseSession session) why (dial (C.given desk.new.clock) (C.least desk.new.clock)) desk.new.client) }
+        ensures ok { IfOk result (λ told. Serves C.given C.least desk.old (Call.CloseSession session) Reply.Unit desk.new) }
+        ensures err { IfErr result (λ why. Denies C.given C.least desk.old (Call.CloseSession session) why desk.new) }
     {
         desk.ask_for::<R, ()>(rt, Call::CloseSession { session })
     }

@@ -2,9 +2,8 @@
 ghost use Rattle.std.specs.Prelude.{Some, None, IfOk, IfErr};
 ghost use Rattle.turn_lock.specs.Tokens.{IsFree};
 ghost use Rattle.call_history.specs.Clients.{StaysAt};
-ghost use Rattle.call_history.specs.Clocks.{dial};
-ghost use Rattle.call_history.specs.Calls.{IsLookedAt};
-ghost use Rattle.client_sessions.specs.Particulars.{IsUntold};
+ghost use Rattle.client_sessions.specs.Desks.{LooksUp};
+ghost use Rattle.client_sessions.specs.Particulars.{IsUntold, TellsName, IsNameless};
 
 use crate::job_sessions::JobSession;
 use crate::jobs::Job;
@@ -28,10 +27,8 @@ impl JobSession {
     ) -> Result<Text, Refusal>
         requires { IsFree desk.old.shared.now desk.old.client }
         ensures desk { StaysAt desk.old.shared.now desk.old.client desk.new.shared.now desk.new.client }
-        ensures ok { IfOk result (λ name. IsLookedAt desk.old.shared.now.fixed (dial (C.given desk.old.clock) (C.least desk.old.clock)) desk.old.client
-            (Question.SessionName self.session) (Answer.SessionName (Some name)) (dial (C.given desk.new.clock) (C.least desk.new.clock)) desk.new.client) }
-        ensures err { IfErr result (IsUntold desk.old.shared.now.fixed (dial (C.given desk.old.clock) (C.least desk.old.clock)) desk.old.client
-            (Question.SessionName self.session) (Answer.SessionName None) Refusal.InvalidSession (dial (C.given desk.new.clock) (C.least desk.new.clock)) desk.new.client) }
+        ensures ok { IfOk result (TellsName C.given C.least desk.old self.session desk.new) }
+        ensures err { IfErr result (IsNameless C.given C.least desk.old self.session desk.new) }
     {
         name_told(rt, desk, self.session)
     }
@@ -51,10 +48,8 @@ impl ReservationSession {
     ) -> Result<Text, Refusal>
         requires { IsFree desk.old.shared.now desk.old.client }
         ensures desk { StaysAt desk.old.shared.now desk.old.client desk.new.shared.now desk.new.client }
-        ensures ok { IfOk result (λ name. IsLookedAt desk.old.shared.now.fixed (dial (C.given desk.old.clock) (C.least desk.old.clock)) desk.old.client
-            (Question.SessionName self.session) (Answer.SessionName (Some name)) (dial (C.given desk.new.clock) (C.least desk.new.clock)) desk.new.client) }
-        ensures err { IfErr result (IsUntold desk.old.shared.now.fixed (dial (C.given desk.old.clock) (C.least desk.old.clock)) desk.old.client
-            (Question.SessionName self.session) (Answer.SessionName None) Refusal.InvalidSession (dial (C.given desk.new.clock) (C.least desk.new.clock)) desk.new.client) }
+        ensures ok { IfOk result (TellsName C.given C.least desk.old self.session desk.new) }
+        ensures err { IfErr result (IsNameless C.given C.least desk.old self.session desk.new) }
     {
         name_told(rt, desk, self.session)
     }
@@ -74,10 +69,8 @@ impl Job {
     ) -> Result<Shared<JobTemplate>, Refusal>
         requires { IsFree desk.old.shared.now desk.old.client }
         ensures desk { StaysAt desk.old.shared.now desk.old.client desk.new.shared.now desk.new.client }
-        ensures ok { IfOk result (λ template. IsLookedAt desk.old.shared.now.fixed (dial (C.given desk.old.clock) (C.least desk.old.clock)) desk.old.client
-            (Question.Template self.job) (Answer.Template (Some template)) (dial (C.given desk.new.clock) (C.least desk.new.clock)) desk.new.client) }
-        ensures err { IfErr result (IsUntold desk.old.shared.now.fixed (dial (C.given desk.old.clock) (C.least desk.old.clock)) desk.old.client
-            (Question.Template self.job) (Answer.Template None) (Refusal.InvalidArgument Which.Job) (dial (C.given desk.new.clock) (C.least desk.new.clock)) desk.new.client) }
+        ensures ok { IfOk result (λ template. LooksUp C.given C.least desk.old (Question.Template self.job) (Answer.Template (Some template)) desk.new) }
+        ensures err { IfErr result (IsUntold C.given C.least desk.old (Question.Template self.job) (Answer.Template None) (Refusal.InvalidArgument Which.Job) desk.new) }
     {
         match desk.template_of(rt, self.job) {
             Ok(Some(template)) => Ok(template),
@@ -95,10 +88,8 @@ fn name_told<R: Wait, C: Clock>(
 ) -> Result<Text, Refusal>
     requires { IsFree desk.old.shared.now desk.old.client }
     ensures desk { StaysAt desk.old.shared.now desk.old.client desk.new.shared.now desk.new.client }
-    ensures ok { IfOk result (λ name. IsLookedAt desk.old.shared.now.fixed (dial (C.given desk.old.clock) (C.least desk.old.clock)) desk.old.client
-        (Question.SessionName session) (Answer.SessionName (Some name)) (dial (C.given desk.new.clock) (C.least desk.new.clock)) desk.new.client) }
-    ensures err { IfErr result (IsUntold desk.old.shared.now.fixed (dial (C.given desk.old.clock) (C.least desk.old.clock)) desk.old.client
-        (Question.SessionName session) (Answer.SessionName None) Refusal.InvalidSession (dial (C.given desk.new.clock) (C.least desk.new.clock)) desk.new.client) }
+    ensures ok { IfOk result (TellsName C.given C.least desk.old session desk.new) }
+    ensures err { IfErr result (IsNameless C.given C.least desk.old session desk.new) }
 {
     match desk.session_name(rt, session) {
         Ok(Some(name)) => Ok(name),

@@ -3,9 +3,7 @@ ghost use Rattle.std.specs.Prelude.{◌≡◌, ℕ, List, IfOk, IfErr};
 ghost use Rattle.drmaa_types.specs.declared.infos.Reserved.{Reserved};
 ghost use Rattle.turn_lock.specs.Tokens.{IsFree};
 ghost use Rattle.call_history.specs.Clients.{StaysAt};
-ghost use Rattle.call_history.specs.Clocks.{dial};
-ghost use Rattle.call_history.specs.Calls.{IsServed};
-ghost use Rattle.call_history.specs.Refused.{IsRefused};
+ghost use Rattle.client_sessions.specs.Desks.{dial_of, Serves, Denies};
 ghost use Rattle.client_sessions.specs.Lists.{reservations_of, IsUnlisted};
 
 use crate::lists::reservations_of;
@@ -43,10 +41,8 @@ impl ReservationSession {
     ) -> Result<Reserved, Refusal>
         requires { IsFree desk.old.shared.now desk.old.client }
         ensures desk { StaysAt desk.old.shared.now desk.old.client desk.new.shared.now desk.new.client }
-        ensures ok { IfOk result (λ told. IsServed (dial (C.given desk.old.clock) (C.least desk.old.clock)) desk.old.client
-            (Call.RequestReservation self.session template) (Reply.Reserved told) (dial (C.given desk.new.clock) (C.least desk.new.clock)) desk.new.client) }
-        ensures err { IfErr result (λ why. IsRefused desk.old.shared.now.fixed (dial (C.given desk.old.clock) (C.least desk.old.clock)) desk.old.client
-            (Call.RequestReservation self.session template) why (dial (C.given desk.new.clock) (C.least desk.new.clock)) desk.new.client) }
+        ensures ok { IfOk result (λ told. Serves C.given C.least desk.old (Call.RequestReservation self.session template) (Reply.Reserved told) desk.new) }
+        ensures err { IfErr result (λ why. Denies C.given C.least desk.old (Call.RequestReservation self.session template) why desk.new) }
     {
         let session = self.session;
         desk.ask_to_reserve(rt, session, template)
@@ -66,11 +62,9 @@ impl ReservationSession {
     ) -> Result<Reservation, Refusal>
         requires { IsFree desk.old.shared.now desk.old.client }
         ensures desk { StaysAt desk.old.shared.now desk.old.client desk.new.shared.now desk.new.client }
-        ensures ok { IfOk result (λ made. (told : Reserved) × (told.reservation ≡ made.reservation) × IsServed (dial (C.given desk.old.clock) (C.least desk.old.clock)) desk.old.client
-            (Call.RequestReservation self.session template) (Reply.Reserved told) (dial (C.given desk.new.clock) (C.least desk.new.clock)) desk.new.client) }
+        ensures ok { IfOk result (λ made. (told : Reserved) × (told.reservation ≡ made.reservation) × Serves C.given C.least desk.old (Call.RequestReservation self.session template) (Reply.Reserved told) desk.new) }
         ensures session { IfOk result (λ made. made.session ≡ self.session) }
-        ensures err { IfErr result (λ why. IsRefused desk.old.shared.now.fixed (dial (C.given desk.old.clock) (C.least desk.old.clock)) desk.old.client
-            (Call.RequestReservation self.session template) why (dial (C.given desk.new.clock) (C.least desk.new.clock)) desk.new.client) }
+        ensures err { IfErr result (λ why. Denies C.given C.least desk.old (Call.RequestReservation self.session template) why desk.new) }
     {
         let told = self.request_reservation(rt, desk, template)?;
         Ok(Reservation {
@@ -93,10 +87,8 @@ impl ReservationSession {
     ) -> Result<ReservationInfo, Refusal>
         requires { IsFree desk.old.shared.now desk.old.client }
         ensures desk { StaysAt desk.old.shared.now desk.old.client desk.new.shared.now desk.new.client }
-        ensures ok { IfOk result (λ told. IsServed (dial (C.given desk.old.clock) (C.least desk.old.clock)) desk.old.client
-            (Call.GetReservation self.session reservation) (Reply.Reservation told) (dial (C.given desk.new.clock) (C.least desk.new.clock)) desk.new.client) }
-        ensures err { IfErr result (λ why. IsRefused desk.old.shared.now.fixed (dial (C.given desk.old.clock) (C.least desk.old.clock)) desk.old.client
-            (Call.GetReservation self.session reservation) why (dial (C.given desk.new.clock) (C.least desk.new.clock)) desk.new.client) }
+        ensures ok { IfOk result (λ told. Serves C.given C.least desk.old (Call.GetReservation self.session reservation) (Reply.Reservation told) desk.new) }
+        ensures err { IfErr result (λ why. Denies C.given C.least desk.old (Call.GetReservation self.session reservation) why desk.new) }
     {
         let session = self.session;
         desk.ask_for::<R, ReservationInfo>(
@@ -121,10 +113,8 @@ impl ReservationSession {
     ) -> Result<IdList, Refusal>
         requires { IsFree desk.old.shared.now desk.old.client }
         ensures desk { StaysAt desk.old.shared.now desk.old.client desk.new.shared.now desk.new.client }
-        ensures ok { IfOk result (λ told. IsServed (dial (C.given desk.old.clock) (C.least desk.old.clock)) desk.old.client
-            (Call.GetReservations self.session) (Reply.Reservations told) (dial (C.given desk.new.clock) (C.least desk.new.clock)) desk.new.client) }
-        ensures err { IfErr result (λ why. IsRefused desk.old.shared.now.fixed (dial (C.given desk.old.clock) (C.least desk.old.clock)) desk.old.client
-            (Call.GetReservations self.session) why (dial (C.given desk.new.clock) (C.least desk.new.clock)) desk.new.client) }
+        ensures ok { IfOk result (λ told. Serves C.given C.least desk.old (Call.GetReservations self.session) (Reply.Reservations told) desk.new) }
+        ensures err { IfErr result (λ why. Denies C.given C.least desk.old (Call.GetReservations self.session) why desk.new) }
     {
         let session = self.session;
         let told = desk.ask_for::<R, ReservationNumbers>(rt, Call::GetReservations { session })?;
@@ -145,10 +135,8 @@ impl ReservationSession {
     ) -> Result<ListOf<Reservation>, Refusal>
         requires { IsFree desk.old.shared.now desk.old.client }
         ensures desk { StaysAt desk.old.shared.now desk.old.client desk.new.shared.now desk.new.client }
-        ensures ok { IfOk result (λ listed. (numbers : List ℕ) × (listed ≡ reservations_of self.session numbers) × IsServed (dial (C.given desk.old.clock) (C.least desk.old.clock)) desk.old.client
-            (Call.GetReservations self.session) (Reply.Reservations numbers) (dial (C.given desk.new.clock) (C.least desk.new.clock)) desk.new.client) }
-        ensures err { IfErr result (λ why. IsUnlisted desk.old.shared.now.fixed (dial (C.given desk.old.clock) (C.least desk.old.clock)) desk.old.client
-            (Call.GetReservations self.session) (λ numbers. Reply.Reservations numbers) why (dial (C.given desk.new.clock) (C.least desk.new.clock)) desk.new.client) }
+        ensures ok { IfOk result (λ listed. (numbers : List ℕ) × (listed ≡ reservations_of self.session numbers) × Serves C.given C.least desk.old (Call.GetReservations self.session) (Reply.Reservations numbers) desk.new) }
+        ensures err { IfErr result (λ why. IsUnlisted desk.old.shared.now.fixed (dial_of C.given C.least desk.old) desk.old.client (Call.GetReservations self.session) (λ numbers. Reply.Reservations numbers) why (dial_of C.given C.least desk.new) desk.new.client) }
     {
         match self.get_reservations(rt, desk) {
             Ok(numbers) => reservations_of(alloc, self.session, &numbers),

@@ -2,9 +2,7 @@
 ghost use Rattle.std.specs.Prelude.{IfOk, IfErr};
 ghost use Rattle.turn_lock.specs.Tokens.{IsFree};
 ghost use Rattle.call_history.specs.Clients.{StaysAt};
-ghost use Rattle.call_history.specs.Clocks.{dial};
-ghost use Rattle.call_history.specs.Calls.{IsServed};
-ghost use Rattle.call_history.specs.Refused.{IsRefused};
+ghost use Rattle.client_sessions.specs.Desks.{Serves, Denies};
 
 use call_history::{Call, Desk, Reply};
 use drmaa_types::{Clock, Refusal, ReservationId, ReservationInfo, SessionId};
@@ -33,10 +31,8 @@ impl Reservation {
     ) -> Result<ReservationInfo, Refusal>
         requires { IsFree desk.old.shared.now desk.old.client }
         ensures desk { StaysAt desk.old.shared.now desk.old.client desk.new.shared.now desk.new.client }
-        ensures ok { IfOk result (λ told. IsServed (dial (C.given desk.old.clock) (C.least desk.old.clock)) desk.old.client
-            (Call.GetReservation self.session self.reservation) (Reply.Reservation told) (dial (C.given desk.new.clock) (C.least desk.new.clock)) desk.new.client) }
-        ensures err { IfErr result (λ why. IsRefused desk.old.shared.now.fixed (dial (C.given desk.old.clock) (C.least desk.old.clock)) desk.old.client
-            (Call.GetReservation self.session self.reservation) why (dial (C.given desk.new.clock) (C.least desk.new.clock)) desk.new.client) }
+        ensures ok { IfOk result (λ told. Serves C.given C.least desk.old (Call.GetReservation self.session self.reservation) (Reply.Reservation told) desk.new) }
+        ensures err { IfErr result (λ why. Denies C.given C.least desk.old (Call.GetReservation self.session self.reservation) why desk.new) }
     {
         let Reservation {
             session,
@@ -61,10 +57,8 @@ impl Reservation {
     pub fn terminate<R: Wait, C: Clock>(self, rt: &R, desk: &mut Desk<C>) -> Result<(), Refusal>
         requires { IsFree desk.old.shared.now desk.old.client }
         ensures desk { StaysAt desk.old.shared.now desk.old.client desk.new.shared.now desk.new.client }
-        ensures ok { IfOk result (λ told. IsServed (dial (C.given desk.old.clock) (C.least desk.old.clock)) desk.old.client
-            (Call.EndReservation self.session self.reservation) Reply.Unit (dial (C.given desk.new.clock) (C.least desk.new.clock)) desk.new.client) }
-        ensures err { IfErr result (λ why. IsRefused desk.old.shared.now.fixed (dial (C.given desk.old.clock) (C.least desk.old.clock)) desk.old.client
-            (Call.EndReservation self.session self.reservation) why (dial (C.given desk.new.clock) (C.least desk.new.clock)) desk.new.client) }
+        ensures ok { IfOk result (λ told. Serves C.given C.least desk.old (Call.EndReservation self.session self.reservation) Reply.Unit desk.new) }
+        ensures err { IfErr result (λ why. Denies C.given C.least desk.old (Call.EndReservation self.session self.reservation) why desk.new) }
     {
         let Reservation {
             session,

@@ -3,7 +3,7 @@ ghost use Rattle.std.specs.Prelude.{◌≡◌, IfOk, IfErr};
 ghost use Rattle.drmaa_types.specs.declared.refusals.Refusal.{Refusal};
 ghost use Rattle.client_sessions.specs.Templates.{plain_template};
 
-use drmaa_types::{ListOf, Refusal, Text};
+use drmaa_types::{Refusal, Text};
 use job_template::JobTemplate;
 use std::alloc::Global;
 
@@ -13,25 +13,7 @@ pub fn plain_job(alloc: Global, remote_command: Text) -> JobTemplate
 {
     JobTemplate {
         remote_command,
-        args: ListOf::new(alloc),
-        submit_as_hold: false,
-        rerunnable: false,
-        job_environment: ListOf::new(alloc),
-        working_directory: None,
-        job_name: None,
-        input_path: None,
-        output_path: None,
-        error_path: None,
-        join_files: false,
-        reservation_id: None,
-        queue_name: None,
-        min_slots: None,
-        max_slots: None,
-        priority: None,
-        start_time: None,
-        deadline_time: None,
-        resource_limits: ListOf::new(alloc),
-        others: ListOf::new(alloc),
+        ..JobTemplate::blank(alloc)
     }
 }
 

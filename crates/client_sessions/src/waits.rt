@@ -1,12 +1,11 @@
 //! Waits for jobs: of one session, or for one job.
-ghost use Rattle.std.specs.Prelude.{◌≡◌, ◌⊎◌, [], ◌∷◌, IfOk, IfErr, OnOk};
-ghost use Rattle.drmaa_types.specs.declared.refusals.Refusal.{Refusal};
+ghost use Rattle.std.specs.Prelude.{◌≡◌, IfOk, IfErr, OnOk};
 ghost use Rattle.drmaa_types.specs.declared.states.WaitKind.{WaitKind};
 ghost use Rattle.drmaa_model.specs.declared.calls.Call.{Call};
 ghost use Rattle.turn_lock.specs.Tokens.{IsFree};
 ghost use Rattle.call_history.specs.Clients.{StaysAt, IsStillAt};
-ghost use Rattle.call_history.specs.Clocks.{dial};
-ghost use Rattle.wait_calls.specs.Waited.{IsWaited, Reaches, Refuses};
+ghost use Rattle.client_sessions.specs.AllWaits.{wait_for, JobDenies};
+ghost use Rattle.client_sessions.specs.Desks.{WaitReaches, WaitDenies};
 
 use crate::job_sessions::JobSession;
 use crate::jobs::Job;
@@ -35,13 +34,9 @@ impl JobSession {
     ) -> Result<Job, Refusal>
         requires { IsFree desk.old.shared.now desk.old.client }
         ensures desk { StaysAt desk.old.shared.now desk.old.client desk.new.shared.now desk.new.client }
-        ensures ok { IfOk result (λ reached. IsWaited desk.old.shared.now.fixed (dial (C.given desk.old.clock) (C.least desk.old.clock)) desk.old.client
-            (λ begun. Call.Wait self.session jobs WaitKind.Started begun timeout) (Reaches desk.old.shared.now.fixed desk.old.client reached.job desk.new.client)
-            (dial (C.given desk.new.clock) (C.least desk.new.clock)) desk.new.client) }
+        ensures ok { IfOk result (λ reached. WaitReaches C.given C.least desk.old (λ begun. Call.Wait self.session jobs WaitKind.Started begun timeout) reached.job desk.new) }
         ensures session { IfOk result (λ reached. reached.session ≡ self.session) }
-        ensures err { IfErr result (λ why. IsWaited desk.old.shared.now.fixed (dial (C.given desk.old.clock) (C.least desk.old.clock)) desk.old.client
-            (λ begun. Call.Wait self.session jobs WaitKind.Started begun timeout) (Refuses desk.old.shared.now.fixed desk.old.client why desk.new.client)
-            (dial (C.given desk.new.clock) (C.least desk.new.clock)) desk.new.client) }
+        ensures err { IfErr result (λ why. WaitDenies C.given C.least desk.old (λ begun. Call.Wait self.session jobs WaitKind.Started begun timeout) why desk.new) }
     {
         let session = self.session;
         match wait(rt, desk, session, jobs, WaitKind::Started, timeout) {
@@ -65,13 +60,9 @@ impl JobSession {
     ) -> Result<Job, Refusal>
         requires { IsFree desk.old.shared.now desk.old.client }
         ensures desk { StaysAt desk.old.shared.now desk.old.client desk.new.shared.now desk.new.client }
-        ensures ok { IfOk result (λ reached. IsWaited desk.old.shared.now.fixed (dial (C.given desk.old.clock) (C.least desk.old.clock)) desk.old.client
-            (λ begun. Call.Wait self.session jobs WaitKind.Terminated begun timeout) (Reaches desk.old.shared.now.fixed desk.old.client reached.job desk.new.client)
-            (dial (C.given desk.new.clock) (C.least desk.new.clock)) desk.new.client) }
+        ensures ok { IfOk result (λ reached. WaitReaches C.given C.least desk.old (λ begun. Call.Wait self.session jobs WaitKind.Terminated begun timeout) reached.job desk.new) }
         ensures session { IfOk result (λ reached. reached.session ≡ self.session) }
-        ensures err { IfErr result (λ why. IsWaited desk.old.shared.now.fixed (dial (C.given desk.old.clock) (C.least desk.old.clock)) desk.old.client
-            (λ begun. Call.Wait self.session jobs WaitKind.Terminated begun timeout) (Refuses desk.old.shared.now.fixed desk.old.client why desk.new.client)
-            (dial (C.given desk.new.clock) (C.least desk.new.clock)) desk.new.client) }
+        ensures err { IfErr result (λ why. WaitDenies C.given C.least desk.old (λ begun. Call.Wait self.session jobs WaitKind.Terminated begun timeout) why desk.new) }
     {
         let session = self.session;
         match wait(rt, desk, session, jobs, WaitKind::Terminated, timeout) {
@@ -97,13 +88,8 @@ impl Job {
     ) -> Result<(), Refusal>
         requires { IsFree desk.old.shared.now desk.old.client }
         ensures desk { OnOk result (StaysAt desk.old.shared.now desk.old.client desk.new.shared.now desk.new.client) }
-        ensures ok { IfOk result (λ _. IsWaited desk.old.shared.now.fixed (dial (C.given desk.old.clock) (C.least desk.old.clock)) desk.old.client
-            (λ begun. Call.Wait self.session (self.job.0 ∷ []) WaitKind.Started begun timeout) (Reaches desk.old.shared.now.fixed desk.old.client self.job desk.new.client)
-            (dial (C.given desk.new.clock) (C.least desk.new.clock)) desk.new.client) }
-        ensures err { IfErr result (λ why. (StaysAt desk.old.shared.now desk.old.client desk.new.shared.now desk.new.client × IsWaited desk.old.shared.now.fixed (dial (C.given desk.old.clock) (C.least desk.old.clock)) desk.old.client
-            (λ begun. Call.Wait self.session (self.job.0 ∷ []) WaitKind.Started begun timeout) (Refuses desk.old.shared.now.fixed desk.old.client why desk.new.client)
-            (dial (C.given desk.new.clock) (C.least desk.new.clock)) desk.new.client)
-            ⊎ ((why ≡ Refusal.OutOfMemory) × (desk.new ≡ desk.old))) }
+        ensures ok { IfOk result (λ _. WaitReaches C.given C.least desk.old (wait_for self.session WaitKind.Started timeout self) self.job desk.new) }
+        ensures err { IfErr result (λ why. JobDenies C.given C.least desk.old (wait_for self.session WaitKind.Started timeout self) why desk.new) }
     {
         self.wait_alone(alloc, rt, desk, WaitKind::Started, timeout)
     }
@@ -122,13 +108,8 @@ impl Job {
     ) -> Result<(), Refusal>
         requires { IsFree desk.old.shared.now desk.old.client }
         ensures desk { OnOk result (StaysAt desk.old.shared.now desk.old.client desk.new.shared.now desk.new.client) }
-        ensures ok { IfOk result (λ _. IsWaited desk.old.shared.now.fixed (dial (C.given desk.old.clock) (C.least desk.old.clock)) desk.old.client
-            (λ begun. Call.Wait self.session (self.job.0 ∷ []) WaitKind.Terminated begun timeout) (Reaches desk.old.shared.now.fixed desk.old.client self.job desk.new.client)
-            (dial (C.given desk.new.clock) (C.least desk.new.clock)) desk.new.client) }
-        ensures err { IfErr result (λ why. (StaysAt desk.old.shared.now desk.old.client desk.new.shared.now desk.new.client × IsWaited desk.old.shared.now.fixed (dial (C.given desk.old.clock) (C.least desk.old.clock)) desk.old.client
-            (λ begun. Call.Wait self.session (self.job.0 ∷ []) WaitKind.Terminated begun timeout) (Refuses desk.old.shared.now.fixed desk.old.client why desk.new.client)
-            (dial (C.given desk.new.clock) (C.least desk.new.clock)) desk.new.client)
-            ⊎ ((why ≡ Refusal.OutOfMemory) × (desk.new ≡ desk.old))) }
+        ensures ok { IfOk result (λ _. WaitReaches C.given C.least desk.old (wait_for self.session WaitKind.Terminated timeout self) self.job desk.new) }
+        ensures err { IfErr result (λ why. JobDenies C.given C.least desk.old (wait_for self.session WaitKind.Terminated timeout self) why desk.new) }
     {
         self.wait_alone(alloc, rt, desk, WaitKind::Terminated, timeout)
     }
@@ -145,13 +126,8 @@ impl Job {
         requires { IsFree desk.old.shared.now desk.old.client }
         ensures still { IsStillAt desk.old.shared.now desk.old.client desk.new.shared.now desk.new.client }
         ensures desk { OnOk result (StaysAt desk.old.shared.now desk.old.client desk.new.shared.now desk.new.client) }
-        ensures ok { IfOk result (λ _. IsWaited desk.old.shared.now.fixed (dial (C.given desk.old.clock) (C.least desk.old.clock)) desk.old.client
-            (λ begun. Call.Wait self.session (self.job.0 ∷ []) kind begun timeout) (Reaches desk.old.shared.now.fixed desk.old.client self.job desk.new.client)
-            (dial (C.given desk.new.clock) (C.least desk.new.clock)) desk.new.client) }
-        ensures err { IfErr result (λ why. (StaysAt desk.old.shared.now desk.old.client desk.new.shared.now desk.new.client × IsWaited desk.old.shared.now.fixed (dial (C.given desk.old.clock) (C.least desk.old.clock)) desk.old.client
-            (λ begun. Call.Wait self.session (self.job.0 ∷ []) kind begun timeout) (Refuses desk.old.shared.now.fixed desk.old.client why desk.new.client)
-            (dial (C.given desk.new.clock) (C.least desk.new.clock)) desk.new.client)
-            ⊎ ((why ≡ Refusal.OutOfMemory) × (desk.new ≡ desk.old))) }
+        ensures ok { IfOk result (λ _. WaitReaches C.given C.least desk.old (wait_for self.session kind timeout self) self.job desk.new) }
+        ensures err { IfErr result (λ why. JobDenies C.given C.least desk.old (wait_for self.session kind timeout self) why desk.new) }
     {
         let Ok(numbers) = Vec::from_slice(alloc, &[self.job.0]) else {
             return Err(Refusal::OutOfMemory);

@@ -1,10 +1,8 @@
 -- What a wait comes to, as a step of the face.
-use Rattle.std.proofs.Common.{◌≡◌, ◌⊎◌, inl, inr, ℕ, ◌+◌, ◌-◌, ◌≤◌, min, nat_le, Bool, true, false, cond, List, [], ◌∷◌, ◌++◌, Option, Some, None, refl, sym, ap, subst, ◌∙◌, append_assoc, arith}
+use Rattle.std.proofs.Common.{◌≡◌, inl, inr, ℕ, ◌+◌, ◌-◌, ◌≤◌, min, Bool, true, List, [], ◌∷◌, ◌++◌, Option, Some, None, refl, sym, subst, ◌∙◌, append_assoc, arith}
 use Rattle.std.specs.Prelude.{length, nat_lt, ◌==◌}
-use Rattle.std.specs.List.{find}
 use Rattle.std.proofs.lemmas.Bool.{leb-true}
 use Rattle.drmaa_types.specs.Moments.{greatest}
-use Rattle.drmaa_types.specs.Refusals.{first_refusal}
 use Rattle.drmaa_types.specs.declared.identifiers.JobId.{JobId}
 use Rattle.drmaa_types.specs.declared.identifiers.SessionId.{SessionId}
 use Rattle.drmaa_types.specs.declared.moments.Timeout.{Timeout}
@@ -19,29 +17,27 @@ use Rattle.drmaa_model.specs.declared.calls.Call.{Call}
 use Rattle.drmaa_model.specs.declared.calls.Call.TheVariants as call
 use Rattle.drmaa_model.specs.declared.configs.Config.{Config}
 use Rattle.drmaa_model.specs.declared.entries.Entry.{Entry}
-use Rattle.drmaa_model.specs.declared.faults.NoEntry.{NoEntry}
 use Rattle.drmaa_model.specs.declared.replies.Reply.TheVariants as reply
 use Rattle.drmaa_model.specs.History.{replay}
 use Rattle.drmaa_model.specs.Homes.{session_test, own_rows}
 use Rattle.drmaa_model.specs.Refusals.{refusal, lists_other}
 use Rattle.drmaa_model.specs.Time.{advance}
-use Rattle.drmaa_model.specs.Waiting.{most_waited, is_reached_by, first_reached, is_timed_out}
+use Rattle.drmaa_model.specs.Waiting.{most_waited, first_reached, is_timed_out}
 use Rattle.drmaa_model.specs.World.{World}
-use Rattle.drmaa_machine.specs.Applying.{IsOver, IsRefusedFor}
+use Rattle.drmaa_machine.specs.Applying.{IsOver}
 use Rattle.call_history.specs.Calls.{entry_by}
-use Rattle.call_history.specs.Clients.{Seat, seen_of, number_of}
-use Rattle.call_history.specs.Clocks.{Dial, HasGiven, IsReading}
-use Rattle.call_history.specs.Refused.{refusal_of}
-use Rattle.wait_calls.specs.Waited.{IsWaited, IsReached, Answers, Reaches, Refuses, readings_of}
+use Rattle.call_history.specs.Clients.{seen_of, number_of}
+use Rattle.call_history.specs.Clocks.{HasGiven}
+use Rattle.wait_calls.specs.Waited.{IsWaited, Answers, Reaches, Refuses, readings_of}
 use Rattle.wait_calls.specs.Waited.Refuses.{by_entry as decided_by_entry, by_fault as decided_by_fault}
 use Rattle.drmaa1_face.specs.Answers.{IsLate}
 use Rattle.drmaa1_face.specs.FaceEntries.{left_of}
 use Rattle.drmaa1_face.specs.Posts.{Post, EndsWith}
-use Rattle.drmaa1_face.specs.Steps.{Ask, waiting, Waits, MakesNoEntry, IsUnwaited, Halts}
+use Rattle.drmaa1_face.specs.Steps.{waiting, Waits, MakesNoEntry, Halts}
 use Rattle.drmaa1_face.specs.Steps.Halts.{by_entry, by_fault}
 use Rattle.drmaa1_face.specs.Steps.IsUnwaited.{unasked, unmade}
 use Rattle.drmaa1_face.proofs.Making.{made-none, made-one}
-use Rattle.drmaa1_face.proofs.Timely.{IsReason, has-reason, fault-timely}
+use Rattle.drmaa1_face.proofs.Timely.{has-reason, fault-timely}
 
 module _ (config : Config) (old new : Post) (session : SessionId) (jobs : List ℕ) (timeout : Timeout) where
   abbrev waits : ℕ → Call
@@ -81,24 +77,6 @@ module _ (config : Config) (old new : Post) (session : SessionId) (jobs : List �
 -- no memory for the list of the one job
 pub halts-unasked : (config : Config) (old : Post) (session : SessionId) (jobs : List ℕ) (begun : ℕ) (timeout : Timeout) (reason : Refusal) → reason ≡ why.OutOfMemory → Halts config old [] (waiting session jobs begun timeout) reason old
 halts-unasked config old session jobs begun timeout reason is = by_fault old (made-none config old) (unasked is refl) refl
-
--- ---- a wait for one job is answered that job
-
-found-only : (p : ℕ → Bool) (job told : ℕ) → find p (job ∷ []) ≡ Some told → told ≡ job
-found-only p job told =
-    elim (p job) as (λ b. cond b (Some job) None ≡ Some told → told ≡ job) [
-      | true ↦ λ is. cc
-      | false ↦ λ is. absurd cc
-    ]
-
-job-of : (told : JobId) (job : ℕ) → told.0 ≡ job → told ≡ record { 0 = job }
-job-of told job is = ap (λ (n : ℕ). record { 0 = n }) is
-
-pub reached-only : (w : World) (at : ℕ) (session : SessionId) (job begun : ℕ) (timeout : Timeout) (told : JobId) → IsReached w at (call.Wait session (job ∷ []) until.Terminated begun timeout) told → told ≡ record { 0 = job }
-reached-only w at session job begun timeout told r =
-    let listed : r.listed ≡ job ∷ [] = (let e = r.waits in cc) in
-    let first : find (is_reached_by r.kind (advance w at).plan.rows) (job ∷ []) ≡ Some told.0 = subst (λ (l : List ℕ). find (is_reached_by r.kind (advance w at).plan.rows) l ≡ Some told.0) listed r.first in
-    job-of told job (found-only (is_reached_by r.kind (advance w at).plan.rows) job told.0 first)
 
 -- ---- a wait whose time is over
 

@@ -1,5 +1,4 @@
 pub mod Making
-pub mod Standing
 pub mod Awaited
 pub mod Timely
 pub mod Lists

@@ -1,7 +1,6 @@
 -- Waits for each of some jobs, and reaps of each, one behind another.
-use Rattle.std.proofs.Common.{◌≡◌, ℕ, zero, suc, ◌+◌, ◌<◌, ◌≤◌, List, [], ◌∷◌, ◌++◌, map, take, drop, length, get_or, refl, sym, ap, subst, ◌∙◌, arith}
-use Rattle.std.proofs.Math.Seq.{take-suc}
-use Rattle.std.proofs.lemmas.List.{map-append}
+use Rattle.std.proofs.Common.{◌≡◌, ℕ, ◌+◌, ◌<◌, List, [], ◌∷◌, ◌++◌, map, take, drop, length, get_or, refl, sym, ap, subst, ◌∙◌}
+use Rattle.std.proofs.lemmas.List.{map-append, take-append-drop, drop_more}
 use Rattle.std.specs.Prelude.{None, Result, Ok, Err, IfOk}
 use Rattle.drmaa_types.specs.declared.infos.JobInfo.{JobInfo}
 use Rattle.drmaa_types.specs.declared.states.JobState.TheVariants as state
@@ -37,19 +36,8 @@ jobs-for (job ∷ jobs) = ap (λ (l : List ℕ). job ∷ l) (jobs-for jobs)
 
 -- ---- places
 
-pub take_one : (xs : List ℕ) (i : ℕ) (d : ℕ) → i < length xs → d ≡ get_or xs i 0 → take (i + 1) xs ≡ take i xs ++ d ∷ []
-take_one xs i d l e = let n : i + 1 ≡ suc i = omega arith in ap (λ (k : ℕ). take k xs) n ∙ take-suc xs i 0 l ∙ ap (λ (x : ℕ). take i xs ++ x ∷ []) (sym e)
-
-pub split_at : (xs : List ℕ) (i : ℕ) (d : ℕ) → i < length xs → d ≡ get_or xs i 0 → xs ≡ take i xs ++ d ∷ drop (suc i) xs
-split_at [] i d l e = absurd (omega (arith, l))
-split_at (x ∷ xs) zero d l e = ap (λ (y : ℕ). y ∷ xs) (sym e)
-split_at (x ∷ xs) (suc i) d l e = ap (λ (ys : List ℕ). x ∷ ys) (split_at xs i d (omega (arith, l)) e)
-
-pub take_all : (xs : List ℕ) (i : ℕ) → length xs ≤ i → take i xs ≡ xs
-take_all [] zero l = refl
-take_all [] (suc i) l = refl
-take_all (x ∷ xs) zero l = absurd (omega (arith, l))
-take_all (x ∷ xs) (suc i) l = ap (λ (ys : List ℕ). x ∷ ys) (take_all xs i (omega (arith, l)))
+pub split_at : (xs : List ℕ) (i : ℕ) → i < length xs → xs ≡ take i xs ++ get_or xs i 0 ∷ drop (i + 1) xs
+split_at xs i l = sym (take-append-drop i xs) ∙ ap (λ (ys : List ℕ). take i xs ++ ys) (drop_more xs i 0 l)
 
 -- ---- answers
 

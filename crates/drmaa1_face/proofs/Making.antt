@@ -1,5 +1,5 @@
 -- How lists of steps are made, one behind another, and where they stop.
-use Rattle.std.proofs.Common.{◌≡◌, ℕ, ◌≤◌, List, [], ◌∷◌, ◌++◌, refl, sym, ap, subst, ◌∙◌, append_assoc, append-nil, arith, Some}
+use Rattle.std.proofs.Common.{◌≡◌, ℕ, ◌≤◌, List, [], ◌∷◌, ◌++◌, refl, sym, ap, subst, ◌∙◌, append_assoc, append-nil, arith, Result, Ok, Err, IfOk, IfErr}
 use Rattle.drmaa_types.specs.declared.refusals.Refusal.{Refusal}
 use Rattle.drmaa_types.specs.declared.states.WaitKind.TheVariants as until
 use Rattle.drmaa_model.specs.declared.calls.Call.{Call}
@@ -8,15 +8,18 @@ use Rattle.drmaa_model.specs.declared.configs.Config.{Config}
 use Rattle.drmaa_model.specs.declared.entries.Entry.{Entry}
 use Rattle.drmaa_model.specs.declared.replies.Reply.{Reply}
 use Rattle.drmaa_model.specs.declared.replies.Reply.TheVariants as reply
+use Rattle.turn_lock.specs.Histories.{BeginsWith}
 use Rattle.turn_lock.specs.Tokens.{Named}
-use Rattle.call_history.specs.Calls.{entry_by}
-use Rattle.call_history.specs.Clients.{mine_of, number_of}
-use Rattle.call_history.specs.Clocks.{IsReading}
+use Rattle.call_history.specs.Calls.{entry_by, IsServed}
+use Rattle.call_history.specs.ClientLaws.{begins-made, begins-more}
+use Rattle.call_history.specs.Clients.{Seat, seen_of, mine_of, number_of, StaysAt, IsStillAt}
+use Rattle.call_history.specs.Clocks.{Dial, IsReading}
 use Rattle.call_history.specs.Refused.{IsRefused}
 use Rattle.call_history.specs.Refused.IsRefused.{by_entry as refused_by_entry, by_fault as refused_by_fault}
-use Rattle.wait_calls.specs.Waited.{Climb, IsWaited, readings_of}
+use Rattle.wait_calls.specs.Waited.{Climb, readings_of}
+use Rattle.wait_calls.proofs.Seats.{still-stays}
 use Rattle.drmaa1_face.specs.Posts.{Post}
-use Rattle.drmaa1_face.specs.Steps.{Ask, at_once, waiting, call_of, Step, reads, enters, Waits, Enters, Takes, Follows, AreEntriesOf, IsMade, Halts, Stops}
+use Rattle.drmaa1_face.specs.Steps.{Ask, at_once, waiting, Step, reads, enters, Enters, Takes, Follows, AreEntriesOf, IsMade, Halts, Stops}
 use Rattle.drmaa1_face.specs.Steps.Halts.{by_entry, by_fault}
 
 -- ---- chains of steps
@@ -124,6 +127,17 @@ stops-before config old new xs ys why s = record {
 pub halts-asked : (config : Config) (old new : Post) (c : Call) (why : Refusal) → number_of new.client ≡ number_of old.client → IsRefused config old.clock old.client c why new.clock new.client → Halts config old [] (at_once c) why new
 halts-asked config old new c why same (refused_by_entry s) = by_entry (made-one config old new (at_once c) (reply.Refused why) same s)
 halts-asked config old new c why same (refused_by_fault f is u) = by_fault old (made-none config old) (f, is, u) u.more.mine
+
+-- what was seen is a beginning of what is seen then
+begins-asked : {T : Type 0} (config : Config) (before after : Dial) (old new : Seat) (asked : Call) (tell : T → Reply) (result : Result T Refusal)
+    → IfOk result (λ told. IsServed before old asked (tell told) after new) → IfErr result (λ why. IsRefused config before old asked why after new) → BeginsWith (seen_of new) (seen_of old)
+begins-asked config before after old new asked tell (Ok told) good bad = begins-made old new (entry_by (number_of old) good.at asked (tell told)) good.made
+begins-asked config before after old new asked tell (Err why) good (refused_by_entry s) = begins-made old new (entry_by (number_of old) s.at asked (reply.Refused why)) s.made
+begins-asked config before after old new asked tell (Err why) good (refused_by_fault f is u) = begins-more old new u.more
+
+pub still-asked : {T : Type 0} (shared next : Named Config) (before after : Dial) (old new : Seat) (asked : Call) (tell : T → Reply) (result : Result T Refusal) → StaysAt shared old next new
+    → IfOk result (λ told. IsServed before old asked (tell told) after new) → IfErr result (λ why. IsRefused shared.fixed before old asked why after new) → IsStillAt shared old next new
+still-asked shared next before after old new asked tell result stays good bad = still-stays shared next old new stays (begins-asked shared.fixed before after old new asked tell result good bad)
 
 -- ---- a list behind another, at a desk that is still at its machine
 

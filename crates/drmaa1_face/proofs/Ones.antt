@@ -1,5 +1,5 @@
 -- One wait of `synchronize`, for one job alone.
-use Rattle.std.proofs.Common.{◌≡◌, ℕ, ◌≤◌, List, [], ◌∷◌, ◌++◌, refl, sym, subst, ◌∙◌, arith}
+use Rattle.std.proofs.Common.{◌≡◌, ℕ, ◌≤◌, List, [], ◌∷◌, refl, subst, arith}
 use Rattle.drmaa_types.specs.declared.identifiers.JobId.{JobId}
 use Rattle.drmaa_types.specs.declared.identifiers.SessionId.{SessionId}
 use Rattle.drmaa_types.specs.declared.moments.Timeout.{Timeout}
@@ -10,15 +10,15 @@ use Rattle.drmaa_model.specs.declared.calls.Call.{Call}
 use Rattle.drmaa_model.specs.declared.calls.Call.TheVariants as call
 use Rattle.drmaa_model.specs.declared.configs.Config.{Config}
 use Rattle.drmaa_model.specs.declared.replies.Reply.TheVariants as reply
-use Rattle.drmaa_model.specs.History.{replay}
-use Rattle.call_history.specs.Clients.{Seat, seen_of, number_of}
+use Rattle.call_history.specs.Clients.{number_of}
 use Rattle.call_history.specs.Clocks.{Dial, IsReading}
 use Rattle.wait_calls.specs.Waited.{IsWaited, Reaches, Refuses}
+use Rattle.wait_calls.proofs.Alone.{waits-alone}
 use Rattle.drmaa1_face.specs.Answers.{IsLate}
 use Rattle.drmaa1_face.specs.FaceEntries.{Start, left_of, waits_of}
 use Rattle.drmaa1_face.specs.Posts.{Post}
-use Rattle.drmaa1_face.specs.Steps.{Ask, waiting, Step, reads, enters, Waits, IsMade, Halts, Stops}
-use Rattle.drmaa1_face.proofs.Awaited.{waits-reached, halts-wait, halts-unasked, reached-only, late-wait}
+use Rattle.drmaa1_face.specs.Steps.{waiting, reads, enters, IsMade, Stops}
+use Rattle.drmaa1_face.proofs.Awaited.{waits-reached, halts-wait, halts-unasked, late-wait}
 use Rattle.drmaa1_face.proofs.Making.{made-both, made-read, made-one, stops-behind, stops-first}
 
 abbrev pub at_clock : Post → Dial → Post
@@ -50,21 +50,18 @@ module _ (config : Config) (old : Post) (clock : Dial) (session : SessionId) (jo
     alone : (P : Call → ℕ → Type 0) → AsksOf jobs time P → AsksOf (job ∷ []) left P
     alone P w = subst (λ (t : Timeout). AsksOf (job ∷ []) t P) timed (subst (λ (js : List ℕ). AsksOf js time P) listed w)
 
-    made-alone : (told : JobId) → number_of new.client ≡ number_of old.client → AsksOf (job ∷ []) left (Reaches config old.client told new.client)
-        → (s : Start) × (s.job ≡ job) × IsMade config old (waits_of session timeout first (s ∷ [])) new
-    made-alone told same w =
-        let is : told ≡ done = reached-only (replay config (seen_of old.client ++ w.decided.made.between)) w.last session job w.begun left told w.decided.first in
-        let waited : Waits config (at_clock old clock) session (job ∷ []) w.begun left (reply.Reached done) new =
-        subst (λ (t : JobId). Waits config (at_clock old clock) session (job ∷ []) w.begun left (reply.Reached t) new) is (waits-reached config (at_clock old clock) new session (job ∷ []) left told w) in (
-          record { job = job; read = read; begun = w.begun },
-          refl,
-          made-both config old (at_clock old clock) new (reads read ∷ []) (enters (waiting session (job ∷ []) w.begun left) (reply.Reached done) ∷ []) front
-              (made-one config (at_clock old clock) new (waiting session (job ∷ []) w.begun left) (reply.Reached done) same waited),
-        )
+    made-alone : number_of new.client ≡ number_of old.client → AsksOf (job ∷ []) left (Reaches config old.client done new.client) → (s : Start) × (s.job ≡ job) × IsMade config old (waits_of session timeout first (s ∷ [])) new
+    made-alone same w = (
+      record { job = job; read = read; begun = w.begun },
+      refl,
+      made-both config old (at_clock old clock) new (reads read ∷ []) (enters (waiting session (job ∷ []) w.begun left) (reply.Reached done) ∷ []) front
+          (made-one config (at_clock old clock) new (waiting session (job ∷ []) w.begun left) (reply.Reached done) same (waits-reached config (at_clock old clock) new session (job ∷ []) left done w)),
+    )
 
     pub one-made : (told : JobId) → number_of new.client ≡ number_of old.client → AsksOf jobs time (Reaches config old.client told new.client)
         → (s : Start) × (s.job ≡ job) × IsMade config old (waits_of session timeout first (s ∷ [])) new
-    one-made told same w = made-alone told same (alone (Reaches config old.client told new.client) w)
+    one-made told same w =
+        made-alone same (waits-alone config clock old.client session job until.Terminated left new.clock new.client jobs told listed (subst (λ (t : Timeout). AsksOf jobs t (Reaches config old.client told new.client)) timed w))
 
     stops-alone : (reason : Refusal) → number_of new.client ≡ number_of old.client → AsksOf (job ∷ []) left (Refuses config old.client reason new.client)
         → (s : Start) × (s.job ≡ job) × Stops config old (waits_of session timeout first (s ∷ [])) reason new

@@ -1,5 +1,6 @@
 -- Where the list of a wait stops at its first step, and that of several waits behind some.
 use Rattle.std.proofs.Common.{◌≡◌, ℕ, List, [], ◌∷◌, ◌++◌, Option, Some, None, refl, sym, ap, subst, ◌∙◌, append_assoc}
+use Rattle.drmaa_types.specs.Filters.{all as every_job}
 use Rattle.drmaa_types.specs.declared.identifiers.JobId.{JobId}
 use Rattle.drmaa_types.specs.declared.identifiers.SessionId.{SessionId}
 use Rattle.drmaa_types.specs.declared.infos.JobInfo.{JobInfo}
@@ -10,7 +11,7 @@ use Rattle.drmaa_model.specs.declared.configs.Config.{Config}
 use Rattle.drmaa_model.specs.declared.replies.Reply.TheVariants as reply
 use Rattle.drmaa1_face.specs.Answers.{WaitsFor}
 use Rattle.turn_lock.specs.Tokens.{Named}
-use Rattle.drmaa1_face.specs.FaceEntries.{FaceCall, Start, jobs_of, every_job, first_ask, takes, waits_for, waits_of, face_entries}
+use Rattle.drmaa1_face.specs.FaceEntries.{FaceCall, Start, jobs_of, first_ask, takes, waits_for, waits_of, face_entries}
 use Rattle.drmaa1_face.specs.FaceEntries.FaceCall.{wait}
 use Rattle.drmaa1_face.specs.Posts.{Post}
 use Rattle.drmaa1_face.specs.Steps.{at_once, waiting, Step, IsMade, Halts, Stops}

@@ -1,5 +1,5 @@
 -- Calls that are answered at once are not refused for a time that is over.
-use Rattle.std.proofs.Common.{◌≡◌, ◌⊎◌, inl, inr, Bool, true, false, List, [], ◌∷◌, ◌++◌, Option, Some, refl, sym, ap, subst, ◌∙◌}
+use Rattle.std.proofs.Common.{◌≡◌, ◌⊎◌, inl, inr, Bool, true, false, List, [], ◌∷◌, ◌++◌, Some, subst}
 use Rattle.drmaa_types.specs.Refusals.{first_refusal}
 use Rattle.drmaa_types.specs.declared.filters.JobFilter.{JobFilter}
 use Rattle.drmaa_types.specs.declared.identifiers.JobId.{JobId}
@@ -11,24 +11,22 @@ use Rattle.drmaa_model.specs.declared.calls.Call.{Call}
 use Rattle.drmaa_model.specs.declared.calls.Call.TheVariants as call
 use Rattle.drmaa_model.specs.declared.calls.Target.TheVariants as target
 use Rattle.drmaa_model.specs.declared.configs.Config.{Config}
-use Rattle.drmaa_model.specs.declared.entries.Entry.{Entry}
 use Rattle.drmaa_model.specs.declared.faults.NoEntry.{NoEntry}
 use Rattle.drmaa_model.specs.declared.faults.NoEntry.TheVariants as fault
 use Rattle.drmaa_model.specs.declared.replies.Reply.TheVariants as reply
 use Rattle.drmaa_model.specs.AnswerLaws.{answer-cases}
 use Rattle.drmaa_model.specs.Controlling.{reap_tests}
-use Rattle.drmaa_model.specs.Effects.{StepAnswer, gives, effect}
+use Rattle.drmaa_model.specs.Effects.{StepAnswer, gives}
 use Rattle.drmaa_model.specs.History.{IsLegal, replay}
-use Rattle.drmaa_model.specs.HistoryLaws.{legal-last}
 use Rattle.drmaa_model.specs.Homes.{session_test, reap_test, reapers}
 use Rattle.drmaa_model.specs.KeptCalls.{kept}
-use Rattle.drmaa_model.specs.Refusals.{refusal}
 use Rattle.drmaa_model.specs.Steps.{answer}
 use Rattle.drmaa_model.specs.Time.{advance}
 use Rattle.drmaa_model.specs.World.{World}
 use Rattle.call_history.specs.Calls.{entry_by, IsServed}
 use Rattle.call_history.specs.Clients.{seen_of, number_of}
 use Rattle.call_history.specs.Refused.{refusal_of}
+use Rattle.wait_calls.proofs.Seats.{made-step}
 use Rattle.drmaa1_face.specs.Posts.{Post}
 use Rattle.drmaa1_face.specs.Steps.{at_once, Halts}
 use Rattle.drmaa1_face.specs.Steps.Halts.{by_entry, by_fault}
@@ -75,10 +73,8 @@ reaping-timely w at session job =
 module _ (config : Config) (old new : Post) (c : Call) (legal : IsLegal config (seen_of new.client)) (timely : (w : World) (at : _) → IsTimely (answer w at (kept c))) where
   served-timely : IsServed old.clock old.client c (reply.Refused why.Timeout) new.clock new.client → ⊥
   served-timely s =
-      let front : List Entry = seen_of old.client ++ s.made.between in
-      let entry : Entry = entry_by (number_of old.client) s.at c (reply.Refused why.Timeout) in
-      let step = legal-last config front entry (subst (IsLegal config) s.made.seen legal) in
-      timely (replay config front) s.at _ step.answered
+      let step = made-step config old.client (entry_by (number_of old.client) s.at c (reply.Refused why.Timeout)) new.client legal s.made in
+      timely (replay config (seen_of old.client ++ s.made.between)) s.at _ step.answered
 
 module _ (config : Config) (old new : Post) (c : Call) (legal : IsLegal config (seen_of new.client)) (timely : (w : World) (at : _) → IsTimely (answer w at (kept c))) where
   halts-timely : Halts config old [] (at_once c) why.Timeout new → ⊥

@@ -1,14 +1,13 @@
 -- The whole of `synchronize`: its first reading, what is picked, its waits and its reaps.
-use Rattle.std.proofs.Common.{◌≡◌, ℕ, ◌≤◌, Bool, List, [], ◌∷◌, ◌++◌, refl, sym, ap, subst, arith}
+use Rattle.std.proofs.Common.{◌≡◌, ℕ, ◌≤◌, Bool, List, [], ◌∷◌, ◌++◌, sym, subst, arith}
 use Rattle.drmaa_types.specs.declared.identifiers.SessionId.{SessionId}
 use Rattle.drmaa_types.specs.declared.moments.Timeout.{Timeout}
 use Rattle.drmaa_types.specs.declared.refusals.Refusal.{Refusal}
 use Rattle.drmaa_model.specs.declared.configs.Config.{Config}
 use Rattle.turn_lock.specs.Tokens.{Named}
-use Rattle.call_history.specs.Clients.{number_of}
 use Rattle.call_history.specs.Clocks.{IsReading}
 use Rattle.drmaa1_face.specs.declared.synchronizing.Pick.{Pick}
-use Rattle.drmaa1_face.specs.Answers.{IsLate, IsTooLate}
+use Rattle.drmaa1_face.specs.Answers.{IsLate}
 use Rattle.drmaa1_face.specs.FaceEntries.{Start, jobs_of, picking, waits_of, disposing, face_entries}
 use Rattle.drmaa1_face.specs.FaceEntries.FaceCall.{synchronize}
 use Rattle.drmaa1_face.specs.Posts.{Post}

@@ -24,7 +24,7 @@ use Rattle.drmaa1_face.specs.declared.faults.FaceFault.TheVariants as fault
 use Rattle.drmaa1_face.specs.declared.synchronizing.Pick.{Pick}
 use Rattle.drmaa1_face.specs.declared.synchronizing.Pick.TheVariants.{All, These}
 use Rattle.drmaa1_face.specs.Posts.{Post, EndsWith}
-use Rattle.drmaa1_face.specs.Steps.{Step, IsMade, Stops}
+use Rattle.drmaa1_face.specs.Steps.{IsMade, Stops}
 use Rattle.drmaa1_face.specs.FaceEntries.{FaceCall, Start, jobs_of, face_entries}
 use Rattle.drmaa1_face.specs.FaceEntries.FaceCall.{init, wait, synchronize}
 

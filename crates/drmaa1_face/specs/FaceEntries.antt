@@ -1,7 +1,7 @@
 -- The entries that each call of the face makes: a list that goes on up to the first refusal. The calls are those of DRMAA 1.0
 -- (GFD.22); which calls of the machine stand for each is our profile.
 use Rattle.std.specs.Prelude.{ℕ, ◌-◌, Bool, true, false, List, [], ◌∷◌, ◌++◌, map, Option, Some, None}
-use Rattle.drmaa_types.specs.declared.filters.JobFilter.{JobFilter}
+use Rattle.drmaa_types.specs.Filters.{all as every_job}
 use Rattle.drmaa_types.specs.declared.identifiers.ArrayId.{ArrayId}
 use Rattle.drmaa_types.specs.declared.identifiers.JobId.{JobId}
 use Rattle.drmaa_types.specs.declared.identifiers.SessionId.{SessionId}
@@ -27,10 +27,6 @@ use Rattle.drmaa1_face.specs.Steps.{Ask, at_once, waiting, Step, reads, enters}
 -- a call that is answered at once
 abbrev pub asks : Call → Reply → Step
 asks c told = enters (at_once c) told
-
--- the filter that lets every job through
-abbrev pub every_job : JobFilter
-every_job = record { job = None; name = None; state = None; slots = None; queue = None; status = None; wallclock = None; submitted = None; dispatched = None; finished = None }
 
 -- the session's kept jobs
 abbrev pub lists : SessionId → List ℕ → Step

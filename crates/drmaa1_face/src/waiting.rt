@@ -1,5 +1,6 @@
 //! A wait for one job or for any: the job that ended tells how, and is forgotten.
 ghost use Rattle.std.specs.Prelude.{◌≡◌, ◌≢◌, ◌∷◌, ◌++◌, [], ℕ, IfOk, IfErr, Err};
+ghost use Rattle.drmaa_types.specs.Filters.{all as every_job};
 ghost use Rattle.drmaa_types.specs.declared.identifiers.JobId.{JobId};
 ghost use Rattle.drmaa_types.specs.declared.infos.JobInfo.{JobInfo};
 ghost use Rattle.drmaa_types.specs.declared.moments.Timeout.{Timeout};
@@ -10,7 +11,7 @@ ghost use Rattle.drmaa_model.specs.declared.replies.Reply.{Reply};
 ghost use Rattle.turn_lock.specs.Tokens.{IsFree};
 ghost use Rattle.call_history.specs.Clients.{IsStillAt};
 ghost use Rattle.drmaa1_face.specs.Answers.{Answered, IsListed, WaitsFor};
-ghost use Rattle.drmaa1_face.specs.FaceEntries.{FaceCall, asks, every_job, listing, lists, takes, waits_for, first_ask, face_entries};
+ghost use Rattle.drmaa1_face.specs.FaceEntries.{FaceCall, asks, listing, lists, takes, waits_for, first_ask, face_entries};
 ghost use Rattle.drmaa1_face.specs.Posts.{post};
 ghost use Rattle.drmaa1_face.specs.Steps.{IsMade, Halts, Stops};
 ghost use Rattle.drmaa1_face.specs.Steps.Ask.{at_once};
@@ -111,24 +112,6 @@ pub(crate) fn one_job(alloc: Global, job: u64) -> Result<IdList, Refusal>
     }
 }
 
-/// The filter that lets every job through.
-fn any_job() -> JobFilter
-    ensures { result ≡ every_job }
-{
-    JobFilter {
-        job: None,
-        name: None,
-        state: None,
-        slots: None,
-        queue: None,
-        status: None,
-        wallclock: None,
-        submitted: None,
-        dispatched: None,
-        finished: None,
-    }
-}
-
 /// The kept jobs of a session.
 pub(crate) fn every_job<R: Wait, C: Clock>(
     rt: &R,
@@ -141,8 +124,7 @@ pub(crate) fn every_job<R: Wait, C: Clock>(
     ensures err { IfErr result (λ why. Halts desk.old.shared.now.fixed (post C.given C.least desk.old) [] (at_once (Call.GetJobs session every_job)) why (post C.given C.least desk.new)) }
     ensures timely { result ≢ Err Refusal.Timeout }
 {
-    let filter = any_job();
-    match ask_for_jobs(rt, desk, session, filter) {
+    match ask_for_jobs(rt, desk, session, JobFilter::all()) {
         Ok(told) => Ok(told.numbers),
         Err(why) => Err(why),
     }

@@ -1,2 +1,4 @@
-pub mod Waiting
+pub mod Alone
+pub mod Seats
 pub mod Timing
+pub mod Waiting

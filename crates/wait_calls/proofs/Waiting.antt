@@ -1,5 +1,5 @@
 -- How a wait goes on from look to look, and how it ends.
-use Rattle.std.proofs.Common.{◌≡◌, ℕ, ◌≤◌, List, [], ◌∷◌, ◌++◌, refl, sym, ap, ◌∙◌, subst, append_assoc, append-nil, Option, Some, None, Result, Ok, Err, inl, inr, IfOk, IfErr, Bool, true, false, arith}
+use Rattle.std.proofs.Common.{◌≡◌, ℕ, ◌≤◌, List, [], ◌∷◌, ◌++◌, refl, sym, ap, ◌∙◌, subst, append-nil, Option, Some, None, Result, Ok, Err, inl, inr, IfOk, IfErr, Bool, true, false, arith}
 use Rattle.drmaa_types.specs.declared.identifiers.JobId.{JobId}
 use Rattle.drmaa_types.specs.declared.identifiers.SessionId.{SessionId}
 use Rattle.drmaa_types.specs.declared.moments.Timeout.{Timeout}
@@ -17,7 +17,6 @@ use Rattle.drmaa_model.specs.declared.replies.Reply.TheVariants as reply
 use Rattle.drmaa_model.specs.AnswerLaws.{answer-cases, reply-kind}
 use Rattle.drmaa_model.specs.Effects.{StepAnswer, gives, nothing, not_yet, wait_answer}
 use Rattle.drmaa_model.specs.History.{IsLegal, replay}
-use Rattle.drmaa_model.specs.HistoryLaws.{legal-last}
 use Rattle.drmaa_model.specs.KeptCalls.{kept}
 use Rattle.drmaa_model.specs.ReplyKinds.{kind_of_call, a_reached_job, IsReplyOf}
 use Rattle.drmaa_model.specs.Steps.{answer}
@@ -31,13 +30,14 @@ use Rattle.turn_lock.specs.Histories.{BeginsWith}
 use Rattle.call_history.specs.declared.waits.WaitLook.TheVariants as look
 use Rattle.call_history.specs.Looks.{IsLookOf}
 use Rattle.call_history.specs.Calls.{entry_by, IsServed, IsUnserved}
-use Rattle.call_history.specs.ClientLaws.{more-both, makes-both}
+use Rattle.call_history.specs.ClientLaws.{more-both, makes-both, begins-itself, begins-both, begins-made, begins-more}
 use Rattle.call_history.specs.Clients.{Seat, seen_of, number_of, SeesMore, Makes}
 use Rattle.call_history.specs.Clocks.{Dial, IsReading, Gives}
 use Rattle.call_history.specs.ClockLaws.{gives-one, gives-more}
 use Rattle.call_history.specs.Refused.{refusal_of}
 use Rattle.wait_calls.specs.Waited.{Look, readings_of, Climb, AreEarly, IsWaited, Answers, IsReached, Reaches, Refuses, Tells, IsRefusal}
 use Rattle.wait_calls.specs.Waited.Refuses.{by_entry, by_fault}
+use Rattle.wait_calls.proofs.Seats.{made-step}
 
 -- ---- readings
 
@@ -53,19 +53,7 @@ climb-end : (from : ℕ) (readings : List ℕ) (mid last : ℕ) → Climb from r
 climb-end from [] mid last low above = omega (arith, low, above)
 climb-end from (r ∷ readings) mid last low above = (low.0, climb-end r readings mid last low.1 above)
 
--- ---- beginnings
-
-begins-self : (l : List Entry) → BeginsWith l l
-begins-self l = record { rest = []; whole = sym (append-nil l) }
-
-begins-both : (a b c : List Entry) → BeginsWith b a → BeginsWith c b → BeginsWith c a
-begins-both a b c f s = record { rest = f.rest ++ s.rest; whole = s.whole ∙ (ap (λ (l : List Entry). l ++ s.rest) f.whole ∙ append_assoc a f.rest s.rest) }
-
-begins-more : (old new : Seat) → SeesMore old new → BeginsWith (seen_of new) (seen_of old)
-begins-more old new m = record { rest = m.between; whole = m.seen }
-
-begins-made : (old new : Seat) (e : Entry) → Makes old e new → BeginsWith (seen_of new) (seen_of old)
-begins-made old new e m = record { rest = m.between ++ e ∷ []; whole = m.seen ∙ append_assoc (seen_of old) m.between (e ∷ []) }
+-- ---- looks that came too early
 
 early-grow : (config : Config) (asked : Call) (before : List Entry) (looks : List Look) (mid after : List Entry) → AreEarly config asked before looks mid → BeginsWith after mid → AreEarly config asked before looks after
 early-grow config asked before [] mid after e b = begins-both before mid after e b
@@ -73,7 +61,7 @@ early-grow config asked before (k ∷ looks) mid after e b = (e.0, e.1, early-gr
 
 early-more : (config : Config) (asked : Call) (before : List Entry) (looks : List Look) (l : Look) (mid : List Entry) → AreEarly config asked before looks mid → BeginsWith l.seen mid
     → answer (replay config l.seen) l.at asked ≡ not_yet → AreEarly config asked before (looks ++ l ∷ []) l.seen
-early-more config asked before [] l mid e b is = (begins-both before mid l.seen e b, is, begins-self l.seen)
+early-more config asked before [] l mid e b is = (begins-both before mid l.seen e b, is, begins-itself l.seen)
 early-more config asked before (k ∷ looks) l mid e b is = (e.0, e.1, early-more config asked k.seen looks l mid e.2 b is)
 
 -- ---- the looks so far
@@ -93,7 +81,7 @@ so-far-first config before old asked begun now r = record {
   gave = gives-one before.given begun now.given r.told;
   least = r.least;
   rising = r.rising;
-  early = begins-self (seen_of old);
+  early = begins-itself (seen_of old);
   more = record { between = []; seen = sym (append-nil (seen_of old)); others = refl; mine = refl };
 }
 
@@ -144,90 +132,43 @@ module _ (config : Config) (before : Dial) (old : Seat) (asked : Call) (begun : 
 
 -- ---- what the reply of a wait may be
 
-served-reply : (config : Config) (before : Dial) (old : Seat) (c : Call) (r : Reply) (after : Dial) (new : Seat) → IsLegal config (seen_of new) → IsServed before old c r after new → IsReplyOf (kept c) r
-served-reply config before old c r after new legal s =
-    let front : List Entry = seen_of old ++ s.made.between in
-    let entry : Entry = entry_by (number_of old) s.at c r in
-    let step = legal-last config front entry (subst (IsLegal config) s.made.seen legal) in
-    reply-kind (replay config front) s.at (kept c) r _ step.answered
-
 -- where a wait is not told a job, its entry's reply is the refusal that it is told
 pub refused-so : (config : Config) (before : Dial) (old : Seat) (c : Call) (r : Reply) (after : Dial) (new : Seat) (why : Refusal) → kind_of_call (kept c) ≡ a_reached_job → IsLegal config (seen_of new)
     → IsServed before old c r after new → IsRefusal r why → r ≡ reply.Refused why
-refused-so config before old c r after new why kind legal s told = elim (served-reply config before old c r after new legal s) as (λ _. r ≡ reply.Refused why) [
-  | inl refused ↦ told.refused refused
-  | inr reached ↦ absurd (told.unreached (reached ∙ kind))
-]
+refused-so config before old c r after new why kind legal s told =
+    let step = made-step config old (entry_by (number_of old) s.at c r) new legal s.made in
+    let is : IsReplyOf (kept c) r = reply-kind (replay config (seen_of old ++ s.made.between)) s.at (kept c) r _ step.answered in
+    elim is as (λ _. r ≡ reply.Refused why) [ inl refused ↦ told.refused refused | inr reached ↦ absurd (told.unreached (reached ∙ kind)) ]
 
--- why a wait's entry refuses
-abbrev RefusedAs : (Refusal → Type 0) → StepAnswer → Type 0
-RefusedAs P (gives (reply.Refused why) next) = P why
-RefusedAs P (gives _ next) = Unit {0}
-RefusedAs P nothing = Unit {0}
-RefusedAs P not_yet = Unit {0}
+-- What the answer to a wait tells: why it is refused, or which job has reached the state. It is never that there is nothing to hand out.
+abbrev IsSound : World → ℕ → Call → StepAnswer → Type 0
+IsSound w at asked (gives (reply.Refused why) next) = IsRefusedFor w at asked why
+IsSound w at asked (gives (reply.Reached job) next) = IsReached w at asked job
+IsSound w at asked (gives _ next) = Unit {0}
+IsSound w at asked nothing = ⊥
+IsSound w at asked not_yet = Unit {0}
 
-wait-refused : (first : Option ℕ) (over : Bool) (w : World) (P : Refusal → Type 0) → (first ≡ None → over ≡ true → P reason_is.Timeout) → RefusedAs P (wait_answer first over w)
-wait-refused None true w P f = f refl refl
-wait-refused None false w P f = tt
-wait-refused (Some job) over w P f = tt
+wait-sound : (first : Option ℕ) (over : Bool) (v w : World) (at : ℕ) (asked : Call) → (first ≡ None → over ≡ true → IsRefusedFor w at asked reason_is.Timeout)
+    → ((job : ℕ) → first ≡ Some job → IsReached w at asked (record { 0 = job })) → IsSound w at asked (wait_answer first over v)
+wait-sound None true v w at asked late reached = late refl refl
+wait-sound None false v w at asked late reached = tt
+wait-sound (Some job) over v w at asked late reached = reached job refl
 
-answer-refused : (w : World) (at : ℕ) (a : Awaited) → RefusedAs (IsRefusedFor w at (call_of a)) (answer w at (call_of a))
-answer-refused w at a =
+answer-sound : (w : World) (at : ℕ) (a : Awaited) → IsSound w at (call_of a) (answer w at (call_of a))
+answer-sound w at a =
     let v = advance w at in
-    answer-cases at v (call_of a) (RefusedAs (IsRefusedFor w at (call_of a))) (λ why e. inl e)
-    (λ free. wait-refused (first_reached a.kind v.plan.rows a.jobs) (is_timed_out at a.begun a.timeout) v (IsRefusedFor w at (call_of a))
-    (λ unreached over. inr (refl, record { session = a.session; listed = a.jobs; kind = a.kind; begun = a.begun; timeout = a.timeout; waits = refl; valid = free; unreached = unreached; over = over })))
-
-refused-for : (config : Config) (old : Seat) (a : Awaited) (at : ℕ) (why : Refusal) (new : Seat) → IsLegal config (seen_of new) → (m : Makes old (entry_by (number_of old) at (call_of a) (reply.Refused why)) new)
-    → IsRefusedFor (replay config (seen_of old ++ m.between)) at (call_of a) why
-refused-for config old a at why new legal m =
-    let front : List Entry = seen_of old ++ m.between in
-    let step = legal-last config front (entry_by (number_of old) at (call_of a) (reply.Refused why)) (subst (IsLegal config) m.seen legal) in
-    subst (RefusedAs (IsRefusedFor (replay config front) at (call_of a))) step.answered (answer-refused (replay config front) at a)
-
--- which job a wait's entry answers
-abbrev ReachedAs : (JobId → Type 0) → StepAnswer → Type 0
-ReachedAs P (gives (reply.Reached job) next) = P job
-ReachedAs P (gives _ next) = Unit {0}
-ReachedAs P nothing = Unit {0}
-ReachedAs P not_yet = Unit {0}
-
-wait-reached : (first : Option ℕ) (over : Bool) (w : World) (P : JobId → Type 0) → ((job : ℕ) → first ≡ Some job → P (record { 0 = job })) → ReachedAs P (wait_answer first over w)
-wait-reached None true w P f = tt
-wait-reached None false w P f = tt
-wait-reached (Some job) over w P f = f job refl
-
-answer-reached : (w : World) (at : ℕ) (a : Awaited) → ReachedAs (IsReached w at (call_of a)) (answer w at (call_of a))
-answer-reached w at a =
-    let v = advance w at in
-    answer-cases at v (call_of a) (ReachedAs (IsReached w at (call_of a))) (λ why e. tt)
-    (λ free. wait-reached (first_reached a.kind v.plan.rows a.jobs) (is_timed_out at a.begun a.timeout) v (IsReached w at (call_of a))
+    answer-cases at v (call_of a) (IsSound w at (call_of a)) (λ why e. inl e)
+    (λ free. wait-sound (first_reached a.kind v.plan.rows a.jobs) (is_timed_out at a.begun a.timeout) v w at (call_of a)
+    (λ unreached over. inr (refl, record { session = a.session; listed = a.jobs; kind = a.kind; begun = a.begun; timeout = a.timeout; waits = refl; valid = free; unreached = unreached; over = over }))
     (λ job is. record { session = a.session; listed = a.jobs; kind = a.kind; begun = a.begun; timeout = a.timeout; waits = refl; valid = free; first = is }))
 
-reached-for : (config : Config) (old : Seat) (a : Awaited) (at : ℕ) (job : JobId) (new : Seat) → IsLegal config (seen_of new) → (m : Makes old (entry_by (number_of old) at (call_of a) (reply.Reached job)) new)
-    → IsReached (replay config (seen_of old ++ m.between)) at (call_of a) job
-reached-for config old a at job new legal m =
-    let front : List Entry = seen_of old ++ m.between in
-    let step = legal-last config front (entry_by (number_of old) at (call_of a) (reply.Reached job)) (subst (IsLegal config) m.seen legal) in
-    subst (ReachedAs (IsReached (replay config front) at (call_of a))) step.answered (answer-reached (replay config front) at a)
+entry-sound : (config : Config) (old : Seat) (a : Awaited) (at : ℕ) (told : Reply) (new : Seat) → IsLegal config (seen_of new) → (m : Makes old (entry_by (number_of old) at (call_of a) told) new)
+    → IsSound (replay config (seen_of old ++ m.between)) at (call_of a) (gives told (replay config ((seen_of old ++ m.between) ++ entry_by (number_of old) at (call_of a) told ∷ [])))
+entry-sound config old a at told new legal m =
+    let step = made-step config old (entry_by (number_of old) at (call_of a) told) new legal m in
+    subst (IsSound (replay config (seen_of old ++ m.between)) at (call_of a)) step.answered (answer-sound (replay config (seen_of old ++ m.between)) at a)
 
 -- ---- a look that is over
-
-abbrev IsNot : StepAnswer → Type 0
-IsNot (gives r next) = Unit {0}
-IsNot nothing = ⊥
-IsNot not_yet = Unit {0}
-
-wait-effect : (first : Option ℕ) (over : Bool) (w : World) → IsNot (wait_answer first over w)
-wait-effect None true w = tt
-wait-effect None false w = tt
-wait-effect (Some job) over w = tt
-
--- a wait is never answered that there is nothing to hand out
-wait-finds : (w : World) (at : ℕ) (a : Awaited) → answer w at (call_of a) ≡ nothing → ⊥
-wait-finds w at a is =
-    let v = advance w at in
-    subst IsNot is (answer-cases at v (call_of a) IsNot (λ why e. tt) (λ free. wait-effect (first_reached a.kind v.plan.rows a.jobs) (is_timed_out at a.begun a.timeout) v))
 
 -- what is known where a look is over
 pub record IsOver (config : Config) (before : Dial) (old : Seat) (session : SessionId) (jobs : List ℕ) (kind : WaitKind) (timeout : Timeout) (now : Dial) (mid : Seat) (awaited : Awaited) (after : Dial) (new : Seat) : Type 0 where
@@ -249,7 +190,7 @@ module _ (config : Config) (before : Dial) (old : Seat) (session : SessionId) (j
   over-ok k known made (Ok job) l is =
       ends-served config before old (call_of awaited) awaited.begun now mid o.so_far o.same waits waits-is after new job
       (subst (λ (m : Result Reply NoEntry). IsLookOf k now mid awaited after new (look.Over m)) is l)
-      (λ m. reached-for config old awaited _ job new o.legal m)
+      (λ m. entry-sound config old awaited _ (reply.Reached job) new o.legal m)
   over-ok k known made (Err why) l is = tt
 
   refused : (made : Result Reply NoEntry) (why : Refusal) → (look.Over made ≡ look.Over (Err fault.NotYet) → ⊥) → IsLookOf config now mid awaited after new (look.Over made) → Tells made why
@@ -257,10 +198,10 @@ module _ (config : Config) (before : Dial) (old : Seat) (session : SessionId) (j
   refused (Ok told) why decided l tells =
       ends-refused config before old (call_of awaited) awaited.begun now mid o.so_far o.same waits waits-is after new why
       (subst (λ (r : Reply). IsServed now mid (call_of awaited) r after new) (refused-so config now mid (call_of awaited) told after new why refl o.legal l tells) l)
-      (λ m. refused-for config old awaited _ why new o.legal m)
+      (λ m. entry-sound config old awaited _ (reply.Refused why) new o.legal m)
   refused (Err fault.OutOfMemory) why decided l tells = ends-unserved config before old (call_of awaited) awaited.begun now mid o.so_far o.same waits waits-is after new fault.OutOfMemory why (ap Some (sym tells)) l
   refused (Err fault.NotYet) why decided l tells = absurd (decided refl)
-  refused (Err fault.Nothing) why decided l tells = absurd (wait-finds (replay config (seen_of new)) l.at awaited l.reason.cause)
+  refused (Err fault.Nothing) why decided l tells = absurd (subst (IsSound (replay config (seen_of new)) l.at (call_of awaited)) l.reason.cause (answer-sound (replay config (seen_of new)) l.at awaited))
   refused (Err (fault.Journal n)) why decided l tells = ends-unserved config before old (call_of awaited) awaited.begun now mid o.so_far o.same waits waits-is after new (fault.Journal n) why (ap Some (sym tells)) l
 
   pub over-err : (k : Config) → k ≡ config → (made : Result Reply NoEntry) (r : Result JobId Refusal) → (look.Over made ≡ look.Over (Err fault.NotYet) → ⊥) → IsLookOf k now mid awaited after new (look.Over made) → IfErr r (Tells made)

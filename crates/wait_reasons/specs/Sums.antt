@@ -1,25 +1,22 @@
--- What is known of all rows.
-use Rattle.std.specs.Prelude.{◌≡◌, ℕ, List, Some, None, slice_index_or}
-use Rattle.drmaa_types.specs.declared.identifiers.ArrayId.{ArrayId}
-use Rattle.drmaa_types.specs.declared.identifiers.ReservationId.{ReservationId}
+-- Sums over the rows of all jobs, and what is known of them.
+use Rattle.std.specs.Prelude.{◌≡◌, ℕ, List, sum_by, Some, None, slice_index_or}
 use Rattle.drmaa_model.specs.declared.rows.Row.{Row}
-use Rattle.drmaa_model.specs.Load.{in_array, in_queue, in_reservation}
+use Rattle.drmaa_model.specs.Load.{holds_in, held_in_queue, held_inside}
 use Rattle.wait_reasons.specs.declared.sums.Known.{Known}
+use Rattle.wait_reasons.specs.declared.sums.Share.{Share}
+use Rattle.wait_reasons.specs.declared.sums.Share.TheVariants.{Array, Queue, Reservation}
 use Rattle.wait_reasons.specs.declared.sums.Sum.{Sum}
-use Rattle.wait_reasons.specs.declared.sums.Sums.{Sums}
 
--- each sum that is remembered is that of its number
-abbrev pub IsMade : (ℕ → ℕ) → Sums → Type 0
-IsMade of sums = (place : ℕ) (made : Sum) → slice_index_or sums.places place None ≡ Some made → made.sum ≡ of made.number
+-- what a job adds
+abbrev pub adds : Share → Row → ℕ
+adds (Array array) = holds_in array
+adds (Queue place) = held_in_queue place
+adds (Reservation number) = held_inside number
 
-abbrev pub members_of : List Row → ℕ → ℕ
-members_of rows number = let array : ArrayId = record { 0 = number } in in_array array rows
+-- the sum over these jobs
+abbrev pub sum_of : Share → List Row → ℕ
+sum_of share rows = sum_by (adds share) rows
 
-abbrev pub inside_of : List Row → ℕ → ℕ
-inside_of rows number = let reservation : ReservationId = record { 0 = number } in in_reservation reservation rows
-
--- all that is known is so
-pub record IsKnown (rows : List Row) (known : Known) : Type 0 where
-  pub arrays : IsMade (members_of rows) known.arrays
-  pub queues : IsMade (λ (place : ℕ). in_queue place rows) known.queues
-  pub reservations : IsMade (inside_of rows) known.reservations
+-- each sum that is remembered is that of its share
+abbrev pub IsKnown : List Row → Known → Type 0
+IsKnown rows known = (place : ℕ) (made : Sum) → slice_index_or known.places place None ≡ Some made → made.sum ≡ sum_of made.share rows

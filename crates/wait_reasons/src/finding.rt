@@ -10,7 +10,7 @@ use crate::conditions::{
     covers, has_room, push_calendar, push_start, push_state, push_unless, reservation_of,
 };
 use crate::reasons::{Reason, ReasonList};
-use crate::sums::Known;
+use crate::sums::{Known, Share};
 use drmaa_machine::Machine;
 use drmaa_model::{Accepted, Row, Wants};
 use drmaa_types::{ListOf, QueueList, ReservationId, queue_at};
@@ -54,7 +54,7 @@ fn push_array(
     };
     // No more members hold slots than there are.
     let _total = total_of(machine);
-    let holding = known.in_array(machine.rows(), array);
+    let holding = known.sum(machine.rows(), Share::Array(array));
     push_unless(list, holding < bound, Reason::ArrayFull { holding, bound })
 }
 
@@ -90,7 +90,7 @@ fn push_queue(
         return Ok(());
     };
     let _total = total_of(machine);
-    let used = known.in_queue(machine.rows(), place);
+    let used = known.sum(machine.rows(), Share::Queue(place));
     push_unless(
         list,
         has_room(used, slots, queue.limit),
@@ -143,7 +143,7 @@ fn push_inside(
     };
     push_unless(list, covers(a, machine.moment()), outside)?;
     let _total = total_of(machine);
-    let used = known.in_reservation(machine.rows(), number);
+    let used = known.sum(machine.rows(), Share::Reservation(number));
     let full = Reason::ReservationFull {
         reservation: number,
         used,

@@ -1,4 +1,5 @@
-use Rattle.drmaa1_face.proofs.Standing.{still-same, still-both, still-stays, each-ok, each-err, err-is}
+use Rattle.std.proofs.lemmas.Result.{IfOk-weaker, IfErr-weaker}
+use Rattle.wait_calls.proofs.Seats.{still-both}
 use Rattle.drmaa1_face.specs.FaceEntries.{waits_of, disposing}
 use Rattle.drmaa1_face.proofs.Making.{made-then, stops-then, stops-before}
 use Rattle.drmaa1_face.proofs.synchronizing.end_all.Goals as goal
@@ -9,7 +10,7 @@ returns-in-Ok-clause-desk g c = still-both _ _ _ _ _ _ c.wait_for_each.ensures.d
 pub returns-in-Ok-clause-ok : goal.returns-in-Ok-clause-ok
 returns-in-Ok-clause-ok g c =
     let p = c.in-Ok.ensures.ok in
-    each-ok _ _ c.dispose_of.result (λ told m. (
+    IfOk-weaker c.dispose_of.result _ _ (λ told m. (
       p.0,
       p.1,
       made-then _ _ c.wait_for_each.ensures.desk.shared_is _ _ _ (waits_of c.args.session c.args.timeout c.args.first p.0) (disposing c.args.session c.args.dispose c.args.jobs.now) p.2 m,
@@ -18,7 +19,7 @@ returns-in-Ok-clause-ok g c =
 pub returns-in-Ok-clause-err : goal.returns-in-Ok-clause-err
 returns-in-Ok-clause-err g c =
     let p = c.in-Ok.ensures.ok in
-    each-err _ _ c.dispose_of.result (λ reason s. (
+    IfErr-weaker c.dispose_of.result _ _ (λ reason s. (
       p.0,
       p.1,
       stops-then _ _ c.wait_for_each.ensures.desk.shared_is _ _ _ (waits_of c.args.session c.args.timeout c.args.first p.0) (disposing c.args.session c.args.dispose c.args.jobs.now) p.2 reason s,

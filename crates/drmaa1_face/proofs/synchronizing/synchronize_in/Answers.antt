@@ -1,5 +1,6 @@
-use Rattle.drmaa1_face.proofs.Standing.{still-same, still-both, still-stays, each-ok, each-err, err-is}
-use Rattle.std.proofs.Common.{◌≡◌, refl, [], ◌∙◌, subst, sym, List, ℕ}
+use Rattle.std.proofs.Common.{refl, [], ◌∙◌, subst, sym, List, ℕ}
+use Rattle.std.proofs.lemmas.Result.{IfOk-weaker, IfErr-weaker}
+use Rattle.wait_calls.proofs.Seats.{still-both}
 use Rattle.drmaa1_face.specs.Answers.{IsPicked}
 use Rattle.drmaa1_face.specs.FaceEntries.{picking}
 use Rattle.drmaa1_face.specs.FaceEntries.FaceCall.{synchronize}
@@ -12,7 +13,7 @@ returns-in-Ok-clause-desk g c = still-both _ _ _ _ _ _ c.picked.ensures.desk c.e
 pub returns-in-Ok-clause-ok : goal.returns-in-Ok-clause-ok
 returns-in-Ok-clause-ok g c =
     let q = c.in-Ok.ensures.ok in
-    each-ok _ _ c.end_all.result (λ told p. (
+    IfOk-weaker c.end_all.result _ _ (λ told p. (
       synchronize c.args.pick c.args.timeout c.args.dispose c.now-first.result p.0,
       (c.now-first.result, p.0, subst (λ (l : List ℕ). IsPicked c.args.pick l) (sym (p.1 ∙ c.as_slice.ensures)) q.0, refl),
       whole-made _ _ _ c.args.session c.args.pick c.args.timeout c.args.dispose c.now-first.result (record { told = c.now-first.ensures.given; least = c.now-first.ensures.least; rising = c.now-first.ensures.rising }) refl _ c.picked.ensures.desk.shared_is _ _ p.0 c.in-Ok.jobs (p.1 ∙ c.as_slice.ensures) q.1 (rw c.as_slice.ensures at p.2),
@@ -21,7 +22,7 @@ returns-in-Ok-clause-ok g c =
 pub returns-in-Ok-clause-err : goal.returns-in-Ok-clause-err
 returns-in-Ok-clause-err g c =
     let q = c.in-Ok.ensures.ok in
-    each-err _ _ c.end_all.result (λ reason p. (
+    IfErr-weaker c.end_all.result _ _ (λ reason p. (
       synchronize c.args.pick c.args.timeout c.args.dispose c.now-first.result p.0,
       (c.now-first.result, p.0, subst (λ (l : List ℕ). IsPicked c.args.pick l) (sym (p.1 ∙ c.as_slice.ensures)) q.0, refl),
       whole-stops _ _ _ c.args.session c.args.pick c.args.timeout c.args.dispose c.now-first.result (record { told = c.now-first.ensures.given; least = c.now-first.ensures.least; rising = c.now-first.ensures.rising }) refl _ c.picked.ensures.desk.shared_is _ _ p.0 c.in-Ok.jobs reason (p.1 ∙ c.as_slice.ensures) q.1 (rw c.as_slice.ensures at p.2),

@@ -1,10 +1,11 @@
-use Rattle.drmaa1_face.proofs.Standing.{still-same, still-both, still-stays, each-ok, each-err, err-is}
-use Rattle.std.proofs.Common.{◌≡◌, ℕ, ◌+◌, List, [], ◌∷◌, ◌++◌, take, drop, suc, refl, sym, subst, ◌∙◌, arith, get_or}
-use Rattle.drmaa1_face.specs.FaceEntries.{Start, waits_of}
+use Rattle.std.proofs.Common.{ℕ, ◌+◌, List, [], ◌∷◌, ◌++◌, take, drop, refl, subst, ◌∙◌, arith, get_or}
+use Rattle.std.proofs.lemmas.List.{take_more, take_all}
+use Rattle.wait_calls.proofs.Seats.{still-same, still-both}
+use Rattle.drmaa1_face.specs.FaceEntries.{waits_of}
 use Rattle.drmaa1_face.specs.Posts.{post}
 use Rattle.drmaa1_face.specs.Steps.{Step, IsMade}
 use Rattle.drmaa1_face.proofs.Making.{made-none, made-then}
-use Rattle.drmaa1_face.proofs.Lists.{waits-more, starts_for, take_one, split_at, take_all}
+use Rattle.drmaa1_face.proofs.Lists.{waits-more, starts_for, split_at}
 use Rattle.drmaa1_face.proofs.Stopped.{waits-stop, jobs-stop, jobs-next}
 use Rattle.drmaa1_face.proofs.Whole.{late-from, least-behind}
 use Rattle.drmaa1_face.proofs.synchronizing.wait_for_each.Goals as goal
@@ -20,7 +21,7 @@ loop-job-preserved g c =
     record {
       desk = still-both _ _ _ _ _ _ i.desk c.wait_for_one.ensures.desk;
       starts = i.starts ++ p.0 ∷ [];
-      jobs = jobs-next i.starts p.0 (take k c.args.jobs.now) (take (k + 1) c.args.jobs.now) (get_or c.args.jobs.now c.loop-job.job-index 0) i.jobs p.1 (take_one c.args.jobs.now k (get_or c.args.jobs.now c.loop-job.job-index 0) c.loop-job-test.true refl);
+      jobs = jobs-next i.starts p.0 (take k c.args.jobs.now) (take (k + 1) c.args.jobs.now) (get_or c.args.jobs.now c.loop-job.job-index 0) i.jobs p.1 (take_more c.args.jobs.now k 0 c.loop-job-test.true);
       made = subst (λ (l : List Step). IsMade c.args.desk.now.shared.now.fixed (post g.C.Clock.given g.C.Clock.least c.args.desk.now) l (post g.C.Clock.given g.C.Clock.least c.wait_for_one.new.desk))
           (waits-more c.args.session c.args.timeout c.args.first i.starts (p.0 ∷ []))
           (made-then _ _ i.desk.shared_is _ _ _ (waits_of c.args.session c.args.timeout c.args.first i.starts) (waits_of c.args.session c.args.timeout c.args.first (p.0 ∷ [])) i.made p.2);
@@ -34,9 +35,9 @@ returns-in-Err-clause-err g c =
     let i = c.loop-job.invariant in
     let p = c.in-Err.ensures.err in
     let k : ℕ = c.loop-job.job-index in
-    let rest : List ℕ = drop (suc k) c.args.jobs.now in (
+    let rest : List ℕ = drop (k + 1) c.args.jobs.now in (
       (i.starts ++ p.0 ∷ []) ++ starts_for rest,
-      jobs-stop i.starts p.0 (take k c.args.jobs.now) rest c.args.jobs.now (get_or c.args.jobs.now c.loop-job.job-index 0) i.jobs p.1 (split_at c.args.jobs.now k (get_or c.args.jobs.now c.loop-job.job-index 0) c.loop-job-test.true refl),
+      jobs-stop i.starts p.0 (take k c.args.jobs.now) rest c.args.jobs.now (get_or c.args.jobs.now c.loop-job.job-index 0) i.jobs p.1 (split_at c.args.jobs.now k c.loop-job-test.true),
       waits-stop _ _ i.desk.shared_is _ _ _ c.args.session c.args.timeout c.args.first i.starts p.0 (starts_for rest) c.in-Err.why i.made p.2,
     )
 
@@ -49,4 +50,4 @@ returns-in-Err-clause-late g c low is =
 pub returns-clause-ok : goal.returns-clause-ok
 returns-clause-ok g c =
     let i = c.loop-job.invariant in
-    (i.starts, i.jobs ∙ take_all c.args.jobs.now c.loop-job.job-index (omega (arith, c.loop-job-test.false)), i.made)
+    (i.starts, i.jobs ∙ take_all c.loop-job.job-index c.args.jobs.now (omega (arith, c.loop-job-test.false)), i.made)

@@ -1,5 +1,4 @@
-use Rattle.drmaa1_face.proofs.Standing.{still-same, still-both, still-stays, each-ok, each-err, err-is}
-use Rattle.std.proofs.Common.{◌≡◌, refl}
+use Rattle.wait_calls.proofs.Seats.{still-same, still-stays}
 use Rattle.drmaa1_face.proofs.Ones.{one-made, one-stops, one-unasked, one-late}
 use Rattle.drmaa1_face.proofs.synchronizing.wait_for_one.Goals as goal
 

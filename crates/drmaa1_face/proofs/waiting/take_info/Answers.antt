@@ -1,10 +1,10 @@
-use Rattle.drmaa1_face.proofs.Standing.{still-same, still-both, still-stays, each-ok, each-err, err-is}
-use Rattle.std.proofs.Common.{[], ◌∷◌, subst}
-use Rattle.drmaa_types.specs.declared.infos.JobInfo.{JobInfo}
+use Rattle.std.proofs.Common.{[], ◌∷◌}
+use Rattle.std.proofs.lemmas.Result.{IfErr-weaker}
 use Rattle.drmaa_model.specs.declared.calls.Call.TheVariants as call
 use Rattle.drmaa_model.specs.declared.calls.Target.TheVariants as target
 use Rattle.drmaa_model.specs.declared.replies.Reply.TheVariants as reply
-use Rattle.drmaa1_face.specs.FaceEntries.{asks, takes}
+use Rattle.wait_calls.proofs.Seats.{still-both}
+use Rattle.drmaa1_face.specs.FaceEntries.{asks}
 use Rattle.drmaa1_face.specs.Steps.Ask.{at_once}
 use Rattle.drmaa1_face.proofs.Making.{made-then, halts-then, stops-first}
 use Rattle.drmaa1_face.proofs.Lists.{no_info, told-both}
@@ -21,7 +21,7 @@ returns-in-Ok-clause-ok g c =
 
 pub returns-in-Ok-clause-err : goal.returns-in-Ok-clause-err
 returns-in-Ok-clause-err g c =
-    each-err _ _ c.reap_told.result (λ reason h. (
+    IfErr-weaker c.reap_told.result _ _ (λ reason h. (
       c.in-Ok.info,
       halts-then _ _ c.ask_for.ensures.desk.shared_is _ _ _ (asks (call.GetInfo c.args.session c.args.job) (reply.Info c.in-Ok.info) ∷ []) [] c.in-Ok.ensures.ok (at_once (call.Reap c.args.session (target.Job c.args.job))) reply.Unit [] reason h,
     )) c.reap_told.ensures.err

@@ -1,6 +1,7 @@
-use Rattle.drmaa1_face.proofs.Standing.{still-same, still-both, still-stays, each-ok, each-err, err-is}
 use Rattle.std.proofs.Common.{[], ◌∷◌}
+use Rattle.std.proofs.lemmas.Result.{IfOk-weaker, IfErr-weaker}
 use Rattle.drmaa_model.specs.declared.replies.Reply.TheVariants as reply
+use Rattle.wait_calls.proofs.Seats.{still-both, still-stays}
 use Rattle.drmaa1_face.specs.FaceEntries.{takes}
 use Rattle.drmaa1_face.specs.Steps.Ask.{waiting}
 use Rattle.drmaa1_face.specs.Steps.Step.{enters}
@@ -15,7 +16,7 @@ returns-in-Ok-clause-desk g c = still-both _ _ _ _ _ _ (still-stays _ _ _ _ c.wa
 pub returns-in-Ok-clause-ok : goal.returns-in-Ok-clause-ok
 returns-in-Ok-clause-ok g c =
     let w = c.in-Ok.ensures.ok in
-    each-ok _ _ c.take_info.result (λ info m. (
+    IfOk-weaker c.take_info.result _ _ (λ info m. (
       w.begun,
       c.in-Ok.job,
       made-then _ _ c.wait.ensures.desk.shared_is _ _ _ (enters (waiting c.args.session c.args.jobs w.begun c.args.timeout) (reply.Reached c.in-Ok.job) ∷ []) (takes c.args.session c.in-Ok.job info)
@@ -25,7 +26,7 @@ returns-in-Ok-clause-ok g c =
 pub returns-in-Ok-clause-err : goal.returns-in-Ok-clause-err
 returns-in-Ok-clause-err g c =
     let w = c.in-Ok.ensures.ok in
-    each-err _ _ c.take_info.result (λ reason s. (
+    IfErr-weaker c.take_info.result _ _ (λ reason s. (
       w.begun,
       c.in-Ok.job,
       s.0,

@@ -1,4 +1,4 @@
-use Rattle.wait_reasons.specs.ReasonLaws.{ready_where_none}
+use Rattle.wait_reasons.proofs.ReasonLaws.{ready_where_none}
 use Rattle.wait_reasons.proofs.laws.no_reason_where_ready.Goals as goal
 
 pub returns : goal.returns

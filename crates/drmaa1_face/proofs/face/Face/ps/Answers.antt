@@ -2,7 +2,6 @@ use Rattle.std.proofs.Common.{◌≡◌, refl, [], Some}
 use Rattle.drmaa_model.specs.declared.calls.Call.TheVariants as call
 use Rattle.drmaa_model.specs.declared.replies.Reply.TheVariants as reply
 use Rattle.drmaa_types.specs.declared.states.JobState.TheVariants as state
-use Rattle.drmaa1_face.specs.FaceEntries.{unbounded}
 use Rattle.drmaa1_face.specs.FaceEntries.FaceCall.{ps}
 use Rattle.drmaa1_face.specs.Steps.Ask.{at_once}
 use Rattle.drmaa1_face.proofs.Making.{stops-first}

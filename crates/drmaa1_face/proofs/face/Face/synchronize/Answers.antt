@@ -1,5 +1,4 @@
-use Rattle.std.proofs.Common.{◌≡◌, refl, Some, Err}
-use Rattle.drmaa_types.specs.declared.refusals.Refusal.TheVariants as why
+use Rattle.std.proofs.Common.{◌≡◌, Some}
 use Rattle.drmaa1_face.proofs.face.Face.synchronize.Goals as goal
 use Rattle.drmaa1_face.proofs.face.Face.synchronize.Goals.{in-Ok, in-Err}
 

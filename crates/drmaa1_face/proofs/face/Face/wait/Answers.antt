@@ -1,4 +1,4 @@
-use Rattle.std.proofs.Common.{◌≡◌, refl, Some}
+use Rattle.std.proofs.Common.{◌≡◌, Some}
 use Rattle.drmaa1_face.proofs.face.Face.wait.Goals as goal
 use Rattle.drmaa1_face.proofs.face.Face.wait.Goals.{in-Ok, in-Err}
 
