@@ -104,13 +104,17 @@ pub registers-aside : (n : ℕ) (es : List Entry) → RegistersFrom n es → Ask
 registers-aside n [] all = tt
 registers-aside n (e ∷ es) all = (ap duty_of all.0, registers-aside (suc n) es (subst (λ (k : ℕ). RegistersFrom k es) (let h : n + 1 ≡ suc n = omega arith in h) all.2))
 
+-- what is nobody's is none of theirs
+pub none-aside : (es : List Entry) → es ≡ [] → AsksAsClient es
+none-aside es none = subst AsksAsClient (sym none) tt
+
 -- nobody else makes the calls of the launcher and of the reaper
 pub are-alone : (es : List Entry) → AsksAsClient (calls_of es 0) → EachAfter IsLaunchersEntry [] (acts_of (calls_of es 1)) → EachAfter IsReapersEntry [] (acts_of (calls_of es 2)) → AsksAsClient (calls_of es 3)
-    → ((k : ℕ) → 3 < k → calls_of es k ≡ []) → AreAlone 1 2 (acts_of es)
+    → ((k : ℕ) → 3 < k → AsksAsClient (calls_of es k)) → AreAlone 1 2 (acts_of es)
 are-alone es own launcher reaper hub others =
     alone-of 1 2 es (all-of-callers (Permitted 1 2) es (by-caller (λ k. AllByRecursion (Permitted 1 2) (calls_of es k))
     (others-permitted 1 2 (calls_of es 0) own)
     (launcher-permitted 1 2 [] (calls_of es 1) (own-all es 1) launcher)
     (reaper-permitted 1 2 [] (calls_of es 2) (own-all es 2) reaper)
     (others-permitted 1 2 (calls_of es 3) hub)
-    (λ k h. subst (AllByRecursion (Permitted 1 2)) (sym (others k h)) tt)))
+    (λ k h. others-permitted 1 2 (calls_of es k) (others k h))))

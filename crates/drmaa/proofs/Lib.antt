@@ -2,6 +2,9 @@ pub mod Beginnings
 pub mod Keeping
 pub mod Registering
 pub mod Endings
+pub mod Lists
+pub mod Places
+pub mod Opening
 pub mod Back
 pub mod Making
 pub mod Callers

@@ -1,5 +1,5 @@
 -- From what the parts leave to what all clients leave.
-use Rattle.std.proofs.Common.{◌≡◌, ℕ, List, [], length, Option, Some, None, sym, ap, ◌∙◌, subst}
+use Rattle.std.proofs.Common.{◌≡◌, ℕ, ◌≤◌, List, [], length, Option, Some, None, sym, ap, ◌∙◌, subst}
 use Rattle.std.specs.Prelude.{Result, IsOk}
 use Rattle.child_spawner.specs.declared.fates.Asked.{Asked}
 use Rattle.child_spawner.specs.declared.fates.Fate.{Fate}
@@ -11,6 +11,7 @@ use Rattle.drmaa_model.specs.declared.configs.Config.{Config}
 use Rattle.drmaa_model.specs.declared.entries.Entry.{Entry}
 use Rattle.turn_lock.specs.Histories.{BeginsWith}
 use Rattle.turn_lock.specs.Tokens.{Named}
+use Rattle.call_history.specs.declared.desks.Desk.{Desk}
 use Rattle.call_history.specs.Clients.{Seat, seen_of, mine_of, number_of, KnowsItsOwn}
 use Rattle.call_history.specs.ClientLaws.{begins-both}
 use Rattle.attendant.specs.Acts.{Act, acts_of, own_acts}
@@ -23,9 +24,10 @@ use Rattle.notify_hub.specs.Hubs.{Following}
 use Rattle.notify_hub.specs.Places.{HavePlaces}
 use Rattle.drmaa.specs.declared.crews.Crew.{Crew}
 use Rattle.drmaa.specs.Closed.{RegistersFrom}
-use Rattle.drmaa.specs.Crews.{IsOpened, AreBack, IsLeft}
+use Rattle.drmaa.specs.Crews.{IsOpened, AreTakenBack, AreReleased, AreBack, IsLeft}
 use Rattle.drmaa.specs.Hubs.{FollowsAll, IsStillBeside, GoesOn, HaveRegistered}
 use Rattle.drmaa.specs.Pairs.{HasEnded}
+use Rattle.drmaa.proofs.Back.{are-back}
 use Rattle.drmaa.proofs.Endings.{refused-short}
 
 -- before the first round all is kept
@@ -34,33 +36,41 @@ pub record Nothing {T : Type 0} (told : T → Option Told) (at : ℕ → Option 
   pub keeps : (fate : ℕ → Fate) → Keeps told (Some []) fate [] [] at None
   pub agrees : (fate : ℕ → Fate) → AgreesOf (Some []) fate [] []
 
-module _ {B C T : Type 0} (counted : B → ℕ) (told : B → Option (List Notification)) (tells : T → Option Told) (given : C → Readings) (least : C → ℕ) (Does : List Entry → Type 0) (shared : Named Config)
-    (o p : Seat) (crew : Crew C) (opened : IsOpened shared o crew) (h0 h1 h2 h3 : Following B) (pass1 pass2 told_pass pass3 worker own : Seat) (pb pc pd last : Pair C) (count : ℕ)
+module _ {B C T : Type 0} (counted : B → ℕ) (told : B → Option (List Notification)) (tells : T → Option Told) (given : C → Readings) (least : C → ℕ) (Does : List (Desk C) → Type 0) (shared : Named Config) (clients : ℕ)
+    (o o1 p : Seat) (crew : Crew C) (opened : IsOpened given shared o clients crew) (some : 1 ≤ clients) (h0 h1 h2 h3 : Following B) (pass1 pass2 told_pass pass3 back_launcher : Seat) (desks : List (Desk C)) (pb pc pd last : Pair C) (count : ℕ)
     (asked asked1 asked2 : Option (List Asked)) (fate fate1 fate2 : ℕ → Fate) (at0 at1 at2 : ℕ → Option (Held T)) (hand0 hand1 hand2 : Option Hand) (before ended : Result (Unit {0}) Refusal)
     (reg : HaveRegistered counted told shared h0 crew.pass.client count h1 pass1)
-    (a : HasAttended given least tells shared crew.pair pb asked asked1 fate fate1 at0 at1 hand0 hand1 before) (does : Does (mine_of worker)) (own_same : own ≡ worker) (on1 : GoesOn counted told shared h1 pass1 h2 pass2)
-    (still : IsStillBeside shared pb.launcher pc.launcher) (knows : KnowsItsOwn pc.launcher) (from_own : BeginsWith (seen_of pc.launcher) (seen_of worker)) (pass_same : told_pass ≡ pass2) (from_pass : BeginsWith (seen_of pc.launcher) (seen_of pass2))
+    (a : HasAttended given least tells shared crew.pair pb asked asked1 fate fate1 at0 at1 hand0 hand1 before) (does : Does desks) (many : length desks ≡ clients) (on1 : GoesOn counted told shared h1 pass1 h2 pass2)
+    (taken : AreTakenBack shared o o1 pb.launcher back_launcher desks) (still : IsStillBeside shared back_launcher pc.launcher) (knows : KnowsItsOwn pc.launcher) (pass_same : told_pass ≡ pass2) (from_pass : BeginsWith (seen_of pc.launcher) (seen_of pass2))
     (same : pc.reaping ≡ pb.reaping) (e : HasEnded given least tells shared pc pd asked1 asked2 fate1 fate2 at1 at2 hand1 hand2 before ended)
     (on_last : GoesOn counted told shared h2 told_pass h3 pass3) (follows : FollowsAll shared (seen_of pass3) h3) (from_l : BeginsWith (seen_of pass3) (seen_of pd.launcher)) (from_r : BeginsWith (seen_of pass3) (seen_of pd.reaping))
-    (pair_same : last ≡ pd) (back_last : AreBack shared p own last.launcher last.reaping pass3) (start : Nothing tells at0) (no_hand : hand0 ≡ None) where
+    (pair_same : last ≡ pd) (released_last : AreReleased shared o1 p last.launcher last.reaping pass3) (start : Nothing tells at0) (no_hand : hand0 ≡ None) where
   -- ---- what stays as it was
-
-  own-does : Does (mine_of own)
-  own-does = subst (λ (x : Seat). Does (mine_of x)) (sym own_same) does
-
-  own-known : BeginsWith (seen_of pc.launcher) (seen_of own)
-  own-known = subst (λ (x : Seat). BeginsWith (seen_of pc.launcher) (seen_of x)) (sym own_same) from_own
 
   on2 : GoesOn counted told shared h2 pass2 h3 pass3
   on2 = subst (λ (x : Seat). GoesOn counted told shared h2 x h3 pass3) pass_same on_last
 
-  back : AreBack shared p own pd.launcher pd.reaping pass3
-  back = subst (λ (q : Pair C). AreBack shared p own q.launcher q.reaping pass3) pair_same back_last
+  released : AreReleased shared o1 p pd.launcher pd.reaping pass3
+  released = subst (λ (q : Pair C). AreReleased shared o1 p q.launcher q.reaping pass3) pair_same released_last
+
+  launcher-is : number_of pd.launcher ≡ 1
+  launcher-is = e.launcher.number ∙ (still.number ∙ (taken.launcher.number ∙ (a.launcher.number ∙ opened.launcher.number_is)))
+
+  reaping-is : number_of pd.reaping ≡ 2
+  reaping-is = e.reaping.number ∙ (ap (λ (x : Seat). number_of x) same ∙ (a.reaping.number ∙ opened.reaping.number_is))
+
+  early-is : number_of pass1 ≡ 3
+  early-is = reg.number_is ∙ opened.pass.number_is
+
+  back : AreBack shared p clients desks pd.launcher pd.reaping pass3
+  back = are-back shared o o1 p pb.launcher back_launcher pd.launcher pd.reaping pass3 desks clients opened.desks.out opened.desks.count some many taken
+      (begins-both (seen_of back_launcher) (seen_of pc.launcher) (seen_of pd.launcher) still.begins e.launcher.begins) released
+      launcher-is reaping-is (on2.still.number ∙ (on1.still.number ∙ early-is))
 
   -- ---- what launcher and reaper keep
 
   launcher-acts : own_acts pc.launcher ≡ own_acts pb.launcher
-  launcher-acts = ap (λ (es : List Entry). acts_of es) still.mine
+  launcher-acts = ap (λ (es : List Entry). acts_of es) (still.mine ∙ taken.launcher.mine)
 
   reaping-acts : own_acts pc.reaping ≡ own_acts pb.reaping
   reaping-acts = ap (λ (x : Seat). own_acts x) same
@@ -109,27 +119,23 @@ module _ {B C T : Type 0} (counted : B → ℕ) (told : B → Option (List Notif
       let first : HavePlaces (mine_of pass1) h1.ears.places = reg.on.placed none in
       subst (λ (es : List Entry). HavePlaces es h3.ears.places) (sym pass-mine) (subst (λ (ps : List (Option ℕ)). HavePlaces (mine_of pass1) ps) (sym (on2.kept.places ∙ on1.kept.places)) first)
 
-  launcher-all : BeginsWith (seen_of pd.launcher) (seen_of pc.launcher)
-  launcher-all = e.launcher.begins
-
-  pub left-made : IsLeft counted told tells Does shared p asked asked2 fate2 h0 h3 count ended
+  pub left-made : IsLeft counted told tells Does shared p clients asked asked2 fate2 h0 h3 count ended
   left-made = record {
-    own = own;
+    desks = desks;
     launcher = launcher_at given least shared pd;
     reaping = pd.reaping;
     early = pass1;
     pass = pass3;
     back = back;
-    does = own-does;
-    launcher_is = e.launcher.number ∙ (still.number ∙ (a.launcher.number ∙ opened.launcher.number_is));
+    does = does;
+    launcher_is = launcher-is;
     launcher_knows = e.launcher.own knows;
-    reaping_is = e.reaping.number ∙ (ap (λ (x : Seat). number_of x) same ∙ (a.reaping.number ∙ opened.reaping.number_is));
+    reaping_is = reaping-is;
     reaping_knows = e.reaping.own (subst (λ (x : Seat). KnowsItsOwn x) (sym same) (a.reaping.own opened.reaping.own));
-    early_is = reg.number_is ∙ opened.pass.number_is;
+    early_is = early-is;
     early_knows = reg.own;
     pass_mine = pass-mine;
-    from_own = begins-both (seen_of own) (seen_of pc.launcher) (seen_of pd.launcher) own-known launcher-all;
-    from_early = begins-both (seen_of pass1) (seen_of pc.launcher) (seen_of pd.launcher) (begins-both (seen_of pass1) (seen_of pass2) (seen_of pc.launcher) on1.still.begins from_pass) launcher-all;
+    from_early = begins-both (seen_of pass1) (seen_of pc.launcher) (seen_of pd.launcher) (begins-both (seen_of pass1) (seen_of pass2) (seen_of pc.launcher) on1.still.begins from_pass) e.launcher.begins;
     from_launcher = from_l;
     from_reaping = from_r;
     at = at2;

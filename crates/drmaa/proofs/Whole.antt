@@ -1,5 +1,5 @@
 -- From what all clients leave to the one history.
-use Rattle.std.proofs.Common.{◌≡◌, ℕ, zero, suc, ◌+◌, ◌-◌, ◌<◌, ◌≤◌, true, List, [], ◌∷◌, length, slice_index_or, Option, Some, None, refl, sym, ap, ◌∙◌, subst, arith}
+use Rattle.std.proofs.Common.{◌≡◌, ℕ, zero, suc, ◌+◌, ◌-◌, ◌<◌, ◌≤◌, ◌⊎◌, inl, inr, ⊎_elim, true, List, [], ◌∷◌, length, slice_index_or, Option, Some, None, refl, sym, ap, ◌∙◌, subst, arith}
 use Rattle.std.specs.Prelude.{IfSome, IsSome, Result, IsOk}
 use Rattle.child_spawner.specs.declared.fates.Asked.{Asked}
 use Rattle.child_spawner.specs.declared.fates.Fate.{Fate}
@@ -16,8 +16,9 @@ use Rattle.drmaa_model.specs.Order.{settled}
 use Rattle.drmaa_model.specs.Plan.{Plan}
 use Rattle.drmaa_model.specs.SettledLaws.{IsQuiet}
 use Rattle.drmaa_model.specs.Time.{advance, advance_plan}
-use Rattle.turn_lock.specs.Histories.{BeginsWith, left_of}
+use Rattle.turn_lock.specs.Histories.{BeginsWith}
 use Rattle.turn_lock.specs.Tokens.{Named}
+use Rattle.call_history.specs.declared.desks.Desk.{Desk}
 use Rattle.call_history.specs.Callers.{calls_of}
 use Rattle.call_history.specs.Clients.{Seat, seen_of, mine_of, number_of, retired_of}
 use Rattle.call_history.specs.ClientLaws.{begins-itself, begins-both}
@@ -31,11 +32,12 @@ use Rattle.notify_hub.specs.Ears.{HaveHeard, place_at}
 use Rattle.notify_hub.specs.Hubs.{Following, IsNoteOf, MayBe, noted}
 use Rattle.notify_hub.specs.Places.{Follows, HavePlaces, changes_of, place_of}
 use Rattle.notify_hub.specs.Places as places
-use Rattle.drmaa.specs.Closed.{RegistersFrom, IsHistory, IsAtRest, AsksAsClient, AreAsked, HaveHeardAll}
-use Rattle.drmaa.specs.Crews.{IsLeft}
-use Rattle.drmaa.proofs.Back.{Lists}
+use Rattle.drmaa.specs.Closed.{RegistersFrom, IsHistory, IsAtRest, AsksAsClient, AllAskAsClients, AreAsked, HaveHeardAll}
+use Rattle.drmaa.specs.Crews.{IsKnown, IsLeft}
+use Rattle.drmaa.specs.Works.{caller_at, HaveMade}
 use Rattle.drmaa.proofs.Beginnings.{calls-begin, begins-shorter, nothing-after}
-use Rattle.drmaa.proofs.Callers.{by-caller, are-alone, registers-aside}
+use Rattle.drmaa.proofs.Callers.{by-caller, are-alone, none-aside, registers-aside}
+use Rattle.drmaa.proofs.Places.{filled}
 
 -- what the machine that is had back says of its history
 pub record IsClosed (config : Config) (o : Seat) (history : List Entry) : Type 0 where
@@ -71,29 +73,29 @@ some-place : {B : Type 0} (config : Config) (history : List Entry) (hub : Follow
 some-place config history hub f i None at is = absurd (cc)
 some-place config history hub f i (Some p) at is = sym (f.places i p at)
 
-module _ {B T : Type 0} (counted : B → ℕ) (told : B → Option (List Notification)) (tells : T → Option Told) (Does : List Entry → Type 0) (shared : Named Config) (p : Seat)
-    (asked asked2 : Option (List Asked)) (fate : ℕ → Fate) (first hub : Following B) (count : ℕ) (ended : Result (Unit {0}) Refusal)
-    (x : IsLeft counted told tells Does shared p asked asked2 fate first hub count ended) where
-  pub none-left : left_of (retired_of p) ≡ 0
-  none-left = ap (λ (l : Lists). left_of l) x.back.retired
+-- a number is below another, or not
+either : (k n : ℕ) → (k < n) ⊎ (n ≤ k)
+either k zero = inr (omega arith)
+either zero (suc n) = inl (omega arith)
+either (suc k) (suc n) = ⊎_elim (λ (a : k < n). inl (omega arith)) (λ (a : n ≤ k). inr (omega arith)) (either k n)
 
-  module _ (history : List Entry) (laws : Laws shared.fixed) (closed : IsClosed shared.fixed p history) where
+module _ {B C T : Type 0} (counted : B → ℕ) (told : B → Option (List Notification)) (tells : T → Option Told) (Does : List (Desk C) → Type 0) (shared : Named Config) (p : Seat) (clients : ℕ)
+    (asked asked2 : Option (List Asked)) (fate : ℕ → Fate) (first hub : Following B) (count : ℕ) (ended : Result (Unit {0}) Refusal)
+    (x : IsLeft counted told tells Does shared p clients asked asked2 fate first hub count ended) where
+  module _ (some : 1 ≤ clients) (history : List Entry) (laws : Laws shared.fixed) (closed : IsClosed shared.fixed p history) where
     -- ---- the entries of each caller
 
-    pub of-own : calls_of history 0 ≡ mine_of x.own
-    of-own = closed.lists 0 (mine_of x.own) (ap (λ (l : Lists). slice_index_or l 0 None) x.back.retired)
-
     of-launcher : calls_of history 1 ≡ mine_of x.launcher.client
-    of-launcher = closed.lists 1 (mine_of x.launcher.client) (ap (λ (l : Lists). slice_index_or l 1 None) x.back.retired)
+    of-launcher = closed.lists 1 (mine_of x.launcher.client) x.back.launcher_back
 
     of-reaper : calls_of history 2 ≡ mine_of x.reaping
-    of-reaper = closed.lists 2 (mine_of x.reaping) (ap (λ (l : Lists). slice_index_or l 2 None) x.back.retired)
+    of-reaper = closed.lists 2 (mine_of x.reaping) x.back.reaping_back
 
     of-hub : calls_of history 3 ≡ mine_of x.pass
-    of-hub = closed.lists 3 (mine_of x.pass) (ap (λ (l : Lists). slice_index_or l 3 None) x.back.retired)
+    of-hub = closed.lists 3 (mine_of x.pass) x.back.pass_back
 
-    of-others : (k : ℕ) → 3 < k → calls_of history k ≡ []
-    of-others k above = closed.strangers k (let n = ap length x.back.retired in omega arith)
+    of-others : (k : ℕ) → clients + 2 < k → calls_of history k ≡ []
+    of-others k above = closed.strangers k (let n = x.back.count in omega arith)
 
     -- ---- what stands in beginnings
 
@@ -104,15 +106,24 @@ module _ {B T : Type 0} (counted : B → ℕ) (told : B → Option (List Notific
         let h = begins-shorter (calls_of top k) (calls_of seen k) (calls-begin top seen k b) in
         omega arith
 
+    -- of each of the work's clients
+    enough-of : (top : List Entry) (k : ℕ) → BeginsWith top (seen_of x.launcher.client) → ((k < 4) × (0 < k) → ⊥) → (k < length (retired_of p)) ⊎ (length (retired_of p) ≤ k) → length (calls_of history k) ≤ length (calls_of top k)
+    enough-of top k launched not (inl below) =
+        let f = filled (retired_of p) k x.back.none_out below in
+        ⊎_elim (λ (a : (k < 4) × (0 < k)). absurd (not a))
+        (λ (a : IsKnown (seen_of x.launcher.client) k f.own). enough top k k a.seen f.own (begins-both a.seen (seen_of x.launcher.client) top a.begins launched) (closed.lists k f.own f.is) a.own_is refl)
+        (x.back.known k f.own f.is)
+    enough-of top k launched not (inr beyond) = let e = ap length (closed.strangers k beyond) in omega arith
+
     -- what the launcher's client and the reaper's have seen is all
     all-within : (top : List Entry) → BeginsWith history top → BeginsWith top (seen_of x.launcher.client) → BeginsWith top (seen_of x.reaping) → history ≡ top
     all-within top within launched reaped = nothing-after history top within
         (by-caller (λ k. length (calls_of history k) ≤ length (calls_of top k))
-        (enough top 0 (number_of x.own) (seen_of x.own) (mine_of x.own) (begins-both (seen_of x.own) (seen_of x.launcher.client) top x.from_own launched) of-own x.back.own_knows x.back.own_is)
+        (enough-of top 0 launched (λ a. absurd (let h = a.1 in omega arith)) (either 0 (length (retired_of p))))
         (enough top 1 (number_of x.launcher.client) (seen_of x.launcher.client) (mine_of x.launcher.client) launched of-launcher x.launcher_knows x.launcher_is)
         (enough top 2 (number_of x.reaping) (seen_of x.reaping) (mine_of x.reaping) reaped of-reaper x.reaping_knows x.reaping_is)
         (enough top 3 (number_of x.early) (seen_of x.early) (mine_of x.early) (begins-both (seen_of x.early) (seen_of x.launcher.client) top x.from_early launched) (of-hub ∙ x.pass_mine) x.early_knows x.early_is)
-        (λ k above. let e = ap length (of-others k above) in omega arith))
+        (λ k above. enough-of top k launched (λ a. absurd (let h = a.0 in omega arith)) (either k (length (retired_of p)))))
 
     -- ---- the history
 
@@ -125,7 +136,7 @@ module _ {B T : Type 0} (counted : B → ℕ) (told : B → Option (List Notific
     numbers : RegistersFrom 1 (calls_of history 3)
     numbers = subst (RegistersFrom 1) (sym of-hub) x.numbers
 
-    pub is-history : IsHistory shared.fixed count history
+    pub is-history : IsHistory shared.fixed count clients history
     is-history = record {
       legal = closed.legal;
       launcher = launches;
@@ -137,8 +148,11 @@ module _ {B T : Type 0} (counted : B → ℕ) (told : B → Option (List Notific
       strangers = of-others;
     }
 
-    pub has-done : Does (calls_of history 0)
-    has-done = subst Does (sym of-own) x.does
+    pub have-made : HaveMade clients history x.desks
+    have-made i d below = record {
+      number = x.back.numbers i d below;
+      mine = sym (closed.lists (number_of (slice_index_or x.desks i d).client) (mine_of (slice_index_or x.desks i d).client) (x.back.back i d below));
+    }
 
     -- ---- at rest
 
@@ -169,8 +183,22 @@ module _ {B T : Type 0} (counted : B → ℕ) (told : B → Option (List Notific
     pub are-asked : asked ≡ Some [] → IfSome asked2 (AreAsked (acts_of (calls_of history 1)))
     are-asked none = asked-then asked2 (x.keeps none)
 
-    alone-all : AsksAsClient (calls_of history 0) → AreAlone 1 2 (acts_of history)
-    alone-all aside = are-alone history aside launches reports (registers-aside 1 (calls_of history 3) numbers) of-others
+    -- a client of the work, or nobody's number
+    aside-at : AllAskAsClients clients history → (n : ℕ) → (n < clients) ⊎ (clients ≤ n) → AsksAsClient (calls_of history (caller_at n))
+    aside-at aside n (inl below) = aside n below
+    aside-at aside zero (inr beyond) = absurd (let s = some in omega arith)
+    aside-at aside (suc n) (inr beyond) = none-aside (calls_of history (n + 4)) (of-others (n + 4) (omega arith))
+
+    aside-behind : AllAskAsClients clients history → (k : ℕ) → 3 < k → AsksAsClient (calls_of history k)
+    aside-behind aside (suc (suc (suc (suc n)))) above =
+        subst (λ (k : ℕ). AsksAsClient (calls_of history k)) (let z : n + 4 ≡ suc (suc (suc (suc n))) = omega arith in z) (aside-at aside (suc n) (either (suc n) clients))
+    aside-behind aside (suc (suc (suc zero))) above = absurd (omega arith)
+    aside-behind aside (suc (suc zero)) above = absurd (omega arith)
+    aside-behind aside (suc zero) above = absurd (omega arith)
+    aside-behind aside zero above = absurd (omega arith)
+
+    alone-all : AllAskAsClients clients history → AreAlone 1 2 (acts_of history)
+    alone-all aside = are-alone history (aside 0 some) launches reports (registers-aside 1 (calls_of history 3) numbers) (aside-behind aside)
 
     agreed : ((starts : List Asked) (at : ℕ → Option (Held T)) (hand : Option Hand) → AreAlone 1 2 (acts_of history) → Keeps tells (Some starts) fate (acts_of (calls_of history 1)) (acts_of (calls_of history 2)) at hand
         → AgreesOf (Some starts) fate (acts_of (calls_of history 1)) (acts_of (calls_of history 2)) → AgreesWithOutside starts fate (acts_of history))
@@ -186,7 +214,7 @@ module _ {B T : Type 0} (counted : B → ℕ) (told : B → Option (List Notific
 
     pub outside-agrees : ((starts : List Asked) (at : ℕ → Option (Held T)) (hand : Option Hand) → AreAlone 1 2 (acts_of history) → Keeps tells (Some starts) fate (acts_of (calls_of history 1)) (acts_of (calls_of history 2)) at hand
         → AgreesOf (Some starts) fate (acts_of (calls_of history 1)) (acts_of (calls_of history 2)) → AgreesWithOutside starts fate (acts_of history))
-        → asked ≡ Some [] → IsOk ended → AsksAsClient (calls_of history 0) → IfSome asked2 (λ starts. AgreesWithOutside starts fate (acts_of history))
+        → asked ≡ Some [] → IsOk ended → AllAskAsClients clients history → IfSome asked2 (λ starts. AgreesWithOutside starts fate (acts_of history))
     outside-agrees law none ok aside = agreed law (alone-all aside) asked2 (x.keeps none) (x.agrees ok none)
 
     -- ---- the callbacks

@@ -1,5 +1,5 @@
--- What a machine leaves, at which a caller worked: by its history alone. The callers are 0, the work; 1, the launcher; 2, the reaper;
--- 3, the hub. Our profile.
+-- What a machine leaves, at which a caller worked: by its history alone. The callers are 0, the work's first client; 1, the
+-- launcher; 2, the reaper; 3, the hub; and those from 4 on, where the work has more clients than one. Our profile.
 use Rattle.std.specs.Prelude.{◌≡◌, ℕ, ◌+◌, ◌<◌, true, List, [], ◌∷◌, length, map, slice_index_or, Option}
 use Rattle.std.specs.List.{AllByRecursion}
 use Rattle.child_spawner.specs.declared.fates.Asked.{Asked}
@@ -22,6 +22,7 @@ use Rattle.attendant.specs.Acts.{Act, Other, acts_of, duty_of, Each, is_launched
 use Rattle.attendant.specs.Outside.{IsLaunchersEntry, IsReapersEntry}
 use Rattle.attendant.specs.Runs.{is_ended, requests_in}
 use Rattle.notify_hub.specs.Hearing.{HasHeard}
+use Rattle.drmaa.specs.Works.{caller_at}
 
 -- why launcher and reaper are refused: for want of memory, or since the journal would have this size
 pub data IsShort (why : Refusal) : Type 0 where
@@ -38,8 +39,8 @@ abbrev pub RegistersFrom : ℕ → List Entry → Type 0
 RegistersFrom n [] = Unit {0}
 RegistersFrom n (e ∷ es) = (e.call ≡ Register) × (e.reply ≡ Callback n) × RegistersFrom (n + 1) es
 
--- One history of all callers.
-pub record IsHistory (config : Config) (callbacks : ℕ) (history : List Entry) : Type 0 where
+-- One history of all callers, of a work with so many clients.
+pub record IsHistory (config : Config) (callbacks clients : ℕ) (history : List Entry) : Type 0 where
   -- replayed on the machine that was asked for, it gives every reply
   pub legal : IsLegal config history
   -- the launcher takes launches, and reports a start right after its launch; the reaper takes orders, reports each once after it was
@@ -51,7 +52,7 @@ pub record IsHistory (config : Config) (callbacks : ℕ) (history : List Entry) 
   pub hub : RegistersFrom 1 (calls_of history 3)
   pub callbacks_are : length (calls_of history 3) ≡ callbacks
   -- nobody else has an entry
-  pub strangers : (caller : ℕ) → 3 < caller → calls_of history caller ≡ []
+  pub strangers : (caller : ℕ) → clients + 2 < caller → calls_of history caller ≡ []
 
 -- At the end no job holds slots and no order stands, and at some moment the machine would be settled.
 pub record IsAtRest (config : Config) (history : List Entry) : Type 0 where
@@ -62,6 +63,10 @@ pub record IsAtRest (config : Config) (history : List Entry) : Type 0 where
 -- none of these calls is one of the launcher's or of the reaper's
 abbrev pub AsksAsClient : List Entry → Type 0
 AsksAsClient es = AllByRecursion (λ (e : Entry). duty_of e.call ≡ Other) es
+
+-- no client of a work, of so many, made one of their calls
+abbrev pub AllAskAsClients : ℕ → List Entry → Type 0
+AllAskAsClients clients history = (place : ℕ) → place < clients → AsksAsClient (calls_of history (caller_at place))
 
 -- the launches of these entries, in order, are the job, attempt and words of each start that was asked of a spawner
 abbrev pub AreAsked : List Act → List Asked → Type 0

@@ -1,5 +1,5 @@
-pub mod Closed
 pub mod Works
+pub mod Closed
 pub mod Hubs
 pub mod Pairs
 pub mod Crews

@@ -1,54 +1,60 @@
 //! How the clients come back.
-ghost use Rattle.std.specs.Prelude.{◌≡◌, ◌∷◌, [], None};
+ghost use Rattle.std.specs.Prelude.{◌≡◌, All};
 ghost use Rattle.turn_lock.specs.Histories.{BeginsWith};
 ghost use Rattle.turn_lock.specs.Tokens.{BelongsTo, IsFree};
-ghost use Rattle.call_history.specs.Clients.{seen_of, number_of, retired_of, KnowsItsOwn};
+ghost use Rattle.call_history.specs.Clients.{seen_of, retired_of, KnowsItsOwn};
 ghost use Rattle.attendant.specs.Pairs.{ArePlaced};
-ghost use Rattle.drmaa.specs.Crews.{AreBack};
+ghost use Rattle.drmaa.specs.Crews.{AreOut, AreTakenBack, AreReleased};
 ghost use Rattle.drmaa.specs.Hubs.{IsStillBeside};
 
-use crate::passes::Seated;
 use attendant::Pair;
-use call_history::{Client, MachineOpener, SharedMachine};
+use call_history::{Client, Desk, MachineOpener, SharedMachine};
+use drmaa_types::Clock;
 
-/// Lets the launcher's client know what those of the work and of the hub have seen.
-pub(crate) fn tell_launcher(
+/// Takes the clients of a work's desks back, after the launcher's has been told what each had seen.
+pub(crate) fn take_back<C: Clock + Drop>(
     shared: &SharedMachine,
-    own: &mut Client,
-    pass: &mut Client,
+    opener: &mut MachineOpener,
     launcher: &mut Client,
+    desks: Vec<Desk<C>>,
 )
-    requires own { IsFree shared.now own.old }
+    requires opener { BelongsTo shared.now opener.old }
+    requires out { AreOut (retired_of opener.old) }
+    requires launcher { IsFree shared.now launcher.old }
+    requires each { All (λ d. IsFree shared.now d.client) desks.items }
+    ensures { AreTakenBack shared.now opener.old opener.new launcher.old launcher.new desks.entry.items }
+{
+    for desk in desks {
+        let Desk { client, .. } = desk;
+        let mut client = client;
+        shared.hand_over(&mut client, launcher);
+        shared.retire(opener, client);
+    }
+}
+
+/// Lets the launcher's client know what the hub's has seen.
+pub(crate) fn tell_launcher(shared: &SharedMachine, pass: &mut Client, launcher: &mut Client)
     requires pass { IsFree shared.now pass.old }
     requires launcher { IsFree shared.now launcher.old }
-    ensures own { own.new ≡ own.old }
     ensures pass { pass.new ≡ pass.old }
     ensures still { IsStillBeside shared.now launcher.old launcher.new }
     ensures knows { KnowsItsOwn launcher.new }
-    ensures from_own { BeginsWith (seen_of launcher.new) (seen_of own.old) }
     ensures from_pass { BeginsWith (seen_of launcher.new) (seen_of pass.old) }
 {
-    shared.hand_over(own, launcher);
     shared.hand_over(pass, launcher);
 }
 
-/// Takes all clients back.
+/// Takes the clients of launcher, reaper and hub back.
 pub(crate) fn release<C: Drop>(
     shared: &SharedMachine,
     opener: &mut MachineOpener,
-    own: Client,
     pair: Pair<C>,
     pass: Client,
 )
     requires opener { BelongsTo shared.now opener.old }
-    requires out { retired_of opener.old ≡ None ∷ None ∷ None ∷ None ∷ [] }
-    requires own { IsFree shared.now own }
     requires pair { ArePlaced shared.now pair }
     requires pass { IsFree shared.now pass }
-    requires launcher { number_of pair.launcher ≡ 1 }
-    requires reaping { number_of pair.reaping ≡ 2 }
-    requires hub { number_of pass ≡ 3 }
-    ensures { AreBack shared.now opener.new own pair.launcher pair.reaping pass }
+    ensures { AreReleased shared.now opener.old opener.new pair.launcher pair.reaping pass }
 {
     let Pair {
         launcher,
@@ -56,7 +62,6 @@ pub(crate) fn release<C: Drop>(
         reaping,
         reaping_clock: _,
     } = pair;
-    shared.retire(opener, own);
     shared.retire(opener, launcher);
     shared.retire(opener, reaping);
     shared.retire(opener, pass);

@@ -8,6 +8,7 @@ mod local;
 mod machines;
 mod pairs;
 mod passes;
+mod seats;
 mod works;
 
 pub use call_history::{Bell, Call, Config, Desk, Entry, Machine, Reply};
@@ -18,13 +19,13 @@ pub use client_sessions::{
 };
 pub use drmaa_types::{
     ArrayId, Attribute, Bytes, CallersClock, Capability, Clock, Clocks, Exit, IdList, InfoList,
-    JobFilter, JobId, JobInfo, JobState, Limit, ListOf, MachineInfo, Moment, Notification,
+    JobFilter, JobId, JobInfo, JobState, Limit, ListOf, MachineInfo, Moment, Note, Notification,
     QueueList, QueueSpec, Refusal, ReservationId, ReservationInfo, ReservationList, Reserved,
     SessionId, Shared, StepClock, Text, TextList, Timeout, Which, are_queues,
 };
 pub use job_template::{JobTemplate, ReservationTemplate, Start};
 pub use journal_text::{journal_bytes, print_journal};
-pub use local::{plain_config, with_local_machine};
-pub use machines::{Ended, with_machine};
+pub use local::{plain_config, with_local_clients, with_local_machine};
+pub use machines::{Ended, with_clients, with_machine};
 pub use notify_hub::{Callback, Callbacks, ClosureCallback, MemoryCallback};
 pub use system_clock::{SystemClock, SystemClocks};

@@ -1,29 +1,28 @@
 //! A machine with its launcher, reaper and hub, at which a caller works.
-ghost use Rattle.std.specs.Prelude.{◌≡◌, ◌∷◌, ◌<◌, ◌≤◌, ◌^◌, [], ℕ, List, length, None, Some, true, IfOk, IfErr, IfSome, IsOk, OnOk};
+ghost use Rattle.std.specs.Prelude.{◌≡◌, ◌<◌, ◌≤◌, ◌^◌, [], length, None, Some, true, IfOk, IfErr, IfSome, IsOk, slice_index_or};
 ghost use Rattle.slab.specs.Slab.{get};
 ghost use Rattle.drmaa_types.specs.Queues.{are_queues};
-ghost use Rattle.drmaa_model.specs.History.{IsLegal};
-ghost use Rattle.turn_lock.specs.Tokens.{BelongsTo, IsFree};
+ghost use Rattle.drmaa_model.specs.declared.configs.Config.{Config};
+ghost use Rattle.turn_lock.specs.Tokens.{Named, IsFree};
 ghost use Rattle.call_history.specs.Callers.{calls_of};
-ghost use Rattle.call_history.specs.Clients.{seen_of, mine_of, retired_of};
+ghost use Rattle.call_history.specs.Clients.{mine_of};
 ghost use Rattle.attendant.specs.Acts.{acts_of};
 ghost use Rattle.attendant.specs.Whole.{AgreesWithOutside};
-ghost use Rattle.notify_hub.specs.Ears.{HaveHeard};
-ghost use Rattle.notify_hub.specs.Hubs.{IsNoteOf};
-ghost use Rattle.drmaa.specs.Closed.{IsShort, CannotBegin, IsHistory, IsAtRest, AsksAsClient, AreAsked, HaveHeardAll};
+ghost use Rattle.drmaa.specs.Closed.{IsShort, CannotBegin, IsHistory, IsAtRest, AsksAsClient, AllAskAsClients, AreAsked, HaveHeardAll};
 ghost use Rattle.drmaa.specs.Crews.{IsOpened, IsLeft};
-ghost use Rattle.drmaa.specs.Works.{Begins};
+ghost use Rattle.drmaa.specs.Works.{Begins, IsUnread, AreLent, AreLeft, HaveMade};
 
-use crate::crews::{Crew, open_crew, work_beside};
-use crate::ends::{release, tell_launcher};
+use crate::crews::{Crew, work_beside};
+use crate::ends::{release, take_back, tell_launcher};
 use crate::pairs::attend_last;
-use crate::passes::{Seated, pump_last, register_all};
-use crate::works::Worked;
+use crate::passes::{pump_last, register_all};
+use crate::seats::open_crew;
+use crate::works::work_at_first;
 use attendant::{Attended, Reaper, nothing_is_kept, the_outside_agrees};
 use call_history::{Bell, Client, Config, Desk, Machine, MachineOpener, SharedMachine};
 use child_spawner::Spawner;
 use drmaa_model::{a_legal_history_leads_to_a_consistent_world, a_settled_plan_is_quiet};
-use drmaa_types::{Clocks, Refusal};
+use drmaa_types::{Clock, Clocks, Refusal};
 use notify_hub::{Callback, Callbacks, Hub};
 use std::alloc::Global;
 use std::marker::PhantomData;
@@ -60,85 +59,162 @@ struct Left<T> {
 /// What registering a callback is refused with.
 fn run_crew<
     R: Threads + Wait + Pause + Sync,
-    K: Clocks,
+    C: Clock + Send + Drop,
     S: Spawner + Send,
     B: Callback + Send,
     T: Drop,
-    F: FnOnce(&mut Desk<K::One>) -> T + Drop,
+    F: FnOnce(&mut [Desk<C>]) -> T + Drop,
 >(
     rt: &R,
     alloc: Global,
     shared: &SharedMachine,
+    bell: &Bell,
     opener: &mut MachineOpener,
-    crew: Crew<K::One>,
+    crew: Crew<C>,
     spawner: &mut S,
     hub: &mut Hub<B>,
     count: usize,
     work: F,
 ) -> Result<Left<T>, Refusal>
-    requires opened { IsOpened shared.now opener.old crew }
+    requires opened { IsOpened C.given shared.now opener.old (length crew.desks.items) crew }
+    requires some { 1 ≤ length crew.desks.items }
     requires new { hub.old.note ≡ None }
     requires size { shared.now.fixed.journal < 2 ^ 64 }
-    requires callable { (x : _) → Begins x.now.shared.now x.now.client → F.pre work x }
-    requires leaves { (x : _) (r : _) (y : _) → Begins x.now.shared.now x.now.client → F.post work x r y → IsFree x.now.shared.now y.now.client }
+    requires callable { (x : _) → AreLent C.given shared.now (length crew.desks.items) x.now → F.pre work x }
+    requires leaves { (x : _) (r : _) (y : _) → AreLent C.given shared.now (length crew.desks.items) x.now → F.post work x r y → AreLeft x.now y.now }
     ensures fates { S.fate spawner.new ≡ S.fate spawner.old }
     ensures left { IfOk result (λ left. IsLeft B.counted B.told S.One.told
-        (λ entries. (x : _) × (y : _) × F.post work x left.value y × Begins x.now.shared.now x.now.client × (x.now.shared.now ≡ shared.now) × (mine_of y.now.client ≡ entries)) shared.now opener.new
+        (λ desks. (x : _) × (y : _) × F.post work x left.value y × AreLent C.given shared.now (length crew.entry.desks.items) x.now × (y.now ≡ desks)) shared.now opener.new (length crew.entry.desks.items)
         (S.asked spawner.old) (S.asked spawner.new) (S.fate spawner.new) hub.old hub.new count left.attended) }
     ensures err { IfErr result CannotBegin }
 {
     let Crew {
-        own,
+        mut desks,
         pair,
         mut pass,
     } = crew;
     register_all(rt, shared, hub, &mut pass, count)?;
-    let bell = Bell::new();
     let mut reaper = Reaper::new(alloc);
-    let (attended, worked) = work_beside(
+    let (attended, value) = work_beside(
         rt,
         shared,
-        &bell,
+        bell,
         pair,
         spawner,
         &mut reaper,
-        own,
+        &mut desks,
         work,
         hub,
         &mut pass,
     );
     let Attended { mut pair, ended } = attended;
-    let Worked { seat, value } = worked;
-    let Seated {
-        client: mut own,
-        ..
-    } = seat;
-    tell_launcher(shared, &mut own, &mut pass.client, &mut pair.launcher);
+    take_back(shared, opener, &mut pair.launcher, desks);
+    tell_launcher(shared, &mut pass.client, &mut pair.launcher);
     let Attended {
         mut pair,
         ended: attended,
-    } = attend_last(rt, shared, &bell, pair, spawner, &mut reaper, ended);
+    } = attend_last(rt, shared, bell, pair, spawner, &mut reaper, ended);
     pump_last(rt, shared, hub, &mut pair, &mut pass);
-    release(shared, opener, own, pair, pass.client);
+    release(shared, opener, pair, pass.client);
     nothing_is_kept::<S::One>();
     Ok(Left { value, attended })
 }
 
-/// Makes a machine, registers these callbacks, and calls the work with a desk of its own, in this thread; beside it launcher and reaper
-/// start the children of its jobs and report of them in a thread, and a hub hands the callbacks each change of a job's state in
-/// another. When the work is over, launcher and reaper go on until the machine is settled, or they are refused; then all clients
-/// come back, and the machine is closed. The spawner is left as it is then.
+/// Makes a machine, registers these callbacks, and calls the work with so many desks of its own, in this thread; beside it launcher and
+/// reaper start the children of its jobs and report of them in a thread, and a hub hands the callbacks each change of a job's state in
+/// another. The work may lend the desks to threads of its own, as by `thread::for_each_mut` or `join_mut`. When it is over, launcher
+/// and reaper go on until the machine is settled, or they are refused; then all clients come back, and the machine is closed. The
+/// spawner is left as it is then.
 ///
 /// Where a thread can't be started, this one does its work behind the caller's, so that a work which waits for its jobs may wait for
 /// good.
 ///
-/// The callers' numbers are: 0 the work, 1 the launcher, 2 the reaper, 3 the hub. Slots are from 1 to 65,535, and the journal size from
-/// 1 to 4,000,000. There are at most 16 queues, with distinct names of 1 to 255 bytes and limits from 1 to the slots.
+/// The callers' numbers are: 0 the work's first desk, 1 the launcher, 2 the reaper, 3 the hub, and from 4 on the work's further desks.
+/// There are from 1 to 65,535 desks. Slots are from 1 to 65,535, and the journal size from 1 to 4,000,000. There are at most 16 queues,
+/// with distinct names of 1 to 255 bytes and limits from 1 to the slots.
 ///
 /// # Errors
 ///
 /// Before the work begins: `OutOfMemory`; `OutOfResource` with the journal's size, where that has no room for the entries which
 /// register the callbacks; or `OutOfResource(callbacks)`, where there are more than 64.
+pub fn with_clients<
+    R: Threads + Wait + Pause + Sync,
+    K: Clocks,
+    S: Spawner + Send,
+    B: Callback + Send,
+    T: Drop,
+    F: FnOnce(&mut [Desk<K::One>]) -> T + Drop,
+>(
+    rt: &R,
+    alloc: Global,
+    config: Config,
+    clocks: &K,
+    spawner: &mut S,
+    callbacks: Callbacks<B>,
+    clients: u32,
+    work: F,
+) -> Result<Ended<T, B>, Refusal>
+    requires least_slots { 1 ≤ config.slots }
+    requires most_slots { config.slots ≤ 65_535 }
+    requires least_journal { 1 ≤ config.journal }
+    requires most_journal { config.journal ≤ 4_000_000 }
+    requires queues { are_queues config.slots config.queues ≡ true }
+    requires least_clients { 1 ≤ clients }
+    requires most_clients { clients ≤ 65_535 }
+    requires callable { (shared : Named Config) (x : _) → AreLent K.One.given shared clients x.now → F.pre work x }
+    requires leaves { (shared : Named Config) (x : _) (r : _) (y : _) → AreLent K.One.given shared clients x.now → F.post work x r y → AreLeft x.now y.now }
+    ensures config { IfOk result (λ ended. ended.machine.ledger.config ≡ config) }
+    ensures history { IfOk result (λ ended. IsHistory config (length callbacks) clients ended.machine.ledger.history) }
+    ensures work { IfOk result (λ ended. (shared : Named Config) × (x : _) × (y : _) × F.post work x ended.value y × AreLent K.One.given shared clients x.now ×
+        (shared.fixed ≡ config) × HaveMade clients ended.machine.ledger.history y.now) }
+    ensures rest { IfOk result (λ ended. IsOk ended.attended → IsAtRest config ended.machine.ledger.history) }
+    ensures short { IfOk result (λ ended. IfErr ended.attended IsShort) }
+    ensures asked { IfOk result (λ ended. S.asked spawner.old ≡ Some [] →
+        IfSome (S.asked spawner.new) (AreAsked (acts_of (calls_of ended.machine.ledger.history 1)))) }
+    ensures outside { IfOk result (λ ended. S.asked spawner.old ≡ Some [] → IsOk ended.attended → AllAskAsClients clients ended.machine.ledger.history →
+        IfSome (S.asked spawner.new) (λ starts. AgreesWithOutside starts (S.fate spawner.new) (acts_of ended.machine.ledger.history))) }
+    ensures heard { IfOk result (λ ended. HaveHeardAll B.counted B.told config ended.machine.ledger.history callbacks ended.callbacks) }
+    ensures fates { S.fate spawner.new ≡ S.fate spawner.old }
+    ensures err { IfErr result CannotBegin }
+{
+    a_legal_history_leads_to_a_consistent_world();
+    a_settled_plan_is_quiet();
+    the_outside_agrees::<S::One>();
+    let count = callbacks.as_slice().len();
+    let (shared, mut opener) = SharedMachine::new(alloc, config)?;
+    let Ok(mut hub) = Hub::new(alloc, callbacks) else {
+        return Err(Refusal::OutOfMemory);
+    };
+    let bell = Bell::new();
+    let Ok(crew) = open_crew(alloc, &shared, &bell, &mut opener, clocks, clients) else {
+        return Err(Refusal::OutOfMemory);
+    };
+    let Left { value, attended } = run_crew::<R, K::One, S, B, T, F>(
+        rt,
+        alloc,
+        &shared,
+        &bell,
+        &mut opener,
+        crew,
+        spawner,
+        &mut hub,
+        count,
+        work,
+    )?;
+    Ok(Ended {
+        value,
+        machine: shared.close(opener),
+        callbacks: hub.take_back(),
+        attended,
+        clients: PhantomData,
+    })
+}
+
+/// As `with_clients`, for a work that wants one desk.
+///
+/// # Errors
+///
+/// As `with_clients`.
 pub fn with_machine<
     R: Threads + Wait + Pause + Sync,
     K: Clocks,
@@ -163,9 +239,9 @@ pub fn with_machine<
     requires callable { (x : _) → Begins x.now.shared.now x.now.client → F.pre work x }
     requires leaves { (x : _) (r : _) (y : _) → Begins x.now.shared.now x.now.client → F.post work x r y → IsFree x.now.shared.now y.now.client }
     ensures config { IfOk result (λ ended. ended.machine.ledger.config ≡ config) }
-    ensures history { IfOk result (λ ended. IsHistory config (length callbacks) ended.machine.ledger.history) }
+    ensures history { IfOk result (λ ended. IsHistory config (length callbacks) 1 ended.machine.ledger.history) }
     ensures work { IfOk result (λ ended. (x : _) × (y : _) × F.post work x ended.value y × Begins x.now.shared.now x.now.client ×
-        (x.now.shared.now.fixed ≡ config) × (mine_of y.now.client ≡ calls_of ended.machine.ledger.history 0)) }
+        (x.now.shared.now.fixed ≡ config) × IsUnread K.One.given 0 x.now.clock × (mine_of y.now.client ≡ calls_of ended.machine.ledger.history 0)) }
     ensures rest { IfOk result (λ ended. IsOk ended.attended → IsAtRest config ended.machine.ledger.history) }
     ensures short { IfOk result (λ ended. IfErr ended.attended IsShort) }
     ensures asked { IfOk result (λ ended. S.asked spawner.old ≡ Some [] →
@@ -176,31 +252,22 @@ pub fn with_machine<
     ensures fates { S.fate spawner.new ≡ S.fate spawner.old }
     ensures err { IfErr result CannotBegin }
 {
-    a_legal_history_leads_to_a_consistent_world();
-    a_settled_plan_is_quiet();
-    the_outside_agrees::<S::One>();
-    let count = callbacks.as_slice().len();
-    let (shared, mut opener) = SharedMachine::new(alloc, config)?;
-    let Ok(mut hub) = Hub::new(alloc, callbacks) else {
-        return Err(Refusal::OutOfMemory);
-    };
-    let crew = open_crew(&shared, &mut opener, clocks);
-    let Left { value, attended } = run_crew::<R, K, S, B, T, F>(
+    with_clients(
         rt,
         alloc,
-        &shared,
-        &mut opener,
-        crew,
+        config,
+        clocks,
         spawner,
-        &mut hub,
-        count,
-        work,
-    )?;
-    Ok(Ended {
-        value,
-        machine: shared.close(opener),
-        callbacks: hub.take_back(),
-        attended,
-        clients: PhantomData,
-    })
+        callbacks,
+        1,
+        |desks: &mut [Desk<K::One>]| -> T
+            requires one { length desks.old ≡ 1 }
+            requires begins { (d : _) → Begins (slice_index_or desks.old 0 d).shared.now (slice_index_or desks.old 0 d).client }
+            requires callable { (x : _) → Begins x.now.shared.now x.now.client → F.pre work x }
+            requires leaves { (x : _) (r : _) (y : _) → Begins x.now.shared.now x.now.client → F.post work x r y → IsFree x.now.shared.now y.now.client }
+            ensures left { AreLeft desks.old desks.new }
+            ensures worked { (x : _) × (y : _) × F.post work x result y × Begins x.now.shared.now x.now.client ×
+                ((d : _) → x.now ≡ slice_index_or desks.old 0 d) × ((d : _) → y.now ≡ slice_index_or desks.new 0 d) }
+        { work_at_first(desks, work) },
+    )
 }

@@ -1,68 +1,42 @@
-//! The caller's work, at its desk.
-ghost use Rattle.std.specs.Prelude.{◌≡◌, IsSome, IfSome};
+//! The caller's work, at its desks.
+ghost use Rattle.std.specs.Prelude.{◌≡◌, ◌<◌, ℕ, length, IsSome, IfSome, slice_index_or};
 ghost use Rattle.turn_lock.specs.Tokens.{IsFree};
-ghost use Rattle.call_history.specs.Clients.{mine_of};
-ghost use Rattle.drmaa.specs.Works.{Begins};
+ghost use Rattle.drmaa.specs.Works.{Begins, AreLeft};
 
-use crate::passes::Seated;
 use attendant::Done;
-use call_history::{Bell, Desk, SharedMachine};
+use call_history::Desk;
 use drmaa_types::Clock;
 use std::sync::Wait;
 
-/// What the work leaves.
-#[derive(Drop)]
-pub(crate) struct Worked<C, T> {
-    pub seat: Seated<C>,
-    pub value: T,
-}
-
-/// The work at its desk.
-fn work_at<C: Clock, T, F: FnOnce(&mut Desk<C>) -> T>(
-    shared: &SharedMachine,
-    bell: &Bell,
-    seat: Seated<C>,
-    work: F,
-) -> Worked<C, T>
-    requires client { Begins shared.now seat.client }
-    requires callable { (x : _) → Begins x.now.shared.now x.now.client → F.pre work x }
-    requires leaves { (x : _) (r : _) (y : _) → Begins x.now.shared.now x.now.client → F.post work x r y → IsFree x.now.shared.now y.now.client }
-    ensures client { IsFree shared.now result.seat.client }
-    ensures worked { (x : _) × (y : _) × F.post work x result.value y × Begins x.now.shared.now x.now.client × (x.now.shared.now ≡ shared.now) × (mine_of y.now.client ≡ mine_of result.seat.client) }
-{
-    let mut desk = Desk {
-        shared,
-        client: seat.client,
-        clock: seat.clock,
-        bell,
-    };
-    let value = work(&mut desk);
-    let Desk { client, clock, .. } = desk;
-    Worked {
-        seat: Seated { client, clock },
-        value,
-    }
-}
-
-/// The same for the client and the work that are there, if they are. Then launcher, reaper and hub are told that it is over.
-pub(crate) fn work_there<R: Wait, C: Clock + Drop, T, F: FnOnce(&mut Desk<C>) -> T + Drop>(
+/// The work that is there, if it is, at its desks. Then launcher, reaper and hub are told that it is over.
+pub(crate) fn work_there<R: Wait, D, T, F: FnOnce(&mut [D]) -> T + Drop>(
     rt: &R,
-    shared: &SharedMachine,
-    bell: &Bell,
-    seat: &mut Option<Seated<C>>,
+    desks: &mut Vec<D>,
     work: &mut Option<F>,
     done: &Done,
-) -> Option<Worked<C, T>>
-    requires client { IfSome seat.old (λ s. Begins shared.now s.client) }
-    requires callable { IfSome work.old (λ f. (x : _) → Begins x.now.shared.now x.now.client → F.pre f x) }
-    requires leaves { IfSome work.old (λ f. (x : _) (r : _) (y : _) → Begins x.now.shared.now x.now.client → F.post f x r y → IsFree x.now.shared.now y.now.client) }
-    ensures some { IsSome seat.old → IsSome work.old → IsSome result }
-    ensures client { IfSome result (λ w. IsFree shared.now w.seat.client) }
-    ensures worked { IfSome result (λ w. IfSome work.old (λ f. (x : _) × (y : _) × F.post f x w.value y × Begins x.now.shared.now x.now.client × (x.now.shared.now ≡ shared.now) × (mine_of y.now.client ≡ mine_of w.seat.client))) }
+) -> Option<T>
+    requires { IfSome work.old (λ f. (x : _) → x.now ≡ desks.old.items → F.pre f x) }
+    ensures some { IsSome work.old → IsSome result }
+    ensures worked { IfSome result (λ value. IfSome work.old (λ f. (x : _) × (y : _) × F.post f x value y × (x.now ≡ desks.old.items) × (y.now ≡ desks.new.items))) }
 {
-    let seat = seat.take()?;
     let work = work.take()?;
-    let worked = work_at(shared, bell, seat, work);
+    let value = work(desks.as_mut_slice());
     done.client_ended(rt);
-    Some(worked)
+    Some(value)
+}
+
+/// A work that wants one desk, at the only one.
+pub(crate) fn work_at_first<C: Clock, T, F: FnOnce(&mut Desk<C>) -> T>(
+    desks: &mut [Desk<C>],
+    work: F,
+) -> T
+    requires one { length desks.old ≡ 1 }
+    requires begins { (d : _) → Begins (slice_index_or desks.old 0 d).shared.now (slice_index_or desks.old 0 d).client }
+    requires callable { (x : _) → Begins x.now.shared.now x.now.client → F.pre work x }
+    requires leaves { (x : _) (r : _) (y : _) → Begins x.now.shared.now x.now.client → F.post work x r y → IsFree x.now.shared.now y.now.client }
+    ensures left { AreLeft desks.old desks.new }
+    ensures worked { (x : _) × (y : _) × F.post work x result y × Begins x.now.shared.now x.now.client ×
+        ((d : _) → x.now ≡ slice_index_or desks.old 0 d) × ((d : _) → y.now ≡ slice_index_or desks.new 0 d) }
+{
+    work(&mut desks[0])
 }

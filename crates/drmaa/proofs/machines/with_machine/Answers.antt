@@ -1,55 +1,56 @@
-use Rattle.std.proofs.Common.{ℕ, length, ap, subst, ◌∙◌}
-use Rattle.drmaa_model.specs.declared.configs.Config.{Config}
+use Rattle.std.proofs.Common.{◌≡◌, ℕ, zero, suc, ◌<◌, List, ◌∙◌, sym, ap, subst, length, arith, slice_index_or}
+use Rattle.std.specs.Prelude.{Result, Ok, Err, IfOk}
+use Rattle.drmaa_model.specs.declared.entries.Entry.{Entry}
 use Rattle.turn_lock.specs.Tokens.{Named}
-use Rattle.drmaa.specs.Closed.{IsHistory, IsAtRest, HaveHeardAll}
-use Rattle.drmaa.proofs.Whole.{Laws, IsClosed, is-history, has-done, at-rest, are-asked, outside-agrees, have-heard}
+use Rattle.drmaa_model.specs.declared.configs.Config.{Config}
+use Rattle.call_history.specs.declared.desks.Desk.{Desk}
+use Rattle.call_history.specs.Callers.{calls_of}
+use Rattle.call_history.specs.Clients.{Seat, mine_of, number_of}
+use Rattle.drmaa.specs.Closed.{AsksAsClient, AllAskAsClients}
+use Rattle.drmaa.specs.Works.{caller_at, IsUnread, HasMade}
 use Rattle.drmaa.proofs.machines.with_machine.Goals as goal
 
-pub returns-clause-history : goal.returns-clause-history
-returns-clause-history g c =
-    let m = c.close.ensures in
-    let closed : IsClosed c.in_ok-shared.shared.fixed c.run_crew.new.opener c.close.result.ledger.history = record { legal = m.legal; seen = m.seen; lists = m.lists; strangers = m.strangers } in
-    let laws : Laws c.in_ok-shared.shared.fixed = record { consistent = λ es. c.a_legal_history_leads_to_a_consistent_world.ensures.consistent c.in_ok-shared.shared.fixed es; quiet = λ entry at p. c.a_settled_plan_is_quiet.ensures.before entry at p } in
-    subst (λ (n : ℕ). IsHistory c.args.config n c.close.result.ledger.history) (ap length c.as_slice-count.ensures)
-    (subst (λ (f : Config). IsHistory f (length c.as_slice-count.result.now) c.close.result.ledger.history) c.in_ok-shared.ensures.config
-    (is-history g.B.Callback.counted g.B.Callback.told g.S.One.Child.told _ c.in_ok-shared.shared c.run_crew.new.opener _ _ _ c.in-Ok.hub c.run_crew.new.hub _ _ c.in_ok-value.ensures.left c.close.result.ledger.history laws closed))
+-- what follows for each answer
+ok-on : {A E : Type 0} (P Q : A → Type 0) → ((a : A) → P a → Q a) → (r : Result A E) → IfOk r P → IfOk r Q
+ok-on P Q on (Ok a) p = on a p
+ok-on P Q on (Err e) p = tt
+
+-- the only client of a work is 0
+first-number : (n place : ℕ) → place < 1 → n ≡ caller_at place → n ≡ 0
+first-number n zero below is = is
+first-number n (suc place) below is = absurd (omega arith)
+
+first-made : (history : List Entry) (client : Seat) → HasMade 1 history client → mine_of client ≡ calls_of history 0
+first-made history client made = made.mine ∙ ap (λ (n : ℕ). calls_of history n) (first-number (number_of client) made.number.0 made.number.1 made.number.2)
+
+one-asks : (history : List Entry) → AsksAsClient (calls_of history 0) → AllAskAsClients 1 history
+one-asks history aside zero below = aside
+one-asks history aside (suc place) below = absurd (omega arith)
+
+pub with_clients-requires-clause-callable : goal.with_clients-requires-clause-callable
+with_clients-requires-clause-callable g c κs bound shared x lent = (lent.count, ((λ d. (lent.lent 0 d (omega arith)).begins), (c.requires.callable, c.requires.leaves)))
+
+pub with_clients-requires-clause-leaves : goal.with_clients-requires-clause-leaves
+with_clients-requires-clause-leaves g c κs bound shared x r y lent post = post.0
 
 pub returns-clause-work : goal.returns-clause-work
-returns-clause-work g c =
-    let m = c.close.ensures in
-    let closed : IsClosed c.in_ok-shared.shared.fixed c.run_crew.new.opener c.close.result.ledger.history = record { legal = m.legal; seen = m.seen; lists = m.lists; strangers = m.strangers } in
-    let laws : Laws c.in_ok-shared.shared.fixed = record { consistent = λ es. c.a_legal_history_leads_to_a_consistent_world.ensures.consistent c.in_ok-shared.shared.fixed es; quiet = λ entry at p. c.a_settled_plan_is_quiet.ensures.before entry at p } in
-    let d = has-done g.B.Callback.counted g.B.Callback.told g.S.One.Child.told _ c.in_ok-shared.shared c.run_crew.new.opener _ _ _ c.in-Ok.hub c.run_crew.new.hub _ _ c.in_ok-value.ensures.left c.close.result.ledger.history laws closed in
-    (d.0, d.1, d.2, d.3, ap (λ (n : Named Config). n.fixed) d.4 ∙ c.in_ok-shared.ensures.config, d.5)
-
-pub returns-clause-rest : goal.returns-clause-rest
-returns-clause-rest g c ok =
-    let m = c.close.ensures in
-    let closed : IsClosed c.in_ok-shared.shared.fixed c.run_crew.new.opener c.close.result.ledger.history = record { legal = m.legal; seen = m.seen; lists = m.lists; strangers = m.strangers } in
-    let laws : Laws c.in_ok-shared.shared.fixed = record { consistent = λ es. c.a_legal_history_leads_to_a_consistent_world.ensures.consistent c.in_ok-shared.shared.fixed es; quiet = λ entry at p. c.a_settled_plan_is_quiet.ensures.before entry at p } in
-    subst (λ (f : Config). IsAtRest f c.close.result.ledger.history) c.in_ok-shared.ensures.config
-    (at-rest g.B.Callback.counted g.B.Callback.told g.S.One.Child.told _ c.in_ok-shared.shared c.run_crew.new.opener _ _ _ c.in-Ok.hub c.run_crew.new.hub _ _ c.in_ok-value.ensures.left c.close.result.ledger.history laws closed ok)
-
-pub returns-clause-asked : goal.returns-clause-asked
-returns-clause-asked g c none =
-    let m = c.close.ensures in
-    let closed : IsClosed c.in_ok-shared.shared.fixed c.run_crew.new.opener c.close.result.ledger.history = record { legal = m.legal; seen = m.seen; lists = m.lists; strangers = m.strangers } in
-    let laws : Laws c.in_ok-shared.shared.fixed = record { consistent = λ es. c.a_legal_history_leads_to_a_consistent_world.ensures.consistent c.in_ok-shared.shared.fixed es; quiet = λ entry at p. c.a_settled_plan_is_quiet.ensures.before entry at p } in
-    are-asked g.B.Callback.counted g.B.Callback.told g.S.One.Child.told _ c.in_ok-shared.shared c.run_crew.new.opener _ _ _ c.in-Ok.hub c.run_crew.new.hub _ _ c.in_ok-value.ensures.left c.close.result.ledger.history laws closed none
+returns-clause-work g c = ok-on _ _ (λ ended d.
+    let w = d.3.1 in
+    let lent = d.4 in
+    let x = w.0.now in
+    let y = w.1.now in
+    let first = lent.lent 0 x (omega arith) in
+    let size : length d.2.now ≡ 1 = d.3.0.count ∙ lent.count in
+    let below : 0 < length d.2.now = omega arith in (
+      w.0,
+      w.1,
+      w.2,
+      w.3,
+      ap (λ (k : Desk g.row.K-One.Denot). k.shared.now.fixed) (w.4 x) ∙ (ap (λ (n : Named Config). n.fixed) (lent.shared_is 0 x (let n = lent.count in omega arith)) ∙ d.5),
+      subst (λ (k : Desk g.row.K-One.Denot). IsUnread g.K.One.Clock.given 0 k.clock) (sym (w.4 x)) first.clock,
+      ap (λ (k : Desk g.row.K-One.Denot). mine_of k.client) (w.5 y) ∙ first-made ended.machine.ledger.history (slice_index_or d.2.now 0 y).client (d.6 0 y below),
+    ))
+    c.with_clients.result c.with_clients.ensures.work
 
 pub returns-clause-outside : goal.returns-clause-outside
-returns-clause-outside g c none ok aside =
-    let m = c.close.ensures in
-    let closed : IsClosed c.in_ok-shared.shared.fixed c.run_crew.new.opener c.close.result.ledger.history = record { legal = m.legal; seen = m.seen; lists = m.lists; strangers = m.strangers } in
-    let laws : Laws c.in_ok-shared.shared.fixed = record { consistent = λ es. c.a_legal_history_leads_to_a_consistent_world.ensures.consistent c.in_ok-shared.shared.fixed es; quiet = λ entry at p. c.a_settled_plan_is_quiet.ensures.before entry at p } in
-    outside-agrees g.B.Callback.counted g.B.Callback.told g.S.One.Child.told _ c.in_ok-shared.shared c.run_crew.new.opener _ _ _ c.in-Ok.hub c.run_crew.new.hub _ _ c.in_ok-value.ensures.left c.close.result.ledger.history laws closed
-    (λ starts at hand. c.the_outside_agrees.ensures 1 2 starts (g.S.Spawner.fate c.run_crew.new.spawner) c.close.result.ledger.history at hand) none ok aside
-
-pub returns-clause-heard : goal.returns-clause-heard
-returns-clause-heard g c =
-    let m = c.close.ensures in
-    let closed : IsClosed c.in_ok-shared.shared.fixed c.run_crew.new.opener c.close.result.ledger.history = record { legal = m.legal; seen = m.seen; lists = m.lists; strangers = m.strangers } in
-    let laws : Laws c.in_ok-shared.shared.fixed = record { consistent = λ es. c.a_legal_history_leads_to_a_consistent_world.ensures.consistent c.in_ok-shared.shared.fixed es; quiet = λ entry at p. c.a_settled_plan_is_quiet.ensures.before entry at p } in
-    subst (λ (f : Config). HaveHeardAll g.B.Callback.counted g.B.Callback.told f c.close.result.ledger.history c.args.callbacks c.take_back.result) c.in_ok-shared.ensures.config
-    (have-heard g.B.Callback.counted g.B.Callback.told g.S.One.Child.told _ c.in_ok-shared.shared c.run_crew.new.opener _ _ _ c.in-Ok.hub c.run_crew.new.hub _ _ c.in_ok-value.ensures.left c.close.result.ledger.history laws closed
-    c.args.callbacks c.take_back.result (ap (λ (h : _). h.ears.begun) c.in-Ok.ensures.ok) (ap length c.as_slice-count.ensures) c.in-Ok.ensures.heard c.take_back.ensures.all)
+returns-clause-outside g c = ok-on _ _ (λ ended h none ok aside. h none ok (one-asks ended.machine.ledger.history aside)) c.with_clients.result c.with_clients.ensures.outside

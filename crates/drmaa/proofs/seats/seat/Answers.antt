@@ -1,9 +1,9 @@
 use Rattle.std.proofs.Common.{◌∷◌, [], None, length, length-append, ap, ◌∙◌, arith}
 use Rattle.call_history.specs.Clients.{retired_of}
-use Rattle.drmaa.proofs.crews.seat.Goals as goal
+use Rattle.drmaa.proofs.seats.seat.Goals as goal
 
-pub returns : goal.returns
-returns g c =
+pub returns-clause-seated : goal.returns-clause-seated
+returns-clause-seated g c =
     let o = c.open_client.ensures in
     let next = c.requires.next in
     let longer = ap length o.retired in
