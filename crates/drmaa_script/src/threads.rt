@@ -1,5 +1,5 @@
 //! The command that plays a script in threads.
-ghost use Rattle.std.specs.Prelude.{◌≡◌, ◌<◌, ◌≤◌, ◌⊎◌, ℕ, [], length, None, IfSome, IfOk, Ok};
+ghost use Rattle.std.specs.Prelude.{◌≡◌, ◌<◌, ◌≤◌, ℕ, [], length, None, IfSome, IfOk, Ok};
 ghost use Rattle.std.specs.Io.KnownBytes.{IsAtEnd};
 ghost use Rattle.drmaa_types.specs.Counts.{Rose};
 ghost use Rattle.notify_hub.specs.Ears.{HaveHeard};
@@ -164,21 +164,14 @@ fn run_to<
     ensures fault { result.status ≡ Status.WriteFault → Rose (W.faults sink.old) (W.faults sink.new) }
     ensures untouched { IsQuiet result.status → sink.new ≡ sink.old }
     ensures enough { registers_of script.now ≤ length callbacks → (Rose (W.faults sink.old) (W.faults sink.new) → ⊥) → IsRunEnd result.status }
-    ensures few { length callbacks < registers_of script.now → (result.status ≡ Status.Words) ⊎ (result.status ≡ Status.Memory) }
+    ensures few { length callbacks < registers_of script.now → result.status ≡ Status.Words }
     ensures clocks { (LeavesClocks result.status → ⊥) → result.clocks ≡ [] }
     ensures unstarted { IsUnstarted result.status → spawner.new ≡ spawner.old }
     ensures fates { S.fate spawner.new ≡ S.fate spawner.old }
     ensures kept { AreKept B.counted B.told callbacks result.callbacks }
     ensures unheard { IsUnstarted result.status → result.callbacks ≡ callbacks }
 {
-    let Ok(enough) = are_enough(script, callbacks.as_slice().len()) else {
-        return Outcome {
-            status: Status::Memory,
-            callbacks,
-            clocks: ClockList::new(alloc),
-        };
-    };
-    if !enough {
+    if !are_enough(script, callbacks.as_slice().len()) {
         return Outcome {
             status: Status::Words,
             callbacks,

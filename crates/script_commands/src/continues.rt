@@ -87,13 +87,7 @@ fn go_on<B: Callback, W: Sink>(
     ensures unheard { IsUnstarted result.status → result.callbacks ≡ callbacks }
 {
     let Continued { journal, script } = read;
-    let Ok(enough) = are_enough(&script, callbacks.as_slice().len()) else {
-        return Ended {
-            status: Status::Memory,
-            callbacks,
-        };
-    };
-    if !enough {
+    if !are_enough(&script, callbacks.as_slice().len()) {
         return Ended {
             status: Status::Words,
             callbacks,

@@ -250,13 +250,7 @@ fn play_new<B: Callback, W: Sink>(
     ensures kept { AreKept B.counted B.told callbacks result.callbacks }
     ensures unheard { IsUnstarted result.status → result.callbacks ≡ callbacks }
 {
-    let Ok(enough) = are_enough(script, callbacks.as_slice().len()) else {
-        return Ended {
-            status: Status::Memory,
-            callbacks,
-        };
-    };
-    if !enough {
+    if !are_enough(script, callbacks.as_slice().len()) {
         return Ended {
             status: Status::Words,
             callbacks,

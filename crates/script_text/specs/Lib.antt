@@ -8,6 +8,7 @@ pub mod Automaton
 pub mod NameLaws
 pub mod PackedLaws
 pub mod BlockTextLaws
+pub mod RegisterTexts
 pub mod HeaderLaws
 pub mod QueueLaws
 pub mod BlockLaws

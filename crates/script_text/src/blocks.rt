@@ -1,6 +1,8 @@
 //! The lines of a block, with the names that they bind.
 ghost use Rattle.std.specs.Prelude.{◌≡◌, ◌+◌, ◌<◌, [], ◌∷◌, ◌++◌, length, drop, Some, is_some, IfOk, option_copied, true};
 ghost use Rattle.script_lines.specs.Lines as lines;
+ghost use Rattle.script_lines.specs.declared.lines.Line.{Line};
+ghost use Rattle.script_text.specs.Follows.{is_register};
 ghost use Rattle.script_text.specs.Names as names;
 
 use crate::keyed::Keyed;
@@ -141,6 +143,14 @@ impl Block {
         ensures { IfOk result (λ line. drop place self.now ≡ line ∷ drop (place + 1) self.now) }
     {
         line_of(self.alloc, self.texts.get(place))
+    }
+
+    /// Whether the line at a place, counted from 0, registers a callback; it is looked at as it is spelled.
+    pub fn registers_at(&self, place: usize) -> bool
+        requires { place < length self.now }
+        ensures { (line : Line) × (drop place self.now ≡ line ∷ drop (place + 1) self.now) × (result ≡ is_register line) }
+    {
+        self.texts.get(place) == b"register".as_slice()
     }
 
     /// What a name is bound to by these lines.

@@ -2,7 +2,8 @@ use Rattle.std.proofs.Common.{◌≡◌, sym, ◌∙◌, subst}
 use Rattle.script_lines.specs.declared.lines.Line.{Line}
 use Rattle.script_lines.specs.declared.lines.Line.TheVariants as line
 use Rattle.block_play.specs.Played.{LeftByLine}
-use Rattle.block_play.proofs.Registered.{register-line, other-line}
+use Rattle.script_text.specs.RegisterTexts.{register-line}
+use Rattle.block_play.proofs.Registered.{other-line}
 use Rattle.block_play.proofs.registering.play_first_line.Goals as goal
 
 pub returns-then-is_register-clause-line : goal.returns-then-is_register-clause-line

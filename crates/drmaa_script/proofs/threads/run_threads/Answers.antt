@@ -28,7 +28,7 @@ pub returns-in-Ok-clause-whole : goal.returns-in-Ok-clause-whole
 returns-in-Ok-clause-whole g c = λ calm quiet.
     some_both (g.R.Source.left c.args.source.now) (λ bytes. IsScriptText mode.Threads bytes c.in-Ok.script) (λ bytes. (s : Script) → IsScriptText mode.Threads bytes s → c.in-Ok.script ≡ s) (λ bytes. RunIsWhole (length c.args.callbacks) bytes c.run_to.result.status) (λ bytes spelled only. record {
       script = λ s t few. c.run_to.ensures.enough (subst (λ (x : Script). registers_of x ≤ length c.args.callbacks) (sym (only s t)) few) quiet;
-      few = λ s t lacks. c.run_to.ensures.few (subst (λ (x : Script). length c.args.callbacks < registers_of x) (sym (only s t)) lacks);
+      few = λ s t lacks. inl (c.run_to.ensures.few (subst (λ (x : Script). length c.args.callbacks < registers_of x) (sym (only s t)) lacks));
       other = λ none. absurd (none c.in-Ok.script spelled);
     }) c.in-Ok.ensures.found c.in-Ok.ensures.only
 

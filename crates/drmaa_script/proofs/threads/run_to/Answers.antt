@@ -17,18 +17,18 @@ returns-clause-ends g c =
     let asked_after = g.S.Spawner.asked c.write_run-status.new.spawner in
     let fate = g.S.Spawner.fate c.write_run-status.new.spawner in
     let hub = c.write_run-status.new.hub in
-    let begun = c.write_run-status.ensures.begun ∙ ap (λ (h : Following g.row.B.Denot). h.ears.begun) c.in-Ok-new.ensures.ok in
+    let begun = c.write_run-status.ensures.begun ∙ ap (λ (h : Following g.row.B.Denot). h.ears.begun) c.in-Ok.ensures.ok in
     let run : List Entry → Type 0 = λ history. HearRun s.config history hub in
     let heard : List Entry → Type 0 = λ history. HearHistory g.B.Callback.counted g.B.Callback.told s.config history c.args.callbacks c.take_back.result in
     ran_heard g.K.One.Clock.given s old new asked asked_after fate c.write_run-status.result.clocks (length c.args.callbacks) run heard c.write_run-status.result.status
-    (hub_hears g.B.Callback.counted g.B.Callback.told s.config hub c.args.callbacks c.take_back.result begun (c.write_run-status.ensures.heard c.in-Ok-new.ensures.heard) c.take_back.ensures.all)
+    (hub_hears g.B.Callback.counted g.B.Callback.told s.config hub c.args.callbacks c.take_back.result begun (c.write_run-status.ensures.heard c.in-Ok.ensures.heard) c.take_back.ensures.all)
     (subst (λ (n : ℕ). RanEnds g.K.One.Clock.given s n run old new asked asked_after fate c.write_run-status.result.clocks c.write_run-status.result.status)
-    (ap (λ (h : Following g.row.B.Denot). length h.ears.begun) c.in-Ok-new.ensures.ok) c.write_run-status.ensures.ends)
+    (ap (λ (h : Following g.row.B.Denot). length h.ears.begun) c.in-Ok.ensures.ok) c.write_run-status.ensures.ends)
 
 pub returns-clause-kept : goal.returns-clause-kept
 returns-clause-kept g c =
-    let begun = c.write_run-status.ensures.begun ∙ ap (λ (h : Following g.row.B.Denot). h.ears.begun) c.in-Ok-new.ensures.ok in
-    kept_heard g.B.Callback.counted g.B.Callback.told c.write_run-status.new.hub.ears c.args.callbacks c.take_back.result (c.write_run-status.ensures.heard c.in-Ok-new.ensures.heard) begun c.take_back.ensures.callbacks
+    let begun = c.write_run-status.ensures.begun ∙ ap (λ (h : Following g.row.B.Denot). h.ears.begun) c.in-Ok.ensures.ok in
+    kept_heard g.B.Callback.counted g.B.Callback.told c.write_run-status.new.hub.ears c.args.callbacks c.take_back.result (c.write_run-status.ensures.heard c.in-Ok.ensures.heard) begun c.take_back.ensures.callbacks
 
 pub returns-clause-possible : goal.returns-clause-possible
 returns-clause-possible g c =

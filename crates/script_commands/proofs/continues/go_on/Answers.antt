@@ -10,22 +10,22 @@ use Rattle.script_commands.specs.Registers.{registers_of}
 use Rattle.script_commands.proofs.Went.{faulted, none_forged, was_played, was_refused}
 use Rattle.script_commands.proofs.continues.go_on.Goals as goal
 
-pub returns-in-Ok-machine_from-clause-whole : goal.returns-in-Ok-machine_from-clause-whole
-returns-in-Ok-machine_from-clause-whole g c = λ calm.
+pub returns-in-Ok-clause-whole : goal.returns-in-Ok-clause-whole
+returns-in-Ok-clause-whole g c = λ calm.
     let read = c.args.read in
     let n = length c.args.callbacks in
-    let enough = subst (λ (bs : List g.row.B.Denot). registers_of c.args.read.script ≤ length bs) c.as_slice.ensures (c.in-Ok.ensures.0 c.if-not-enough.false) in
+    let enough = subst (λ (bs : List g.row.B.Denot). registers_of c.args.read.script ≤ length bs) c.as_slice.ensures (c.are_enough.ensures.0 c.if-not-are_enough.false) in
     elim (c.play_to.ensures.whole calm) as (λ _. (c.play_to.result.status ≡ Memory) ⊎ Continues n read c.play_to.result.status) [
       | inl is ↦
-          inr (was_played n read c.play_to.result.status enough c.in-Ok-machine_from.ensures.legal (none_forged c.in-Ok-machine_from.machine _ c.in-Ok-machine_from.ensures.only_fault)
-          (subst (λ (l : Ledger). c.play_to.result.status ≡ ended_as (play_behind l read.script).full) c.in-Ok-machine_from.ensures.ok is))
+          inr (was_played n read c.play_to.result.status enough c.in-Ok.ensures.legal (none_forged c.in-Ok.machine _ c.in-Ok.ensures.only_fault)
+          (subst (λ (l : Ledger). c.play_to.result.status ≡ ended_as (play_behind l read.script).full) c.in-Ok.ensures.ok is))
       | inr short ↦ inl short
     ]
 
 pub returns-clause-ends : goal.returns-clause-ends
 returns-clause-ends g c =
     let old = g.W.Sink.written c.args.sink.now in
-    let enough = subst (λ (bs : List g.row.B.Denot). registers_of c.args.read.script ≤ length bs) c.as_slice.ensures (c.in-Ok.ensures.0 c.if-not-enough.false) in
+    let enough = subst (λ (bs : List g.row.B.Denot). registers_of c.args.read.script ≤ length bs) c.as_slice.ensures (c.are_enough.ensures.0 c.if-not-are_enough.false) in
     subst (ReadEnds g.B.Callback.counted g.B.Callback.told c.args.read old old c.args.callbacks c.args.callbacks) (sym c.fault_status.ensures)
     (faulted g.B.Callback.counted g.B.Callback.told c.args.read old old c.args.callbacks c.args.callbacks c.in-Err.fault enough refl
     (λ entry given machine is. c.in-Err.ensures.fault entry given machine (ap (λ (why : ReviveFault). Err why) is)))
@@ -33,6 +33,6 @@ returns-clause-ends g c =
 pub returns-clause-whole : goal.returns-clause-whole
 returns-clause-whole g c = λ calm.
     let n = length c.args.callbacks in
-    let enough = subst (λ (bs : List g.row.B.Denot). registers_of c.args.read.script ≤ length bs) c.as_slice.ensures (c.in-Ok.ensures.0 c.if-not-enough.false) in
+    let enough = subst (λ (bs : List g.row.B.Denot). registers_of c.args.read.script ≤ length bs) c.as_slice.ensures (c.are_enough.ensures.0 c.if-not-are_enough.false) in
     subst (λ (s : Status). (s ≡ Memory) ⊎ Continues n c.args.read s) (sym c.fault_status.ensures)
     (was_refused n c.args.read c.in-Err.fault enough c.in-Err.ensures.only_legal c.in-Err.ensures.only_fault)

@@ -8,13 +8,13 @@ use Rattle.script_commands.specs.Plays.{play_behind}
 use Rattle.script_commands.proofs.Kept.{same_front}
 use Rattle.script_commands.proofs.plays.play_new.Goals as goal
 
-pub returns-in-Ok-machine_for-clause-heard_front : goal.returns-in-Ok-machine_for-clause-heard_front
-returns-in-Ok-machine_for-clause-heard_front g c = λ want.
+pub returns-in-Ok-clause-heard_front : goal.returns-in-Ok-clause-heard_front
+returns-in-Ok-clause-heard_front g c = λ want.
     let s = c.args.script.now in
     let history = (serial_play s).entries in
     elim (c.play_to.ensures.heard_front want) as (λ _. HearFront g.B.Callback.counted g.B.Callback.told s.config history c.args.callbacks c.play_to.result.callbacks) [
       | inl same ↦ same_front g.B.Callback.counted g.B.Callback.told s.config history c.args.callbacks c.play_to.result.callbacks same
       | inr some ↦
           front-after-none s.config history c.args.callbacks c.play_to.result.callbacks
-          (subst (λ (l : Ledger). HearFrontAfter g.B.Callback.counted g.B.Callback.told l.config (start_of l) (play_behind l s).entries c.args.callbacks c.play_to.result.callbacks) c.in-Ok-machine_for.ensures.new some)
+          (subst (λ (l : Ledger). HearFrontAfter g.B.Callback.counted g.B.Callback.told l.config (start_of l) (play_behind l s).entries c.args.callbacks c.play_to.result.callbacks) c.in-Ok.ensures.new some)
     ]
