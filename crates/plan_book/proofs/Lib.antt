@@ -2,6 +2,7 @@ pub mod AlarmLaws
 pub mod ArrivalLaws
 pub mod FirstOrder
 pub mod Flat
+pub mod GoneLaws
 pub mod MeantLaws
 pub mod MoveLaws
 pub mod OpenLaws

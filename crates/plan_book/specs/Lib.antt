@@ -1,6 +1,8 @@
 pub mod Book
 pub mod FactLaws
 pub mod Facts
+pub mod Gone
+pub mod GoneLaws
 pub mod Meant
 pub mod MeetLaws
 pub mod Open

@@ -166,8 +166,8 @@ impl Book {
     }
 
     /// The kept jobs, in order of number.
-    pub fn rows(&self) -> &Vec<Row>
-        ensures { result.now.items ≡ (plan_of self.now).rows }
+    pub fn rows(&self) -> &[Row]
+        ensures { result.now ≡ (plan_of self.now).rows }
     {
         self.rows.list()
     }

@@ -26,6 +26,7 @@ ghost use Rattle.plan_book.specs.Texts.{IsRoomBeside};
 use crate::open_jobs::{
     greatest_under, greatest_with, greatest_without, settled_from, settled_without,
 };
+use crate::row_list::RowList;
 use crate::rows::{Places, places_within};
 use crate::spans::Spans;
 use crate::sums::{Sums, going_on, no_sums, sums_of, with_others, without_job, without_others};
@@ -34,7 +35,7 @@ use crate::targets::is_done;
 use crate::texts::{
     room_beside, room_with, room_without_done, room_without_forgotten, room_without_job, whole_room,
 };
-use crate::{arrivals, homes, passes, rows, sweeps, targets};
+use crate::{rows, targets};
 use drmaa_model::{Accepted, Course, Order, Row, Target};
 use drmaa_types::{ArrayId, Change, Control, End, JobId, Moment};
 use std::alloc::{AllocError, Global};
@@ -42,7 +43,7 @@ use std::marker::Model;
 
 /// The kept jobs with what they come to. Contracts see the vector of their rows.
 pub struct Rows {
-    list: Vec<Row>,
+    list: RowList,
     sums: Sums,
     /// The room that the text of their templates leaves of the most that all kept jobs may have. None where it passes that.
     room: Option<usize>,
@@ -85,7 +86,7 @@ impl Rows {
         ensures { result.items ≡ [] }
     {
         Rows {
-            list: Vec::new(alloc),
+            list: RowList::new(alloc),
             sums: no_sums(),
             room: whole_room(),
             settled: 0,
@@ -95,17 +96,17 @@ impl Rows {
     }
 
     /// The rows.
-    pub fn list(&self) -> &Vec<Row>
-        ensures { result.now ≡ self.now }
+    pub fn list(&self) -> &[Row]
+        ensures { result.now ≡ self.now.items }
     {
-        &self.list
+        self.list.rows()
     }
 
     /// The rows from the first on that is not over. Before it none waits or is started.
     pub fn open_rows(&self) -> &[Row]
         ensures { AreOpen self.now.items result.now }
     {
-        &self.list[self.settled..]
+        &self.list.rows()[self.settled..]
     }
 
     /// Rows among which are all that are meant: that of the job alone, which is found by halves, or those between the first and the
@@ -115,7 +116,7 @@ impl Rows {
         ensures { HasAllMeant target self.now.items result.now }
     {
         match target {
-            Target::Job(_) => targets::meant_rows(&self.list, target),
+            Target::Job(_) => targets::meant_rows(self.list.rows(), target),
             Target::Array(array) => self.rows_about(array),
         }
     }
@@ -125,7 +126,7 @@ impl Rows {
         ensures { HasAllMeant (Target.Array array) self.now.items result.now }
     {
         let places = self.places_of(array);
-        &self.list[places.from..places.until]
+        &self.list.rows()[places.from..places.until]
     }
 
     /// The places outside of which no member of the array stands.
@@ -137,10 +138,10 @@ impl Rows {
         ensures behind { NoneMeant (Target.Array array) (drop result.until self.now.items) }
     {
         match self.spans.numbers_of(array) {
-            Some(span) => places_within(&self.list, span.first, span.last),
+            Some(span) => places_within(self.list.rows(), span.first, span.last),
             None => Places {
                 from: 0,
-                until: self.list.len(),
+                until: self.list.rows().len(),
             },
         }
     }
@@ -157,7 +158,7 @@ impl Rows {
         requires { IsRising number_of self.now.items }
         ensures { option_copied result ≡ row_of job self.now.items }
     {
-        rows::row_of(&self.list, job)
+        rows::row_of(self.list.rows(), job)
     }
 
     /// The room that is promised to all jobs.
@@ -228,8 +229,8 @@ impl Rows {
         self.sums = with_others(&self.sums, &sums_of(&more[..]));
         self.room = room_with(self.room, &more);
         self.greatest = greatest_with(self.greatest, &more);
-        self.spans.put_rows(&more);
-        arrivals::append_rows(&mut self.list, more);
+        self.spans.put_rows(&more[..]);
+        self.list.append_rows(more);
     }
 
     /// Gives the row of this job another course, if the job is kept.
@@ -237,11 +238,11 @@ impl Rows {
         requires { IsRising number_of self.old.items }
         ensures { self.new.items ≡ map (with_course job course.now) self.old.items }
     {
-        match rows::place_of(&self.list, job) {
+        match rows::place_of(self.list.rows(), job) {
             Ok(place) => {
-                self.sums = going_on(&self.sums, &self.list[place].course, course);
-                self.list[place].course = *course;
-                self.settled = settled_from(&self.list, self.settled.min(place));
+                self.sums = going_on(&self.sums, &self.list.rows()[place].course, course);
+                self.list.put_course(place, course);
+                self.settled = settled_from(self.list.rows(), self.settled.min(place));
             }
             Err(_) => {}
         }
@@ -271,16 +272,11 @@ impl Rows {
         ensures orders_capacity { vec_capacity orders.new ≡ vec_capacity orders.old }
         ensures soonest { AllByRecursion (IsLeftUntil result rs.now.items) self.new.items }
     {
-        let swept = passes::sweep_rows(
-            rs,
-            &mut self.list[self.settled..],
-            changes,
-            orders,
-            moment,
-            entry,
-        );
+        let swept = self
+            .list
+            .sweep_rows(self.settled, rs, changes, orders, moment, entry);
         self.sums = swept.sums;
-        self.settled = settled_from(&self.list, self.settled);
+        self.settled = settled_from(self.list.rows(), self.settled);
         swept.soonest
     }
 
@@ -313,16 +309,12 @@ impl Rows {
         ensures { self.new.items ≡ map (control_step moment (Target.Array array) what) self.old.items }
     {
         let places = self.places_of(array);
-        let before = sums_of(&self.list[places.from..places.until]);
-        sweeps::control_rows(
-            &mut self.list[places.from..places.until],
-            moment,
-            &Target::Array(array),
-            what,
-        );
-        let after = sums_of(&self.list[places.from..places.until]);
+        let before = sums_of(&self.list.rows()[places.from..places.until]);
+        self.list
+            .control_rows(places, moment, &Target::Array(array), what);
+        let after = sums_of(&self.list.rows()[places.from..places.until]);
         self.sums = with_others(&without_others(&self.sums, &before), &after);
-        self.settled = settled_from(&self.list, self.settled);
+        self.settled = settled_from(self.list.rows(), self.settled);
     }
 
     /// Forgets the ended ones of the jobs that are meant: of one, whose row is found by halves, or of the members of an array.
@@ -341,9 +333,9 @@ impl Rows {
         requires { IsRising number_of self.old.items }
         ensures { self.new.items ≡ filter (λ (row : Row). not (is_meant (Target.Job job) row && is_done row)) self.old.items }
     {
-        match rows::place_of(&self.list, job) {
+        match rows::place_of(self.list.rows(), job) {
             Ok(place) => {
-                if is_done(&self.list[place]) {
+                if is_done(&self.list.rows()[place]) {
                     self.drop_row(place);
                 }
             }
@@ -356,13 +348,15 @@ impl Rows {
         requires { place < length self.old.items }
         ensures { self.new.items ≡ remove self.old.items place }
     {
-        let row = self.list.remove(place);
-        let known = room_without_job(self.room, &row);
+        let row = &self.list.rows()[place];
+        let known = room_without_job(self.room, row);
+        let priority = row.wants.priority;
         self.sums = without_job(&self.sums, &row.course);
-        self.room = room_beside(known, &self.list);
+        self.list.remove(place);
+        self.room = room_beside(known, self.list.rows());
         self.settled = settled_without(self.settled, place);
-        self.greatest = greatest_without(self.greatest, &row, &self.list);
-        self.spans.prune(&self.list);
+        self.greatest = greatest_without(self.greatest, priority, self.list.rows());
+        self.spans.prune(self.list.rows());
     }
 
     /// Forgets the ended members of an array. They come to nothing, so that the sums stay.
@@ -373,12 +367,13 @@ impl Rows {
     {
         let target = Target::Array(array);
         let places = self.places_of(array);
-        let known = room_without_done(self.room, &self.list[places.from..places.until], &target);
-        arrivals::drop_done(&mut self.list, &target);
-        self.room = room_beside(known, &self.list);
-        self.settled = settled_from(&self.list, self.settled.min(places.from));
-        self.greatest = greatest_under(&self.list, self.greatest);
-        self.spans.prune(&self.list);
+        let among = &self.list.rows()[places.from..places.until];
+        let known = room_without_done(self.room, among, &target);
+        self.list.drop_done(&target);
+        self.room = room_beside(known, self.list.rows());
+        self.settled = settled_from(self.list.rows(), self.settled.min(places.from));
+        self.greatest = greatest_under(self.list.rows(), self.greatest);
+        self.spans.prune(self.list.rows());
     }
 
     /// Forgets the ended jobs of a home.
@@ -386,18 +381,18 @@ impl Rows {
         requires sound { AllByRecursion (λ (row : Row). IsSound row.wants row.course) self.old.items }
         ensures { self.new.items ≡ filter (λ (row : Row). not (is_forgotten home row)) self.old.items }
     {
-        let known = room_without_forgotten(self.room, &self.list, home);
-        homes::drop_forgotten(&mut self.list, home);
-        self.room = room_beside(known, &self.list);
-        self.settled = settled_from(&self.list, 0);
-        self.greatest = greatest_under(&self.list, self.greatest);
-        self.spans.prune(&self.list);
+        let known = room_without_forgotten(self.room, self.list.rows(), home);
+        self.list.drop_forgotten(home);
+        self.room = room_beside(known, self.list.rows());
+        self.settled = settled_from(self.list.rows(), 0);
+        self.greatest = greatest_under(self.list.rows(), self.greatest);
+        self.spans.prune(self.list.rows());
     }
 
     /// The jobs of a home are left without one.
     pub(crate) fn leave_rows(&mut self, home: u64)
         ensures { self.new.items ≡ map (λ (row : Row). record row { home = left_by home row.home }) self.old.items }
     {
-        homes::leave_rows(&mut self.list, home);
+        self.list.leave_rows(home);
     }
 }

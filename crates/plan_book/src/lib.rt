@@ -19,6 +19,7 @@ mod orders;
 mod passes;
 mod reservations;
 mod rooms;
+mod row_list;
 mod rows;
 mod spans;
 pub mod states;

@@ -35,11 +35,11 @@ fn is_settled(row: &Row) -> bool
 }
 
 /// How many jobs at the front are settled, where the first `from` are.
-pub fn settled_from(rows: &Vec<Row>, from: usize) -> usize
-    requires { AreSettled from rows.now.items }
-    ensures settled { AreSettled result rows.now.items }
+pub fn settled_from(rows: &[Row], from: usize) -> usize
+    requires { AreSettled from rows.now }
+    ensures settled { AreSettled result rows.now }
     ensures more { from ≤ result }
-    ensures all { (row : Row) → result < length rows.now.items → is_settled (slice_index_or rows.now.items result row) ≡ false }
+    ensures all { (row : Row) → result < length rows.now → is_settled (slice_index_or rows.now result row) ≡ false }
 {
     let mut settled = from;
     while settled < rows.len() && is_settled(&rows[settled]) {
@@ -59,21 +59,22 @@ pub fn settled_without(settled: usize, place: usize) -> usize
     }
 }
 
-/// A priority that no job's passes, where none passes this one, once a job is forgotten. It looks at the jobs where that one had it.
-pub fn greatest_without(greatest: i32, gone: &Row, rows: &Vec<Row>) -> i32
-    requires { IsPriorityBound rows.now.items greatest }
-    ensures { IsPriorityBound rows.now.items result }
+/// A priority that no job's passes, where none passes the greatest, once a job of this priority is forgotten. It looks at the jobs where
+/// that was the greatest.
+pub fn greatest_without(greatest: i32, priority: i32, rows: &[Row]) -> i32
+    requires { IsPriorityBound rows.now greatest }
+    ensures { IsPriorityBound rows.now result }
 {
-    if gone.wants.priority < greatest {
+    if priority < greatest {
         return greatest;
     }
     greatest_under(rows, greatest)
 }
 
 /// A priority that no job's passes, where none passes this one. It goes over the jobs up to the first that has it.
-pub fn greatest_under(rows: &Vec<Row>, most: i32) -> i32
-    requires { IsPriorityBound rows.now.items most }
-    ensures { IsPriorityBound rows.now.items result }
+pub fn greatest_under(rows: &[Row], most: i32) -> i32
+    requires { IsPriorityBound rows.now most }
+    ensures { IsPriorityBound rows.now result }
 {
     let mut greatest = i32::MIN;
     for row in rows {

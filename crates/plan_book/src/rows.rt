@@ -20,18 +20,18 @@ pub struct Facts {
 }
 
 /// Where the row of this job stands. It is found by halves.
-pub fn place_of(rows: &Vec<Row>, job: JobId) -> Result<usize, usize>
-    requires rising { IsRising number_of rows.now.items }
-    ensures found { IfOk result (IsAt number_of job.0 rows.now.items) }
-    ensures absent { IfErr result (λ _. row_of job rows.now.items ≡ None) }
+pub fn place_of(rows: &[Row], job: JobId) -> Result<usize, usize>
+    requires rising { IsRising number_of rows.now }
+    ensures found { IfOk result (IsAt number_of job.0 rows.now) }
+    ensures absent { IfErr result (λ _. row_of job rows.now ≡ None) }
 {
     rows.binary_search_by_key(&job.0, |row| row.job.0)
 }
 
 /// The row of this job, if it is kept.
-pub fn row_of(rows: &Vec<Row>, job: JobId) -> Option<&Row>
-    requires { IsRising number_of rows.now.items }
-    ensures { option_copied result ≡ row_of job rows.now.items }
+pub fn row_of(rows: &[Row], job: JobId) -> Option<&Row>
+    requires { IsRising number_of rows.now }
+    ensures { option_copied result ≡ row_of job rows.now }
 {
     match place_of(rows, job) {
         Ok(place) => Some(&rows[place]),
@@ -47,12 +47,12 @@ pub struct Places {
 }
 
 /// Where the rows stand that have the numbers from the first to the last. They are found by halves.
-pub fn places_within(rows: &Vec<Row>, first: u64, last: u64) -> Places
-    requires rising { IsRising number_of rows.now.items }
+pub fn places_within(rows: &[Row], first: u64, last: u64) -> Places
+    requires rising { IsRising number_of rows.now }
     ensures order { result.from ≤ result.until }
-    ensures within { result.until ≤ length rows.now.items }
-    ensures before { AllByRecursion (λ (row : Row). row.job.0 < first) (take result.from rows.now.items) }
-    ensures behind { AllByRecursion (λ (row : Row). last < row.job.0) (drop result.until rows.now.items) }
+    ensures within { result.until ≤ length rows.now }
+    ensures before { AllByRecursion (λ (row : Row). row.job.0 < first) (take result.from rows.now) }
+    ensures behind { AllByRecursion (λ (row : Row). last < row.job.0) (drop result.until rows.now) }
 {
     let until = count_through(rows, last);
     Places {
@@ -62,18 +62,18 @@ pub fn places_within(rows: &Vec<Row>, first: u64, last: u64) -> Places
 }
 
 /// How many rows have lesser numbers.
-fn count_below(rows: &Vec<Row>, number: u64) -> usize
-    requires rising { IsRising number_of rows.now.items }
-    ensures { AllByRecursion (λ (row : Row). row.job.0 < number) (take result rows.now.items) }
+fn count_below(rows: &[Row], number: u64) -> usize
+    requires rising { IsRising number_of rows.now }
+    ensures { AllByRecursion (λ (row : Row). row.job.0 < number) (take result rows.now) }
 {
     rows.partition_point(|row| row.job.0 < number)
 }
 
 /// How many rows have this number or lesser ones.
-fn count_through(rows: &Vec<Row>, number: u64) -> usize
-    requires rising { IsRising number_of rows.now.items }
-    ensures few { result ≤ length rows.now.items }
-    ensures behind { AllByRecursion (λ (row : Row). number < row.job.0) (drop result rows.now.items) }
+fn count_through(rows: &[Row], number: u64) -> usize
+    requires rising { IsRising number_of rows.now }
+    ensures few { result ≤ length rows.now }
+    ensures behind { AllByRecursion (λ (row : Row). number < row.job.0) (drop result rows.now) }
 {
     rows.partition_point(|row| row.job.0 <= number)
 }

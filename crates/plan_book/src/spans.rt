@@ -53,11 +53,11 @@ impl Spans {
     }
 
     /// Jobs come in. Where a new span finds no memory, arrays up to its own do without.
-    pub fn put_rows(&mut self, more: &Vec<Row>)
+    pub fn put_rows(&mut self, more: &[Row])
         requires { AreOrdered self.old }
         ensures order { AreOrdered self.new }
         ensures keeps { (array job : ℕ) → IsWithin array job self.old → IsWithin array job self.new }
-        ensures members { AllByRecursion (IsSpanned self.new) more.now.items }
+        ensures members { AllByRecursion (IsSpanned self.new) more.now }
     {
         for row in more {
             self.put_row(row);
@@ -88,8 +88,8 @@ impl Spans {
     }
 
     /// The spans of these jobs alone.
-    fn count_anew(&mut self, rows: &Vec<Row>)
-        ensures { AreSpanned rows.now.items self.new }
+    fn count_anew(&mut self, rows: &[Row])
+        ensures { AreSpanned rows.now self.new }
     {
         self.list.clear();
         self.unspanned = 0;
@@ -98,9 +98,9 @@ impl Spans {
 
     /// Jobs have left: once there are more than twice as many spans as jobs, and one, they are counted anew, so that those of arrays of which
     /// no job is left don't grow without bound.
-    pub fn prune(&mut self, rows: &Vec<Row>)
-        requires { AreSpanned rows.now.items self.old }
-        ensures { AreSpanned rows.now.items self.new }
+    pub fn prune(&mut self, rows: &[Row])
+        requires { AreSpanned rows.now self.old }
+        ensures { AreSpanned rows.now self.new }
     {
         if self.list.len() / 2 > rows.len() {
             self.count_anew(rows);

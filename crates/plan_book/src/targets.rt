@@ -32,20 +32,20 @@ fn is_member(array: ArrayId, row: &Row) -> bool
 }
 
 /// Rows among which are all that are meant: that of the job alone, which is found by halves, or all rows.
-pub fn meant_rows(rows: &Vec<Row>, target: Target) -> &[Row]
-    requires rising { IsRising number_of rows.now.items }
-    ensures { HasAllMeant target rows.now.items result.now }
+pub fn meant_rows(rows: &[Row], target: Target) -> &[Row]
+    requires rising { IsRising number_of rows.now }
+    ensures { HasAllMeant target rows.now result.now }
 {
     match target {
         Target::Job(job) => row_alone(rows, job),
-        Target::Array(_) => &rows[..],
+        Target::Array(_) => rows,
     }
 }
 
 /// The row of this job alone, or none where the job isn't kept.
-fn row_alone(rows: &Vec<Row>, job: JobId) -> &[Row]
-    requires rising { IsRising number_of rows.now.items }
-    ensures { HasAllMeant (Target.Job job) rows.now.items result.now }
+fn row_alone(rows: &[Row], job: JobId) -> &[Row]
+    requires rising { IsRising number_of rows.now }
+    ensures { HasAllMeant (Target.Job job) rows.now result.now }
 {
     match place_of(rows, job) {
         Ok(place) => &rows[place..place + 1],

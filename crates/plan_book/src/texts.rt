@@ -24,8 +24,8 @@ pub fn whole_room() -> Option<usize>
 }
 
 /// The room that the templates of jobs leave. None exactly where they need more.
-fn without_rows(room: usize, rows: &Vec<Row>) -> Option<usize>
-    ensures { SomeIff result (kept_text rows.now.items ≤ room) (room - kept_text rows.now.items) }
+fn without_rows(room: usize, rows: &[Row]) -> Option<usize>
+    ensures { SomeIff result (kept_text rows.now ≤ room) (room - kept_text rows.now) }
 {
     let mut room = room;
     for row in rows {
@@ -38,7 +38,7 @@ fn without_rows(room: usize, rows: &Vec<Row>) -> Option<usize>
 pub fn room_with(room: Option<usize>, more: &Vec<Row>) -> Option<usize>
     ensures { (text : ℕ) → IsRoomBeside text room → IsRoomBeside (text + kept_text more.now.items) result }
 {
-    without_rows(room?, more)
+    without_rows(room?, &more[..])
 }
 
 /// The room once the ended ones of the jobs that are meant are forgotten, which are among these and at whose templates alone it
@@ -67,9 +67,9 @@ pub fn room_without_job(room: Option<usize>, row: &Row) -> Option<usize>
 
 /// The room once the ended jobs of a home are forgotten, at whose templates alone it looks. None where there was none: then it has
 /// to be counted anew.
-pub fn room_without_forgotten(room: Option<usize>, rows: &Vec<Row>, home: u64) -> Option<usize>
-    requires { IsRoomBeside (kept_text rows.now.items) room }
-    ensures { IfSome result (λ room. IsRoomBeside (kept_text (filter (λ (row : Row). not (is_forgotten home row)) rows.now.items)) (Some room)) }
+pub fn room_without_forgotten(room: Option<usize>, rows: &[Row], home: u64) -> Option<usize>
+    requires { IsRoomBeside (kept_text rows.now) room }
+    ensures { IfSome result (λ room. IsRoomBeside (kept_text (filter (λ (row : Row). not (is_forgotten home row)) rows.now)) (Some room)) }
 {
     let mut text = MOST_KEPT_TEXT - room?;
     for row in rows {
@@ -81,9 +81,9 @@ pub fn room_without_forgotten(room: Option<usize>, rows: &Vec<Row>, home: u64) -
 }
 
 /// The room that the kept jobs leave, which is counted where it isn't known.
-pub fn room_beside(known: Option<usize>, rows: &Vec<Row>) -> Option<usize>
-    requires { IfSome known (λ room. IsRoomBeside (kept_text rows.now.items) (Some room)) }
-    ensures { IsRoomBeside (kept_text rows.now.items) result }
+pub fn room_beside(known: Option<usize>, rows: &[Row]) -> Option<usize>
+    requires { IfSome known (λ room. IsRoomBeside (kept_text rows.now) (Some room)) }
+    ensures { IsRoomBeside (kept_text rows.now) result }
 {
     match known {
         Some(room) => Some(room),

@@ -361,7 +361,7 @@ impl Core {
     pub fn rows(&self) -> &[Row]
         ensures { result.now ≡ self.now.plan.rows }
     {
-        self.book.rows().as_slice()
+        self.book.rows()
     }
 
     /// The accepted reservations, in order of number.

@@ -39,9 +39,9 @@ fn started_then(book: &Book, at: Moment, row: &Row) -> Started
 }
 
 // The rows from this number on. They are found by halves.
-fn rows_from(rows: &Vec<Row>, from: JobId) -> &[Row]
-    requires rising { IsRising number_of rows.now.items }
-    ensures { find (λ (row : Row). is_started row.course.state) result.now ≡ started_from from.0 rows.now.items }
+fn rows_from(rows: &[Row], from: JobId) -> &[Row]
+    requires rising { IsRising number_of rows.now }
+    ensures { find (λ (row : Row). is_started row.course.state) result.now ≡ started_from from.0 rows.now }
 {
     let first = rows.partition_point(|row| row.job.0 < from.0);
     &rows[first..]
@@ -53,9 +53,9 @@ fn first_started(rows: &[Row]) -> Option<&Row>
     rows.iter().find(|row| is_started(row.course.state))
 }
 
-fn first_row(rows: &Vec<Row>, from: JobId) -> Option<&Row>
-    requires rising { IsRising number_of rows.now.items }
-    ensures { option_copied result ≡ started_from from.0 rows.now.items }
+fn first_row(rows: &[Row], from: JobId) -> Option<&Row>
+    requires rising { IsRising number_of rows.now }
+    ensures { option_copied result ≡ started_from from.0 rows.now }
 {
     first_started(rows_from(rows, from))
 }

@@ -8,7 +8,7 @@ use Rattle.plan_book.proofs.open_jobs.greatest_under.Goals as goal
 
 pub loop-row-preserved : goal.loop-row-preserved
 loop-row-preserved c =
-    let xs = c.deref-row-items.result.now in
+    let xs = c.args.rows.now in
     let i = c.loop-row.row-index in
     let row = c.row-item.result in
     let was = to_z w32 c.loop-row.greatest-bits in

@@ -8,8 +8,8 @@ use Rattle.plan_book.proofs.rows.count_below.Goals as goal
 
 pub returns : goal.returns
 returns c =
-    let xs = c.deref.result.now in
+    let xs = c.args.rows.now in
     let n = c.args.number in
-    let up = IsPartitionedBy-ltb number_of xs n (rising-by number_of xs (rw c.deref.ensures.value c.requires.rising)) in
+    let up = IsPartitionedBy-ltb number_of xs n (rising-by number_of xs c.requires.rising) in
     let point = IsPartitionPoint-from_clause (λ (row : Row). ltb row.job.0 n) xs c.partition_point.result c.partition_point.ensures.partitioned up (λ a r q k. search rules) in
-    rw (← c.deref.ensures.value) (all-taken (λ (row : Row). row.job.0 < n) xs c.partition_point.result (λ k d low within. ltb-true _ _ (point.0 k d (omega arith) low)))
+    all-taken (λ (row : Row). row.job.0 < n) xs c.partition_point.result (λ k d low within. ltb-true _ _ (point.0 k d (omega arith) low))

@@ -9,7 +9,7 @@ abbrev pub invariant-loop-row : goal.invariant-loop-row
 invariant-loop-row l =
     let leaves : Row → Bool = λ (row : Row). is_forgotten l.home row in
     record {
-      text : l.text + kept_text (filter leaves l.row-items) ≡ kept_text l.row-items + kept_text (filter leaves (drop l.row-index l.row-items));
+      text : l.text + kept_text (filter leaves l.rows) ≡ kept_text l.rows + kept_text (filter leaves (drop l.row-index l.rows));
       most : l.text ≤ 67_108_864;
-      whole : kept_text l.row-items ≤ 67_108_864;
+      whole : kept_text l.rows ≤ 67_108_864;
     }

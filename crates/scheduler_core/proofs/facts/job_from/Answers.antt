@@ -22,22 +22,20 @@ pub returns-in-Some : goal.returns-in-Some
 returns-in-Some c =
     let n = c.args.number in
     let rows = (plan_of c.args.book.now).rows in
-    let list = c.deref.result.now in
-    let same : list ≡ rows = c.deref.ensures.value ∙ c.rows-rows.ensures in
-    let same_again : c.deref-2.result.now ≡ list = c.deref-2.ensures.value ∙ sym c.deref.ensures.value in
+    let list = c.rows-rows.result.now in
+    let same : list ≡ rows = c.rows-rows.ensures in
     let rising : IsRising number_of list = subst (IsRising number_of) (sym same) c.requires.kept.fit.jobs.rising in
     let point = c.partition_point-first.ensures.partitioned (λ (row : Row). nat_lt row.job.0 n) (always_returns_same _ _ _ (λ a r f k. search (rules, of_calls))) (IsPartitionedBy-ltb number_of list n (never_falls number_of list rising)) in
-    let found = subst (λ (l : List Row). IsItemAt l c.partition_point-first.result (Some c.in-Some.row)) same_again c.in-Some.ensures.lookup in
+    let found : IsItemAt list c.partition_point-first.result (Some c.in-Some.row) = c.in-Some.ensures.lookup in
     ap (option_map (λ (row : Row). row.job)) (sym (first_is n list c.partition_point-first.result c.in-Some.row.now point found.3.0 found.1) ∙ ap (find (λ (r : Row). nat_le n r.job.0)) same)
 
 pub returns-in-None : goal.returns-in-None
 returns-in-None c =
     let n = c.args.number in
     let rows = (plan_of c.args.book.now).rows in
-    let list = c.deref.result.now in
-    let same : list ≡ rows = c.deref.ensures.value ∙ c.rows-rows.ensures in
-    let same_again : c.deref-2.result.now ≡ list = c.deref-2.ensures.value ∙ sym c.deref.ensures.value in
+    let list = c.rows-rows.result.now in
+    let same : list ≡ rows = c.rows-rows.ensures in
     let rising : IsRising number_of list = subst (IsRising number_of) (sym same) c.requires.kept.fit.jobs.rising in
     let point = c.partition_point-first.ensures.partitioned (λ (row : Row). nat_lt row.job.0 n) (always_returns_same _ _ _ (λ a r f k. search (rules, of_calls))) (IsPartitionedBy-ltb number_of list n (never_falls number_of list rising)) in
-    let past = subst (λ (l : List Row). IsItemAt l c.partition_point-first.result None) same_again c.in-None.ensures.lookup in
+    let past : IsItemAt list c.partition_point-first.result None = c.in-None.ensures.lookup in
     ap (option_map (λ (row : Row). row.job)) (sym (none_is n list c.partition_point-first.result point past.3) ∙ ap (find (λ (r : Row). nat_le n r.job.0)) same)

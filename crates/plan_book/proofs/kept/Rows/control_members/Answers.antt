@@ -1,6 +1,5 @@
 use Rattle.std.proofs.Common.{◌≡◌, ◌≤◌, ◌-◌, ◌++◌, ◌∙◌, ℕ, List, map, take, drop, length, length-take, ap, subst, sym, arith}
 use Rattle.std.specs.Global.{Vec}
-use Rattle.std.specs.Vec.{with_items}
 use Rattle.std.proofs.lemmas.List.{length-map, length-drop, take_at, drop_at}
 use Rattle.std.proofs.lemmas.List.Edits.{split_between}
 use Rattle.drmaa_types.specs.declared.states.Control.{Control}
@@ -17,7 +16,7 @@ use Rattle.plan_book.specs.Settled.{AreSettled}
 use Rattle.plan_book.specs.Spans.{AreSpanned}
 use Rattle.plan_book.specs.Sums.{AreSums, AreAmong, AreFew, with_others, without_others}
 use Rattle.plan_book.proofs.OpenLaws.{settled-step, greatest-step}
-use Rattle.plan_book.proofs.PartLaws.{written-part, step-parts, part-among, part-exchanged, few-without}
+use Rattle.plan_book.proofs.PartLaws.{step-parts, part-among, part-exchanged, few-without}
 use Rattle.plan_book.proofs.SpanLaws.{spanned-map}
 use Rattle.plan_book.proofs.SumLaws.{sums-few}
 use Rattle.plan_book.proofs.TextLaws.{same-room, text-step}
@@ -26,43 +25,33 @@ use Rattle.plan_book.proofs.kept.Rows.control_members.Goals as goal
 abbrev part : ℕ → ℕ → List Row → List Row
 part from until list = take (until - from) (drop from list)
 
-abbrev after : Vec Row → List Row → List Row → ℕ → ℕ → List Row
-after v list written from until = (with_items v (take from list ++ (written ++ drop (until - from) (drop from list)))).items
+module _ (xs : List Row) (from until : ℕ) (order : from ≤ until) (within : until ≤ length xs) where
+  split : xs ≡ take from xs ++ (part from until xs ++ drop until xs)
+  split = split_between xs from until order
 
-module _ (v : Vec Row) (from until : ℕ) (order : from ≤ until) (within : until ≤ length v.items) where
-  split : v.items ≡ take from v.items ++ (part from until v.items ++ drop until v.items)
-  split = split_between v.items from until order
-
-  module _ (sums of_part : Sums) (are : AreSums v.items sums) (list : List Row) (same : list ≡ v.items) (own : AreSums (part from until list) of_part) where
-    whole : AreSums (take from v.items ++ (part from until v.items ++ drop until v.items)) sums
+  module _ (sums of_part : Sums) (are : AreSums xs sums) (list : List Row) (same : list ≡ xs) (own : AreSums (part from until list) of_part) where
+    whole : AreSums (take from xs ++ (part from until xs ++ drop until xs)) sums
     whole = subst (λ (rows : List Row). AreSums rows sums) split are
 
-    inner : AreSums (part from until v.items) of_part
+    inner : AreSums (part from until xs) of_part
     inner = subst (λ (rows : List Row). AreSums (part from until rows) of_part) same own
 
     among : AreAmong of_part sums
-    among = part-among (take from v.items) (part from until v.items) (drop until v.items) sums of_part whole inner
+    among = part-among (take from xs) (part from until xs) (drop until xs) sums of_part whole inner
 
-    exchanged : (next : List Row) (of_next : Sums) → AreSums next of_next → AreSums (take from v.items ++ (next ++ drop until v.items)) (with_others (without_others sums of_part) of_next)
-    exchanged = part-exchanged (take from v.items) (part from until v.items) (drop until v.items) sums of_part whole inner
+    exchanged : (next : List Row) (of_next : Sums) → AreSums next of_next → AreSums (take from xs ++ (next ++ drop until xs)) (with_others (without_others sums of_part) of_next)
+    exchanged = part-exchanged (take from xs) (part from until xs) (drop until xs) sums of_part whole inner
 
-  module _ (t : Target) (moment : ℕ) (what : Control) (list written : List Row) (same : list ≡ v.items) (new : written ≡ map (control_step moment t what) (part from until list)) where
-    long : length written ≡ until - from
-    long = omega (arith, ap (λ (rows : List Row). length rows) new, length-map (part from until list) (control_step moment t what), length-take (until - from) (drop from list), length-drop from list, ap (λ (rows : List Row). length rows) same, order, within)
+  module _ (t : Target) (moment : ℕ) (what : Control) (new : List Row) (is : new ≡ take from xs ++ (map (control_step moment t what) (part from until xs) ++ drop until xs)) where
+    all : NoneMeant t (take from xs) → NoneMeant t (drop until xs) → new ≡ map (control_step moment t what) xs
+    all before behind = is ∙ step-parts moment t what xs (take from xs) (part from until xs) (drop until xs) split before behind
 
-    parts : after v list written from until ≡ take from v.items ++ (written ++ drop until v.items)
-    parts = written-part v list written from until same order within long
-
-    all : NoneMeant t (take from v.items) → NoneMeant t (drop until v.items) → after v list written from until ≡ map (control_step moment t what) v.items
-    all before behind =
-        parts ∙ ap (λ (rows : List Row). take from v.items ++ (rows ++ drop until v.items)) (new ∙ ap (λ (rows : List Row). map (control_step moment t what) (part from until rows)) same)
-        ∙ step-parts moment t what v.items (take from v.items) (part from until v.items) (drop until v.items) split before behind
-
-    then : (list' : List Row) → list' ≡ after v list written from until → part from until list' ≡ written
-    then list' is =
-        ap (part from until) (is ∙ parts)
-        ∙ ap (take (until - from)) (drop_at (take from v.items) (written ++ drop until v.items) from (omega (arith, length-take from v.items, order, within)))
-        ∙ take_at written (drop until v.items) (until - from) long
+    then : (list : List Row) → list ≡ new → part from until list ≡ map (control_step moment t what) (part from until xs)
+    then list same =
+        let next = map (control_step moment t what) (part from until xs) in
+        ap (part from until) (same ∙ is)
+        ∙ ap (take (until - from)) (drop_at (take from xs) (next ++ drop until xs) from (omega (arith, length-take from xs, order, within)))
+        ∙ take_at next (drop until xs) (until - from) (omega (arith, length-map (part from until xs) (control_step moment t what), length-take (until - from) (drop from xs), length-drop from xs, order, within))
 
 inside : (v w : Vec Row) (until : ℕ) → v ≡ w → until ≤ length w.items → until ≤ length v.items
 inside v w until same within = subst (λ (x : Vec Row). until ≤ length x.items) (sym same) within
@@ -76,8 +65,8 @@ without_others-requires c =
     let v = c.self.inside.list in
     let places = c.places_of-places in
     record {
-      among = among v places.result.from places.result.until places.ensures.order (inside v c.args.self.now places.result.until c.self.view_is places.ensures.within)
-          c.self.inside.sums c.sums_of-before.result c.self.invariant.totals c.deref.result.now c.deref.ensures.value c.sums_of-before.ensures;
+      among = among v.items places.result.from places.result.until places.ensures.order (inside v c.args.self.now places.result.until c.self.view_is places.ensures.within)
+          c.self.inside.sums c.sums_of-before.result c.self.invariant.totals c.rows.result.now c.rows.ensures c.sums_of-before.ensures;
     }
 
 pub with_others-self-inside-requires-clause-few : goal.with_others-self-inside-requires-clause-few
@@ -90,8 +79,8 @@ with_others-self-inside-requires-clause-few_others c =
     let v = c.self.inside.list in
     let places = c.places_of-places in
     let within = inside v c.args.self.now places.result.until c.self.view_is places.ensures.within in
-    let some = part places.result.from places.result.until c.deref-2.result.now in
-    sums-few some c.sums_of-after.result (omega (arith, length-take (places.result.until - places.result.from) (drop places.result.from c.deref-2.result.now), within, v.ok.0, v.ok.1, v.small)) c.sums_of-after.ensures
+    let some = part places.result.from places.result.until c.rows-2.result.now in
+    sums-few some c.sums_of-after.result (omega (arith, length-take (places.result.until - places.result.from) (drop places.result.from c.rows-2.result.now), within, v.ok.0, v.ok.1, v.small)) c.sums_of-after.ensures
 
 pub settled_from-self-inside-requires : goal.settled_from-self-inside-requires
 settled_from-self-inside-requires c =
@@ -100,13 +89,14 @@ settled_from-self-inside-requires c =
     let places = c.places_of-places in
     let none = outside t v c.args.self.now places.result.from places.result.until c.self.view_is places.ensures.before places.ensures.behind in
     subst (AreSettled c.self.inside.settled)
-    (sym (all v places.result.from places.result.until places.ensures.order (inside v c.args.self.now places.result.until c.self.view_is places.ensures.within)
-    t c.args.moment c.args.what c.deref_mut.result.now c.control_rows.new.rows c.deref_mut.ensures.value c.control_rows.ensures none.0 none.1))
+    (sym (c.rows-3.ensures ∙ all v.items places.result.from places.result.until places.ensures.order (inside v c.args.self.now places.result.until c.self.view_is places.ensures.within)
+    t c.args.moment c.args.what c.control_rows.new.self.items c.control_rows.ensures none.0 none.1))
     (settled-step c.args.moment t c.args.what v.items c.self.inside.settled c.self.invariant.settled)
 
 pub invariant_of-self : goal.invariant_of-self
 invariant_of-self c =
     let v = c.self.inside.list in
+    let xs = v.items in
     let t = target.Array c.args.array in
     let places = c.places_of-places in
     let from = places.result.from in
@@ -114,22 +104,19 @@ invariant_of-self c =
     let order = places.ensures.order in
     let within = inside v c.args.self.now until c.self.view_is places.ensures.within in
     let none = outside t v c.args.self.now from until c.self.view_is places.ensures.before places.ensures.behind in
-    let written = c.control_rows.new.rows in
-    let list = c.deref_mut.result.now in
+    let new = c.control_rows.new.self.items in
     let step = control_step c.args.moment t c.args.what in
-    let is : after v list written from until ≡ map step v.items = all v from until order within t c.args.moment c.args.what list written c.deref_mut.ensures.value c.control_rows.ensures none.0 none.1 in
-    let shape : after v list written from until ≡ take from v.items ++ (written ++ drop until v.items) = parts v from until order within t c.args.moment c.args.what list written c.deref_mut.ensures.value c.control_rows.ensures in
-    let next : part from until c.deref-2.result.now ≡ written =
-    then v from until order within t c.args.moment c.args.what list written c.deref_mut.ensures.value c.control_rows.ensures c.deref-2.result.now c.deref-2.ensures.value in
-    let new : AreSums written c.sums_of-after.result = subst (λ (rows : List Row). AreSums rows c.sums_of-after.result) next c.sums_of-after.ensures in
+    let is : new ≡ map step xs = all xs from until order within t c.args.moment c.args.what new c.control_rows.ensures none.0 none.1 in
+    let next : part from until c.rows-2.result.now ≡ map step (part from until xs) = then xs from until order within t c.args.moment c.args.what new c.control_rows.ensures c.rows-2.result.now c.rows-2.ensures in
+    let own : AreSums (map step (part from until xs)) c.sums_of-after.result = subst (λ (rows : List Row). AreSums rows c.sums_of-after.result) next c.sums_of-after.ensures in
     record {
-      totals = subst (λ (rows : List Row). AreSums rows c.with_others-self-inside.result) (sym shape)
-          (subst (λ (sums : Sums). AreSums (take from v.items ++ (written ++ drop until v.items)) sums) (sym (c.with_others-self-inside.ensures ∙ ap (λ (sums : Sums). with_others sums c.sums_of-after.result) c.without_others.ensures))
-          (exchanged v from until order within c.self.inside.sums c.sums_of-before.result c.self.invariant.totals c.deref.result.now c.deref.ensures.value c.sums_of-before.ensures written c.sums_of-after.result new));
-      settled = c.settled_from-self-inside.ensures.settled;
-      greatest = subst (λ (rows : List Row). IsPriorityBound rows c.self.inside.greatest) (sym is) (greatest-step c.args.moment t c.args.what v.items c.self.inside.greatest c.self.invariant.greatest);
-      text = same-room (kept_text v.items) (kept_text (after v list written from until)) c.self.inside.room (ap kept_text is ∙ text-step c.args.moment t c.args.what v.items) c.self.invariant.text;
-      members = subst (λ (rows : List Row). AreSpanned rows c.self.inside.spans) (sym is) (spanned-map step (control-job c.args.moment t c.args.what) (control-wants c.args.moment t c.args.what) v.items c.self.inside.spans c.self.invariant.members);
+      totals = subst (λ (rows : List Row). AreSums rows c.with_others-self-inside.result) (sym c.control_rows.ensures)
+          (subst (λ (sums : Sums). AreSums (take from xs ++ (map step (part from until xs) ++ drop until xs)) sums) (sym (c.with_others-self-inside.ensures ∙ ap (λ (sums : Sums). with_others sums c.sums_of-after.result) c.without_others.ensures))
+          (exchanged xs from until order within c.self.inside.sums c.sums_of-before.result c.self.invariant.totals c.rows.result.now c.rows.ensures c.sums_of-before.ensures (map step (part from until xs)) c.sums_of-after.result own));
+      settled = subst (AreSettled c.settled_from-self-inside.result) c.rows-3.ensures c.settled_from-self-inside.ensures.settled;
+      greatest = subst (λ (rows : List Row). IsPriorityBound rows c.self.inside.greatest) (sym is) (greatest-step c.args.moment t c.args.what xs c.self.inside.greatest c.self.invariant.greatest);
+      text = same-room (kept_text xs) (kept_text new) c.self.inside.room (ap kept_text is ∙ text-step c.args.moment t c.args.what xs) c.self.invariant.text;
+      members = subst (λ (rows : List Row). AreSpanned rows c.self.inside.spans) (sym is) (spanned-map step (control-job c.args.moment t c.args.what) (control-wants c.args.moment t c.args.what) xs c.self.inside.spans c.self.invariant.members);
     }
 
 pub returns : goal.returns
@@ -138,6 +125,6 @@ returns c =
     let t = target.Array c.args.array in
     let places = c.places_of-places in
     let none = outside t v c.args.self.now places.result.from places.result.until c.self.view_is places.ensures.before places.ensures.behind in
-    all v places.result.from places.result.until places.ensures.order (inside v c.args.self.now places.result.until c.self.view_is places.ensures.within)
-    t c.args.moment c.args.what c.deref_mut.result.now c.control_rows.new.rows c.deref_mut.ensures.value c.control_rows.ensures none.0 none.1
+    all v.items places.result.from places.result.until places.ensures.order (inside v c.args.self.now places.result.until c.self.view_is places.ensures.within)
+    t c.args.moment c.args.what c.control_rows.new.self.items c.control_rows.ensures none.0 none.1
     ∙ ap (λ (w : Vec Row). map (control_step c.args.moment t c.args.what) w.items) c.self.view_is

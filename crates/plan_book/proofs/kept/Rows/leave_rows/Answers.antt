@@ -20,6 +20,6 @@ invariant_of-self c =
       totals = subst (λ (rows : List Row). AreSums rows c.self.inside.sums) (sym c.leave_rows.ensures) (sums-map left (λ row. refl) was c.self.inside.sums c.self.invariant.totals);
       settled = subst (AreSettled c.self.inside.settled) (sym c.leave_rows.ensures) (settled-map left (λ row settled. settled) was c.self.inside.settled c.self.invariant.settled);
       greatest = subst (λ (rows : List Row). IsPriorityBound rows c.self.inside.greatest) (sym c.leave_rows.ensures) (greatest-map left (λ row. refl) was c.self.inside.greatest c.self.invariant.greatest);
-      text = same-room (kept_text was) (kept_text c.leave_rows.new.rows.items) c.self.inside.room (ap kept_text c.leave_rows.ensures ∙ text-map left (λ row. refl) was) c.self.invariant.text;
+      text = same-room (kept_text was) (kept_text c.leave_rows.new.self.items) c.self.inside.room (ap kept_text c.leave_rows.ensures ∙ text-map left (λ row. refl) was) c.self.invariant.text;
       members = subst (λ (rows : List Row). AreSpanned rows c.self.inside.spans) (sym c.leave_rows.ensures) (spanned-map left (λ row. refl) (λ row. refl) was c.self.inside.spans c.self.invariant.members);
     }

@@ -8,7 +8,7 @@ use Rattle.plan_book.proofs.kept.Rows.open_rows.Goals as goal
 
 pub returns : goal.returns
 returns c =
-    let xs = c.deref.result.now in
+    let xs = c.rows.result.now in
     let n = c.self.inside.settled in
     let rest = take (length xs - n) (drop n xs) in
-    subst (λ (v : Vec Row). AreOpen v.items rest) c.self.view_is (settled-open c.self.inside.list.items rest n (take_rest xs n ∙ ap (drop n) c.deref.ensures.value) c.self.invariant.settled)
+    subst (λ (v : Vec Row). AreOpen v.items rest) c.self.view_is (settled-open c.self.inside.list.items rest n (take_rest xs n ∙ ap (drop n) c.rows.ensures) c.self.invariant.settled)

@@ -8,5 +8,5 @@ use Rattle.plan_book.proofs.kept.Rows.rows_about.Goals as goal
 pub returns : goal.returns
 returns c =
     let places = c.places_of-places in
-    among-within (target.Array c.args.array) c.args.self.now.items c.deref.result.now places.result.from places.result.until places.ensures.order
-    (c.deref.ensures.value ∙ ap (λ (v : Vec Row). v.items) c.self.view_is) places.ensures.before places.ensures.behind
+    among-within (target.Array c.args.array) c.args.self.now.items c.rows.result.now places.result.from places.result.until places.ensures.order
+    (c.rows.ensures ∙ ap (λ (v : Vec Row). v.items) c.self.view_is) places.ensures.before places.ensures.behind

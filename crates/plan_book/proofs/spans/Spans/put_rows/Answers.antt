@@ -6,7 +6,7 @@ use Rattle.plan_book.proofs.spans.Spans.put_rows.Goals as goal
 
 pub loop-row-preserved : goal.loop-row-preserved
 loop-row-preserved c =
-    let xs = c.deref-row-items.result.now in
+    let xs = c.args.more.now in
     let i = c.loop-row.row-index in
     let was = c.loop-row.self in
     let now = c.put_row.new.self in

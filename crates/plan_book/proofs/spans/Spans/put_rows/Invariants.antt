@@ -8,5 +8,5 @@ abbrev pub invariant-loop-row : goal.invariant-loop-row
 invariant-loop-row l = record {
   order : AreOrdered l.self;
   keeps : (array job : ℕ) → IsWithin array job l.fn.self → IsWithin array job l.self;
-  members : AllByRecursion (IsSpanned l.self) (take l.row-index l.row-items);
+  members : AllByRecursion (IsSpanned l.self) (take l.row-index l.more);
 }
