@@ -1,5 +1,5 @@
 //! Lists that contracts see as lists, whatever room they have.
-ghost use Rattle.std.specs.Prelude.{◌≡◌, ◌↔◌, [], length, IsTrue};
+ghost use Rattle.std.specs.Prelude.{◌≡◌, ◌↔◌, ◌∷◌, ◌++◌, [], length, IsTrue, OnOk, OnErr};
 ghost use Rattle.std.specs.List.{slice_get};
 ghost use Rattle.std.specs.Option.{option_copied};
 ghost use Rattle.std.specs.Slice.Iter.{iter_rest};
@@ -75,11 +75,31 @@ impl<T> ListOf<T> {
         self.items.as_slice().iter()
     }
 
+    /// Where it has its memory from.
+    pub fn allocator(&self) -> Global {
+        *self.items.allocator()
+    }
+
     /// The items.
     pub fn as_slice(&self) -> &[T]
         ensures { result.now ≡ self.now }
     {
         self.items.as_slice()
+    }
+}
+
+impl<T: Drop> ListOf<T> {
+    /// Puts an item behind the others.
+    ///
+    /// # Errors
+    ///
+    /// Want of memory; the item is let go then.
+    pub fn push(&mut self, item: T) -> Result<(), AllocError>
+        ensures ok { OnOk result (self.new ≡ self.old ++ item ∷ []) }
+        ensures err { OnErr result (self.new ≡ self.old) }
+    {
+        self.items.push(item)?;
+        Ok(())
     }
 }
 

@@ -3,6 +3,7 @@ pub mod Expand
 pub mod Frames
 pub mod JobTests
 pub mod Launch
+pub mod Parts
 pub mod Same
 pub mod Texts
 pub mod Unsupported

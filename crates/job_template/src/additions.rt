@@ -1,7 +1,7 @@
-//! What the steps that make a template add to its lists, with memory from where the list has its own.
-ghost use Rattle.std.specs.Prelude.{◌≡◌, ◌++◌, ◌∷◌, [], map, IfOk};
+//! What the steps that make a template add to it, with memory from where it has its own.
+ghost use Rattle.std.specs.Prelude.{◌≡◌, ◌++◌, ◌∷◌, [], map, IfOk, OnOk};
 
-use drmaa_types::{ListOf, Text, TextList};
+use drmaa_types::{Text, TextList};
 use std::alloc::{AllocError, Global};
 
 /// The text of these characters.
@@ -11,35 +11,20 @@ pub(crate) fn text_of(alloc: Global, characters: &str) -> Result<Text, AllocErro
     Ok(Text::from_string(String::from_str(alloc, characters)?))
 }
 
-/// The list as it was, and the text of these characters.
-pub(crate) fn text_beside<T: Drop>(
-    list: ListOf<T>,
-    characters: &str,
-) -> Result<(ListOf<T>, Text), AllocError>
-    ensures { IfOk result (λ made. (made.0 ≡ list) × (made.1 ≡ characters.now)) }
+/// Puts the text of these characters behind the others.
+fn push_text(texts: &mut TextList, characters: &str) -> Result<(), AllocError>
+    ensures { OnOk result (texts.new ≡ texts.old ++ characters.now ∷ []) }
 {
-    let items = list.into_vec();
-    let text = text_of(*items.allocator(), characters)?;
-    Ok((ListOf::from_vec(items), text))
+    let text = text_of(texts.allocator(), characters)?;
+    texts.push(text)
 }
 
-/// A list with one item more, the last.
-pub(crate) fn with_last<T: Drop>(list: ListOf<T>, item: T) -> Result<ListOf<T>, AllocError>
-    ensures { IfOk result (λ longer. longer ≡ list ++ item ∷ []) }
+/// Puts these texts behind the others, in order.
+pub(crate) fn push_texts(texts: &mut TextList, words: &[&str]) -> Result<(), AllocError>
+    ensures { OnOk result (texts.new ≡ texts.old ++ map (λ word. word.now) words.now) }
 {
-    let mut items = list.into_vec();
-    items.push(item)?;
-    Ok(ListOf::from_vec(items))
-}
-
-/// Texts with these behind them, in order.
-pub(crate) fn with_texts(texts: TextList, words: &[&str]) -> Result<TextList, AllocError>
-    ensures { IfOk result (λ longer. longer ≡ texts ++ map (λ word. word.now) words.now) }
-{
-    let mut items = texts.into_vec();
     for word in words {
-        let text = text_of(*items.allocator(), word)?;
-        items.push(text)?;
+        push_text(texts, word)?;
     }
-    Ok(TextList::from_vec(items))
+    Ok(())
 }

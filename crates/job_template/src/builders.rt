@@ -2,10 +2,10 @@
 //!
 //! Each step sets one attribute of GFD.231's JobTemplate, or adds to one (`slots` sets two), and keeps the others. A step that needs memory takes it from
 //! where the template has its own; where there is none it is an `Err`, and the template is let go.
-ghost use Rattle.std.specs.Prelude.{◌≡◌, ◌++◌, ◌∷◌, [], map, Some, true, IfOk};
+ghost use Rattle.std.specs.Prelude.{◌≡◌, ◌++◌, ◌∷◌, [], map, Some, true, IfOk, OnOk};
 ghost use Rattle.job_template.specs.Blanks.{blank_template, wallclock};
 
-use crate::additions::{text_beside, text_of, with_last, with_texts};
+use crate::additions::{push_texts, text_of};
 use crate::wants::WALLCLOCK_TIME;
 use crate::{JobTemplate, LimitList, Pair, ResourceLimit};
 use drmaa_types::{ListOf, Moment, ReservationId, Text};
@@ -61,11 +61,10 @@ impl JobTemplate {
     pub fn arg(self, word: &str) -> Result<JobTemplate, AllocError>
         ensures { IfOk result (λ t. t ≡ record self { args = self.args ++ word.now ∷ [] }) }
     {
-        let (template, text) = self.with_text(word)?;
-        Ok(JobTemplate {
-            args: with_last(template.args, text)?,
-            ..template
-        })
+        let mut template = self;
+        let text = template.text(word)?;
+        template.args.push(text)?;
+        Ok(template)
     }
 
     /// Adds arguments, in order, behind those that it has (`args`).
@@ -75,10 +74,9 @@ impl JobTemplate {
     pub fn args(self, words: &[&str]) -> Result<JobTemplate, AllocError>
         ensures { IfOk result (λ t. t ≡ record self { args = self.args ++ map (λ word. word.now) words.now }) }
     {
-        Ok(JobTemplate {
-            args: with_texts(self.args, words)?,
-            ..self
-        })
+        let mut template = self;
+        push_texts(&mut template.args, words)?;
+        Ok(template)
     }
 
     /// Adds an environment variable and its value behind those that it has (`jobEnvironment`). A variable that stands
@@ -89,12 +87,11 @@ impl JobTemplate {
     pub fn env(self, name: &str, value: &str) -> Result<JobTemplate, AllocError>
         ensures { IfOk result (λ t. t ≡ record self { job_environment = self.job_environment ++ (record { name = name.now; value = value.now }) ∷ [] }) }
     {
-        let (template, name) = self.with_text(name)?;
-        let (template, value) = template.with_text(value)?;
-        Ok(JobTemplate {
-            job_environment: with_last(template.job_environment, Pair { name, value })?,
-            ..template
-        })
+        let mut template = self;
+        let name = template.text(name)?;
+        let value = template.text(value)?;
+        template.job_environment.push(Pair { name, value })?;
+        Ok(template)
     }
 
     /// Sets the job's name (`jobName`).
@@ -104,11 +101,9 @@ impl JobTemplate {
     pub fn name(self, name: &str) -> Result<JobTemplate, AllocError>
         ensures { IfOk result (λ t. t ≡ record self { job_name = Some name.now }) }
     {
-        let (template, text) = self.with_text(name)?;
-        Ok(JobTemplate {
-            job_name: Some(text),
-            ..template
-        })
+        let mut template = self;
+        template.job_name = Some(template.text(name)?);
+        Ok(template)
     }
 
     /// Sets the directory that the job runs in (`workingDirectory`).
@@ -118,11 +113,9 @@ impl JobTemplate {
     pub fn directory(self, path: &str) -> Result<JobTemplate, AllocError>
         ensures { IfOk result (λ t. t ≡ record self { working_directory = Some path.now }) }
     {
-        let (template, text) = self.with_text(path)?;
-        Ok(JobTemplate {
-            working_directory: Some(text),
-            ..template
-        })
+        let mut template = self;
+        template.working_directory = Some(template.text(path)?);
+        Ok(template)
     }
 
     /// Sets the file that its input is read from (`inputPath`).
@@ -132,11 +125,9 @@ impl JobTemplate {
     pub fn input(self, path: &str) -> Result<JobTemplate, AllocError>
         ensures { IfOk result (λ t. t ≡ record self { input_path = Some path.now }) }
     {
-        let (template, text) = self.with_text(path)?;
-        Ok(JobTemplate {
-            input_path: Some(text),
-            ..template
-        })
+        let mut template = self;
+        template.input_path = Some(template.text(path)?);
+        Ok(template)
     }
 
     /// Sets the file that its output goes to (`outputPath`).
@@ -146,11 +137,9 @@ impl JobTemplate {
     pub fn output(self, path: &str) -> Result<JobTemplate, AllocError>
         ensures { IfOk result (λ t. t ≡ record self { output_path = Some path.now }) }
     {
-        let (template, text) = self.with_text(path)?;
-        Ok(JobTemplate {
-            output_path: Some(text),
-            ..template
-        })
+        let mut template = self;
+        template.output_path = Some(template.text(path)?);
+        Ok(template)
     }
 
     /// Sets the file that its errors go to (`errorPath`); it is not used where they go to the output's file.
@@ -160,11 +149,9 @@ impl JobTemplate {
     pub fn error(self, path: &str) -> Result<JobTemplate, AllocError>
         ensures { IfOk result (λ t. t ≡ record self { error_path = Some path.now }) }
     {
-        let (template, text) = self.with_text(path)?;
-        Ok(JobTemplate {
-            error_path: Some(text),
-            ..template
-        })
+        let mut template = self;
+        template.error_path = Some(template.text(path)?);
+        Ok(template)
     }
 
     /// Names the queue that it is of (`queueName`).
@@ -174,11 +161,9 @@ impl JobTemplate {
     pub fn queue(self, name: &str) -> Result<JobTemplate, AllocError>
         ensures { IfOk result (λ t. t ≡ record self { queue_name = Some name.now }) }
     {
-        let (template, text) = self.with_text(name)?;
-        Ok(JobTemplate {
-            queue_name: Some(text),
-            ..template
-        })
+        let mut template = self;
+        template.queue_name = Some(template.text(name)?);
+        Ok(template)
     }
 
     /// Limits how many seconds a launch of it may last (`resourceLimits`, `WALLCLOCK_TIME`). A limit of 0 seconds, or a
@@ -189,30 +174,27 @@ impl JobTemplate {
     pub fn limit(self, seconds: u64) -> Result<JobTemplate, AllocError>
         ensures { IfOk result (λ t. t ≡ record self { resource_limits = self.resource_limits ++ wallclock seconds ∷ [] }) }
     {
-        Ok(JobTemplate {
-            resource_limits: with_wallclock(self.resource_limits, seconds)?,
-            ..self
-        })
+        let mut template = self;
+        push_wallclock(&mut template.resource_limits, seconds)?;
+        Ok(template)
     }
 
     /// Its errors go to the output's file (`joinFiles`).
     pub fn joined(self) -> JobTemplate
         ensures { result ≡ record self { join_files = true } }
     {
-        JobTemplate {
-            join_files: true,
-            ..self
-        }
+        let mut template = self;
+        template.join_files = true;
+        template
     }
 
     /// It is submitted as QUEUED_HELD (`submitAsHold`).
     pub fn hold(self) -> JobTemplate
         ensures { result ≡ record self { submit_as_hold = true } }
     {
-        JobTemplate {
-            submit_as_hold: true,
-            ..self
-        }
+        let mut template = self;
+        template.submit_as_hold = true;
+        template
     }
 
     /// It is queued again after exit code 99, and after a failed start of its first or second launch, where no kill was
@@ -220,83 +202,76 @@ impl JobTemplate {
     pub fn rerunnable(self) -> JobTemplate
         ensures { result ≡ record self { rerunnable = true } }
     {
-        JobTemplate {
-            rerunnable: true,
-            ..self
-        }
+        let mut template = self;
+        template.rerunnable = true;
+        template
     }
 
     /// Sets the least number of slots that it can run on and the greatest that it can use (`minSlots`, `maxSlots`).
     pub fn slots(self, min: u32, max: u32) -> JobTemplate
         ensures { result ≡ record self { min_slots = Some min; max_slots = Some max } }
     {
-        JobTemplate {
-            min_slots: Some(min),
-            max_slots: Some(max),
-            ..self
-        }
+        let mut template = self;
+        template.min_slots = Some(min);
+        template.max_slots = Some(max);
+        template
     }
 
     /// Sets its priority (`priority`): the greater is launched first.
     pub fn with_priority(self, priority: i32) -> JobTemplate
         ensures { result ≡ record self { priority = Some priority } }
     {
-        JobTemplate {
-            priority: Some(priority),
-            ..self
-        }
+        let mut template = self;
+        template.priority = Some(priority);
+        template
     }
 
     /// It runs in this reservation (`reservationId`).
     pub fn reserved(self, reservation: ReservationId) -> JobTemplate
         ensures { result ≡ record self { reservation_id = Some reservation } }
     {
-        JobTemplate {
-            reservation_id: Some(reservation),
-            ..self
-        }
+        let mut template = self;
+        template.reservation_id = Some(reservation);
+        template
     }
 
     /// It is not launched before this moment (`startTime`).
     pub fn starting(self, moment: Moment) -> JobTemplate
         ensures { result ≡ record self { start_time = Some moment } }
     {
-        JobTemplate {
-            start_time: Some(moment),
-            ..self
-        }
+        let mut template = self;
+        template.start_time = Some(moment);
+        template
     }
 
     /// It has failed where it isn't launched before this moment, and is killed where it runs then (`deadlineTime`).
     pub fn deadline(self, moment: Moment) -> JobTemplate
         ensures { result ≡ record self { deadline_time = Some moment } }
     {
-        JobTemplate {
-            deadline_time: Some(moment),
-            ..self
-        }
+        let mut template = self;
+        template.deadline_time = Some(moment);
+        template
     }
 
-    /// The template as it was, and the text of these characters.
-    fn with_text(self, characters: &str) -> Result<(JobTemplate, Text), AllocError>
-        ensures { IfOk result (λ made. (made.0 ≡ self) × (made.1 ≡ characters.now)) }
+    /// The text of these characters, with memory from where the template has its own.
+    fn text(&self, characters: &str) -> Result<Text, AllocError>
+        ensures { IfOk result (λ text. text ≡ characters.now) }
     {
-        let (args, text) = text_beside(self.args, characters)?;
-        Ok((JobTemplate { args, ..self }, text))
+        text_of(self.args.allocator(), characters)
     }
 }
 
-/// Limits, and behind them that of how many seconds a launch may last.
-fn with_wallclock(limits: LimitList, seconds: u64) -> Result<LimitList, AllocError>
-    ensures { IfOk result (λ longer. longer ≡ limits ++ wallclock seconds ∷ []) }
+/// Puts behind limits that of how many seconds a launch may last.
+fn push_wallclock(limits: &mut LimitList, seconds: u64) -> Result<(), AllocError>
+    ensures { OnOk result (limits.new ≡ limits.old ++ wallclock seconds ∷ []) }
 {
-    with_limit(limits, WALLCLOCK_TIME, seconds)
+    push_limit(limits, WALLCLOCK_TIME, seconds)
 }
 
-/// Limits, and behind them the one of this name and value.
-fn with_limit(limits: LimitList, name: &str, value: u64) -> Result<LimitList, AllocError>
-    ensures { IfOk result (λ longer. longer ≡ limits ++ (record { name = name.now; value = value }) ∷ []) }
+/// Puts behind limits the one of this name and value.
+fn push_limit(limits: &mut LimitList, name: &str, value: u64) -> Result<(), AllocError>
+    ensures { OnOk result (limits.new ≡ limits.old ++ (record { name = name.now; value = value }) ∷ []) }
 {
-    let (limits, name) = text_beside(limits, name)?;
-    with_last(limits, ResourceLimit { name, value })
+    let name = text_of(limits.allocator(), name)?;
+    limits.push(ResourceLimit { name, value })
 }

@@ -1,5 +1,6 @@
 //! Copies of templates, each equal to what it was made from.
 ghost use Rattle.std.specs.Prelude.{◌≡◌, IfOk};
+ghost use Rattle.job_template.specs.Parts.{common_of, paths_of, assembled};
 
 use crate::{JobTemplate, LimitList, Pair, PairList, ReservationTemplate, ResourceLimit};
 use drmaa_types::{AttributeList, Text, TextList};
@@ -27,32 +28,94 @@ impl Clone for ResourceLimit {
     }
 }
 
+/// What is the same for each member of an array: of a template its command, its names, its limits and its other attributes.
+#[derive(Drop)]
+pub struct Common {
+    pub remote_command: Text,
+    pub job_name: Option<Text>,
+    pub queue_name: Option<Text>,
+    pub resource_limits: LimitList,
+    pub others: AttributeList,
+}
+
+/// The paths of a template.
+#[derive(Drop)]
+pub struct Paths {
+    pub working_directory: Option<Text>,
+    pub input_path: Option<Text>,
+    pub output_path: Option<Text>,
+    pub error_path: Option<Text>,
+}
+
+/// A copy of what is the same for each member of an array.
+pub fn copied_common(t: &JobTemplate) -> Result<Common, AllocError>
+    ensures { IfOk result (λ common. common ≡ common_of t.now) }
+{
+    Ok(Common {
+        remote_command: t.remote_command.clone()?,
+        job_name: copied(&t.job_name)?,
+        queue_name: copied(&t.queue_name)?,
+        resource_limits: copied_limits(&t.resource_limits)?,
+        others: copied_attributes(&t.others)?,
+    })
+}
+
+/// A copy of the paths.
+fn copied_paths(t: &JobTemplate) -> Result<Paths, AllocError>
+    ensures { IfOk result (λ paths. paths ≡ paths_of t.now) }
+{
+    Ok(Paths {
+        working_directory: copied(&t.working_directory)?,
+        input_path: copied(&t.input_path)?,
+        output_path: copied(&t.output_path)?,
+        error_path: copied(&t.error_path)?,
+    })
+}
+
+/// The template of these parts, with the numbers and marks of another.
+pub fn assembled(
+    t: &JobTemplate,
+    common: Common,
+    paths: Paths,
+    args: TextList,
+    job_environment: PairList,
+) -> JobTemplate
+    ensures { result ≡ assembled t.now common paths args job_environment }
+{
+    JobTemplate {
+        remote_command: common.remote_command,
+        args,
+        submit_as_hold: t.submit_as_hold,
+        rerunnable: t.rerunnable,
+        job_environment,
+        working_directory: paths.working_directory,
+        job_name: common.job_name,
+        input_path: paths.input_path,
+        output_path: paths.output_path,
+        error_path: paths.error_path,
+        join_files: t.join_files,
+        reservation_id: t.reservation_id,
+        queue_name: common.queue_name,
+        min_slots: t.min_slots,
+        max_slots: t.max_slots,
+        priority: t.priority,
+        start_time: t.start_time,
+        deadline_time: t.deadline_time,
+        resource_limits: common.resource_limits,
+        others: common.others,
+    }
+}
+
+// In groups, since a copy that fails lets go of all that was copied before it.
 impl Clone for JobTemplate {
     ghost is_clone = { λ template copy. copy ≡ template };
 
     fn clone(&self) -> Result<JobTemplate, AllocError> {
-        Ok(JobTemplate {
-            remote_command: self.remote_command.clone()?,
-            args: copied_texts(&self.args)?,
-            submit_as_hold: self.submit_as_hold,
-            rerunnable: self.rerunnable,
-            job_environment: copied_pairs(&self.job_environment)?,
-            working_directory: copied(&self.working_directory)?,
-            job_name: copied(&self.job_name)?,
-            input_path: copied(&self.input_path)?,
-            output_path: copied(&self.output_path)?,
-            error_path: copied(&self.error_path)?,
-            join_files: self.join_files,
-            reservation_id: self.reservation_id,
-            queue_name: copied(&self.queue_name)?,
-            min_slots: self.min_slots,
-            max_slots: self.max_slots,
-            priority: self.priority,
-            start_time: self.start_time,
-            deadline_time: self.deadline_time,
-            resource_limits: copied_limits(&self.resource_limits)?,
-            others: copied_attributes(&self.others)?,
-        })
+        let common = copied_common(self)?;
+        let paths = copied_paths(self)?;
+        let args = copied_texts(&self.args)?;
+        let environment = copied_pairs(&self.job_environment)?;
+        Ok(assembled(self, common, paths, args, environment))
     }
 }
 

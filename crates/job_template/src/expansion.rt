@@ -2,8 +2,9 @@
 ghost use Rattle.std.specs.Prelude.{◌≡◌, map, IfOk, IfErr};
 ghost use Rattle.std.specs.Option.{option_map};
 ghost use Rattle.job_template.specs.Expand.{expanded, replaced, with_texts, with_value};
+ghost use Rattle.job_template.specs.Parts.{paths_with};
 
-use crate::copies::{copied, copied_attributes, copied_limits};
+use crate::copies::{Paths, assembled, copied_common};
 use crate::{JobTemplate, Pair, PairList};
 use drmaa_types::{Refusal, Text, TextList};
 use std::alloc::{AllocError, Global};
@@ -34,27 +35,21 @@ fn member(alloc: Global, t: &JobTemplate, index: u32) -> Result<JobTemplate, All
 fn with_digits(alloc: Global, t: &JobTemplate, digits: &str) -> Result<JobTemplate, AllocError>
     ensures { IfOk result (λ member. member ≡ with_texts (replaced digits.now 0) t.now) }
 {
-    Ok(JobTemplate {
-        remote_command: t.remote_command.clone()?,
-        args: expanded_texts(alloc, &t.args, digits)?,
-        submit_as_hold: t.submit_as_hold,
-        rerunnable: t.rerunnable,
-        job_environment: expanded_pairs(alloc, &t.job_environment, digits)?,
+    let common = copied_common(t)?;
+    let paths = expanded_paths(alloc, t, digits)?;
+    let args = expanded_texts(alloc, &t.args, digits)?;
+    let environment = expanded_pairs(alloc, &t.job_environment, digits)?;
+    Ok(assembled(t, common, paths, args, environment))
+}
+
+fn expanded_paths(alloc: Global, t: &JobTemplate, digits: &str) -> Result<Paths, AllocError>
+    ensures { IfOk result (λ paths. paths ≡ paths_with (replaced digits.now 0) t.now) }
+{
+    Ok(Paths {
         working_directory: expanded_option(alloc, &t.working_directory, digits)?,
-        job_name: copied(&t.job_name)?,
         input_path: expanded_option(alloc, &t.input_path, digits)?,
         output_path: expanded_option(alloc, &t.output_path, digits)?,
         error_path: expanded_option(alloc, &t.error_path, digits)?,
-        join_files: t.join_files,
-        reservation_id: t.reservation_id,
-        queue_name: copied(&t.queue_name)?,
-        min_slots: t.min_slots,
-        max_slots: t.max_slots,
-        priority: t.priority,
-        start_time: t.start_time,
-        deadline_time: t.deadline_time,
-        resource_limits: copied_limits(&t.resource_limits)?,
-        others: copied_attributes(&t.others)?,
     })
 }
 

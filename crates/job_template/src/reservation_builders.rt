@@ -4,7 +4,7 @@
 ghost use Rattle.std.specs.Prelude.{◌≡◌, Some, IfOk};
 ghost use Rattle.job_template.specs.Blanks.{blank_reservation};
 
-use crate::additions::text_beside;
+use crate::additions::text_of;
 use crate::{ReservationTemplate, Start};
 use drmaa_types::{ListOf, Moment};
 use std::alloc::{AllocError, Global};
@@ -43,52 +43,45 @@ impl ReservationTemplate {
     pub fn name(self, name: &str) -> Result<ReservationTemplate, AllocError>
         ensures { IfOk result (λ t. t ≡ record self { reservation_name = Some name.now }) }
     {
-        let (others, text) = text_beside(self.others, name)?;
-        Ok(ReservationTemplate {
-            reservation_name: Some(text),
-            others,
-            ..self
-        })
+        let mut template = self;
+        template.reservation_name = Some(text_of(template.others.allocator(), name)?);
+        Ok(template)
     }
 
     /// It begins at this moment (`startTime`); with an end and a duration, at this moment or later.
     pub fn from(self, moment: Moment) -> ReservationTemplate
         ensures { result ≡ record self { start_time = Some (Start.At moment) } }
     {
-        ReservationTemplate {
-            start_time: Some(Start::At(moment)),
-            ..self
-        }
+        let mut template = self;
+        template.start_time = Some(Start::At(moment));
+        template
     }
 
     /// It begins at the moment at which it is requested (`startTime` NOW); with an end and a duration, then or later.
     pub fn from_now(self) -> ReservationTemplate
         ensures { result ≡ record self { start_time = Some Start.Now } }
     {
-        ReservationTemplate {
-            start_time: Some(Start::Now),
-            ..self
-        }
+        let mut template = self;
+        template.start_time = Some(Start::Now);
+        template
     }
 
     /// It ends at this moment (`endTime`); with a start and a duration, at this moment or earlier.
     pub fn until(self, moment: Moment) -> ReservationTemplate
         ensures { result ≡ record self { end_time = Some moment } }
     {
-        ReservationTemplate {
-            end_time: Some(moment),
-            ..self
-        }
+        let mut template = self;
+        template.end_time = Some(moment);
+        template
     }
 
     /// Sets the least number of slots that is of use and the greatest that is wanted (`minSlots`, `maxSlots`).
     pub fn slots(self, min: u32, max: u32) -> ReservationTemplate
         ensures { result ≡ record self { min_slots = Some min; max_slots = Some max } }
     {
-        ReservationTemplate {
-            min_slots: Some(min),
-            max_slots: Some(max),
-            ..self
-        }
+        let mut template = self;
+        template.min_slots = Some(min);
+        template.max_slots = Some(max);
+        template
     }
 }
