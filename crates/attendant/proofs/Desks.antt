@@ -1,5 +1,5 @@
 -- What a call of a desk says of its client's own list.
-use Rattle.std.proofs.Common.{◌≡◌, inl, inr, ℕ, Bool, true, false, ◌||◌, List, [], ◌∷◌, ◌++◌, map, filter, eqb, Option, Some, None, cond, arith, eq-eqb, refl, sym, ap, ◌∙◌, subst, append_assoc, append-nil}
+use Rattle.std.proofs.Common.{◌≡◌, inl, inr, ℕ, Bool, true, false, ◌||◌, List, [], ◌∷◌, ◌++◌, map, eqb, Some, None, cond, arith, eq-eqb, refl, sym, ap, ◌∙◌, subst, append_assoc, append-nil}
 use Rattle.std.specs.Prelude.{Result, Ok, Err, IfOk, IfErr, is_ok}
 use Rattle.std.specs.Option.{option_map_or}
 use Rattle.std.proofs.lemmas.List.{map-append, same_from_push}
@@ -33,7 +33,7 @@ use Rattle.drmaa_model.specs.declared.faults.NoEntry.{NoEntry}
 use Rattle.call_history.specs.ClientLaws.{begins-both}
 use Rattle.call_history.specs.Clients.{Seat, seen_of, mine_of, number_of, KnowsItsOwn, Makes}
 use Rattle.call_history.specs.ClockLaws.{gives-none, gives-one, gives-both}
-use Rattle.attendant.specs.Acts.{Duty, TakeLaunch, Started, StartFailed, Exited, ExitUnknown, TakeSignal, SignalDone, SignalFailed, Other, duty_of, Act, act_of, acts_of, own_acts, launch_reply, signal_reply, launch_in, launches_run, is_run, is_launched, IsNewLaunch, IsSignal, of}
+use Rattle.attendant.specs.Acts.{Duty, TakeLaunch, TakeSignal, duty_of, Act, act_of, acts_of, own_acts, launch_reply, signal_reply, launch_in, launches_run, is_run, is_launched, IsNewLaunch, IsSignal, of}
 use Rattle.attendant.specs.Posts.{Post, acts_at, AreAmong, IsStillAt, Succeeds, Fails, FailsWithin}
 use Rattle.attendant.specs.PairLaws.{post-itself}
 use Rattle.attendant.specs.Steps.{entry_of, Takes, Answers, IsLegalReply, Reports, report_call, asked_start}
@@ -41,76 +41,18 @@ use Rattle.attendant.proofs.Entries.{not_true, or_cases}
 
 -- what is kept of a call is read as the call
 pub kept-duty : (c : Call) → duty_of (kept c) ≡ duty_of c
-kept-duty (call.CreateJobSession name) = refl
-kept-duty (call.CreateReservationSession name) = refl
-kept-duty (call.OpenJobSession name) = refl
-kept-duty (call.OpenReservationSession name) = refl
-kept-duty (call.DestroyJobSession name) = refl
-kept-duty (call.DestroyReservationSession name) = refl
-kept-duty call.JobSessionNames = refl
-kept-duty call.ReservationSessionNames = refl
-kept-duty call.OpenMonitoring = refl
-kept-duty (call.CloseSession session) = refl
-kept-duty (call.RunJob session t) = refl
-kept-duty (call.RunBulk session t indices) = refl
-kept-duty (call.GetJobs session filter) = refl
-kept-duty (call.GetJobArray session array) = refl
-kept-duty (call.Control session meant what) = refl
-kept-duty (call.Reap session meant) = refl
-kept-duty (call.GetState session job) = refl
-kept-duty (call.GetInfo session job) = refl
-kept-duty (call.Wait session jobs kind begun timeout) = refl
-kept-duty (call.RequestReservation session t) = refl
-kept-duty (call.GetReservation session number) = refl
-kept-duty (call.GetReservations session) = refl
-kept-duty (call.EndReservation session number) = refl
-kept-duty (call.AllJobs session filter) = refl
-kept-duty (call.AllReservations session) = refl
-kept-duty (call.AllQueues session) = refl
-kept-duty (call.AllMachines session) = refl
 kept-duty call.Register = refl
-kept-duty call.TakeLaunch = refl
-kept-duty (call.Started job attempt) = refl
-kept-duty (call.StartFailed job attempt) = refl
-kept-duty (call.Exited job attempt exit) = refl
-kept-duty (call.ExitUnknown job attempt) = refl
-kept-duty call.TakeSignal = refl
-kept-duty (call.SignalDone job attempt kind) = refl
-kept-duty (call.SignalFailed job attempt kind) = refl
+kept-duty _ = refl
 
 -- ---- launches
 
 replies-launch : (job : JobId) (attempt : ℕ) (r : Reply) → option_map_or (λ (l : Launch). is_run l.job l.attempt job attempt) (launch_reply r) false ≡ true → hands_out job.0 attempt r ≡ true
-replies-launch job attempt reply.Unit is = absurd (cc)
-replies-launch job attempt (reply.Session session) is = absurd (cc)
-replies-launch job attempt (reply.Names names) is = absurd (cc)
-replies-launch job attempt (reply.Job number) is = absurd (cc)
-replies-launch job attempt (reply.Array array first count) is = absurd (cc)
-replies-launch job attempt (reply.Jobs jobs) is = absurd (cc)
-replies-launch job attempt (reply.State state) is = absurd (cc)
-replies-launch job attempt (reply.Info info) is = absurd (cc)
-replies-launch job attempt (reply.Reached number) is = absurd (cc)
-replies-launch job attempt (reply.Reserved reserved) is = absurd (cc)
-replies-launch job attempt (reply.Reservation info) is = absurd (cc)
-replies-launch job attempt (reply.Reservations numbers) is = absurd (cc)
-replies-launch job attempt (reply.Infos infos) is = absurd (cc)
-replies-launch job attempt (reply.ReservationInfos infos) is = absurd (cc)
-replies-launch job attempt (reply.Machine info) is = absurd (cc)
-replies-launch job attempt (reply.Callback number) is = absurd (cc)
 replies-launch job attempt (reply.Launch launch) is = is
-replies-launch job attempt (reply.Signal signal) is = absurd (cc)
-replies-launch job attempt (reply.Refused why) is = absurd (cc)
+replies-launch job attempt _ is = absurd (cc)
 
 duty-launch : (job : JobId) (attempt : ℕ) (d : Duty) (r : Reply) → option_map_or (λ (l : Launch). is_run l.job l.attempt job attempt) (launch_in d r) false ≡ true → hands_out job.0 attempt r ≡ true
 duty-launch job attempt TakeLaunch r is = replies-launch job attempt r is
-duty-launch job attempt (Started j n) r is = absurd (cc)
-duty-launch job attempt (StartFailed j n) r is = absurd (cc)
-duty-launch job attempt (Exited j n x) r is = absurd (cc)
-duty-launch job attempt (ExitUnknown j n) r is = absurd (cc)
-duty-launch job attempt TakeSignal r is = absurd (cc)
-duty-launch job attempt (SignalDone j n k) r is = absurd (cc)
-duty-launch job attempt (SignalFailed j n k) r is = absurd (cc)
-duty-launch job attempt Other r is = absurd (cc)
+duty-launch job attempt _ r is = absurd (cc)
 
 or-right : (a b : Bool) → b ≡ true → (a || b) ≡ true
 or-right true b e = refl
@@ -167,42 +109,9 @@ legal-signal config front n at r legal =
 
 legal-reply : (config : Config) (front : List Entry) (n at : ℕ) (c : Call) (r : Reply) (mine : List Entry) → IsLegal config (front ++ entry_by n at c r ∷ [])
     → mine ≡ calls_of front n → IsLegalReply (acts_of mine) (duty_of c) r
-legal-reply config front n at (call.CreateJobSession name) r mine legal own = tt
-legal-reply config front n at (call.CreateReservationSession name) r mine legal own = tt
-legal-reply config front n at (call.OpenJobSession name) r mine legal own = tt
-legal-reply config front n at (call.OpenReservationSession name) r mine legal own = tt
-legal-reply config front n at (call.DestroyJobSession name) r mine legal own = tt
-legal-reply config front n at (call.DestroyReservationSession name) r mine legal own = tt
-legal-reply config front n at call.JobSessionNames r mine legal own = tt
-legal-reply config front n at call.ReservationSessionNames r mine legal own = tt
-legal-reply config front n at call.OpenMonitoring r mine legal own = tt
-legal-reply config front n at (call.CloseSession session) r mine legal own = tt
-legal-reply config front n at (call.RunJob session t) r mine legal own = tt
-legal-reply config front n at (call.RunBulk session t indices) r mine legal own = tt
-legal-reply config front n at (call.GetJobs session filter) r mine legal own = tt
-legal-reply config front n at (call.GetJobArray session array) r mine legal own = tt
-legal-reply config front n at (call.Control session meant what) r mine legal own = tt
-legal-reply config front n at (call.Reap session meant) r mine legal own = tt
-legal-reply config front n at (call.GetState session job) r mine legal own = tt
-legal-reply config front n at (call.GetInfo session job) r mine legal own = tt
-legal-reply config front n at (call.Wait session jobs kind begun timeout) r mine legal own = tt
-legal-reply config front n at (call.RequestReservation session t) r mine legal own = tt
-legal-reply config front n at (call.GetReservation session number) r mine legal own = tt
-legal-reply config front n at (call.GetReservations session) r mine legal own = tt
-legal-reply config front n at (call.EndReservation session number) r mine legal own = tt
-legal-reply config front n at (call.AllJobs session filter) r mine legal own = tt
-legal-reply config front n at (call.AllReservations session) r mine legal own = tt
-legal-reply config front n at (call.AllQueues session) r mine legal own = tt
-legal-reply config front n at (call.AllMachines session) r mine legal own = tt
-legal-reply config front n at call.Register r mine legal own = tt
 legal-reply config front n at call.TakeLaunch r mine legal own = legal-launch config front n at r mine legal own
-legal-reply config front n at (call.Started job attempt) r mine legal own = tt
-legal-reply config front n at (call.StartFailed job attempt) r mine legal own = tt
-legal-reply config front n at (call.Exited job attempt exit) r mine legal own = tt
-legal-reply config front n at (call.ExitUnknown job attempt) r mine legal own = tt
 legal-reply config front n at call.TakeSignal r mine legal own = legal-signal config front n at r legal
-legal-reply config front n at (call.SignalDone job attempt kind) r mine legal own = tt
-legal-reply config front n at (call.SignalFailed job attempt kind) r mine legal own = tt
+legal-reply config front n at _ r mine legal own = tt
 
 -- the entry that a call made, in the client's own list
 pub answers : (config : Config) (old new : Seat) (at : ℕ) (c : Call) (r : Reply) → Makes old (entry_by (number_of old) at c r) new → number_of new ≡ number_of old
@@ -354,27 +263,10 @@ fails-last old mid new c why a b f = within old mid new new c why a f (post-itse
 -- ---- takes
 
 some_launch : (front : List Act) (r : Reply) (l : Launch) → launch_reply r ≡ Some l → IsNewLaunch front (launch_reply r) → (r ≡ reply.Launch l) × (is_launched l.job l.attempt front ≡ false)
-some_launch front reply.Unit l is new = absurd (cc)
-some_launch front (reply.Session session) l is new = absurd (cc)
-some_launch front (reply.Names names) l is new = absurd (cc)
-some_launch front (reply.Job number) l is new = absurd (cc)
-some_launch front (reply.Array array first count) l is new = absurd (cc)
-some_launch front (reply.Jobs jobs) l is new = absurd (cc)
-some_launch front (reply.State state) l is new = absurd (cc)
-some_launch front (reply.Info info) l is new = absurd (cc)
-some_launch front (reply.Reached number) l is new = absurd (cc)
-some_launch front (reply.Reserved reserved) l is new = absurd (cc)
-some_launch front (reply.Reservation info) l is new = absurd (cc)
-some_launch front (reply.Reservations numbers) l is new = absurd (cc)
-some_launch front (reply.Infos infos) l is new = absurd (cc)
-some_launch front (reply.ReservationInfos infos) l is new = absurd (cc)
-some_launch front (reply.Machine info) l is new = absurd (cc)
-some_launch front (reply.Callback number) l is new = absurd (cc)
 some_launch front (reply.Launch m) l is new =
     let e : m ≡ l = cc in
     (ap reply.Launch e, subst (λ (x : Launch). is_launched x.job x.attempt front ≡ false) e new)
-some_launch front (reply.Signal signal) l is new = absurd (cc)
-some_launch front (reply.Refused why) l is new = absurd (cc)
+some_launch front _ l is new = absurd (cc)
 
 -- a launch that is taken is of a run that is new among the launcher's own
 pub takes : (n : ℕ) (r : Reply) (l : Launch) (mine mine2 : List Act) → launch_reply r ≡ Some l → Answers n call.TakeLaunch r mine mine2 → Takes n mine mine2 l
@@ -386,25 +278,8 @@ pub no_launch : (n : ℕ) (r : Reply) (mine mine2 : List Act) → launch_reply r
 no_launch n r mine mine2 is k = subst (IsNewLaunch mine) is k.legal
 
 some_signal : (r : Reply) (s : Signal) → signal_reply r ≡ Some s → r ≡ reply.Signal s
-some_signal reply.Unit s is = absurd (cc)
-some_signal (reply.Session session) s is = absurd (cc)
-some_signal (reply.Names names) s is = absurd (cc)
-some_signal (reply.Job number) s is = absurd (cc)
-some_signal (reply.Array array first count) s is = absurd (cc)
-some_signal (reply.Jobs jobs) s is = absurd (cc)
-some_signal (reply.State state) s is = absurd (cc)
-some_signal (reply.Info info) s is = absurd (cc)
-some_signal (reply.Reached number) s is = absurd (cc)
-some_signal (reply.Reserved reserved) s is = absurd (cc)
-some_signal (reply.Reservation info) s is = absurd (cc)
-some_signal (reply.Reservations numbers) s is = absurd (cc)
-some_signal (reply.Infos infos) s is = absurd (cc)
-some_signal (reply.ReservationInfos infos) s is = absurd (cc)
-some_signal (reply.Machine info) s is = absurd (cc)
-some_signal (reply.Callback number) s is = absurd (cc)
-some_signal (reply.Launch launch) s is = absurd (cc)
 some_signal (reply.Signal t) s is = (let e : t ≡ s = cc in ap reply.Signal e)
-some_signal (reply.Refused why) s is = absurd (cc)
+some_signal _ s is = absurd (cc)
 
 pub takes_signal : (n : ℕ) (r : Reply) (s : Signal) (mine mine2 : List Act) → signal_reply r ≡ Some s → Answers n call.TakeSignal r mine mine2
     → mine2 ≡ mine ++ entry_of n TakeSignal (reply.Signal s) ∷ []

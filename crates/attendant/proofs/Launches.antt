@@ -13,7 +13,7 @@ use Rattle.child_spawner.specs.declared.fates.Fate.{Fate}
 use Rattle.child_spawner.specs.Children.{Told, started_child}
 use Rattle.child_spawner.specs.Spawners.{Asks}
 use Rattle.attendant.specs.Acts.{Duty}
-use Rattle.attendant.specs.Acts.{TakeLaunch, Started, StartFailed, Exited, ExitUnknown, TakeSignal, SignalDone, SignalFailed, Other}
+use Rattle.attendant.specs.Acts.{TakeLaunch, Exited, ExitUnknown, SignalFailed}
 use Rattle.attendant.specs.Acts.{Act}
 use Rattle.drmaa_model.specs.declared.replies.Launch.{Launch}
 use Rattle.drmaa_model.specs.declared.replies.Reply.{Reply}
@@ -184,26 +184,13 @@ child_kept starts more fate job attempt killed told c = record {
 }
 
 fault_kept : (starts more : List Asked) (fate : ℕ → Fate) (front : List Act) (call : Duty) → FaultTells starts fate call → FaultTells (starts ++ more) fate call
-fault_kept starts more fate front TakeLaunch f = tt
-fault_kept starts more fate front (Started job attempt) f = tt
-fault_kept starts more fate front (StartFailed job attempt) f = tt
-fault_kept starts more fate front (Exited job attempt exit) f = tt
 fault_kept starts more fate front (ExitUnknown job attempt) f = fated_kept FailsPoll starts more fate job attempt f
-fault_kept starts more fate front TakeSignal f = tt
-fault_kept starts more fate front (SignalDone job attempt kind) f = tt
 fault_kept starts more fate front (SignalFailed job attempt kind) f = fated_kept FailsSignal starts more fate job attempt f
-fault_kept starts more fate front Other f = tt
+fault_kept starts more fate front _ f = tt
 
 exit_kept : (starts more : List Asked) (fate : ℕ → Fate) (front : List Act) (call : Duty) → ExitTells starts fate front call → ExitTells (starts ++ more) fate front call
-exit_kept starts more fate front TakeLaunch f = tt
-exit_kept starts more fate front (Started job attempt) f = tt
-exit_kept starts more fate front (StartFailed job attempt) f = tt
 exit_kept starts more fate front (Exited job attempt exit) f = fated_kept (EndsBy (is_killed job attempt front) exit) starts more fate job attempt f
-exit_kept starts more fate front (ExitUnknown job attempt) f = tt
-exit_kept starts more fate front TakeSignal f = tt
-exit_kept starts more fate front (SignalDone job attempt kind) f = tt
-exit_kept starts more fate front (SignalFailed job attempt kind) f = tt
-exit_kept starts more fate front Other f = tt
+exit_kept starts more fate front _ f = tt
 
 no_requests : (n : ℕ) (began : Bool) (l : Launch) (answer : Option Reply) → requests_in (reports_of n began l answer) ≡ []
 no_requests n began l None = refl

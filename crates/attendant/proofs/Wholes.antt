@@ -9,7 +9,7 @@ use Rattle.child_spawner.specs.declared.fates.Asked.{Asked}
 use Rattle.child_spawner.specs.declared.fates.Fate.{Fate}
 use Rattle.child_spawner.specs.Children.{Told}
 use Rattle.attendant.specs.Acts.{Duty}
-use Rattle.attendant.specs.Acts.{TakeLaunch, Started, StartFailed, Exited, ExitUnknown, TakeSignal, SignalDone, SignalFailed, Other}
+use Rattle.attendant.specs.Acts.{TakeLaunch, Started, StartFailed, Exited, ExitUnknown, SignalDone, SignalFailed}
 use Rattle.attendant.specs.Acts.{Act}
 use Rattle.drmaa_model.specs.declared.replies.Launch.{Launch}
 use Rattle.drmaa_model.specs.declared.replies.Reply.{Reply}
@@ -25,14 +25,7 @@ use Rattle.attendant.proofs.Launches.{run_refl}
 -- a launch of the launcher's own list is new in it
 new_of : (front : List Act) (call : Duty) (r : Reply) (l : Launch) → LauncherCalls front call r → launch_in call r ≡ Some l → is_launched l.job l.attempt front ≡ false
 new_of front TakeLaunch r l may is = subst (IsNewLaunch front) is may
-new_of front (Started job attempt) r l may is = absurd (cc)
-new_of front (StartFailed job attempt) r l may is = absurd (cc)
-new_of front (Exited job attempt x) r l may is = absurd (cc)
-new_of front (ExitUnknown job attempt) r l may is = absurd (cc)
-new_of front TakeSignal r l may is = absurd (cc)
-new_of front (SignalDone job attempt kind) r l may is = absurd (cc)
-new_of front (SignalFailed job attempt kind) r l may is = absurd (cc)
-new_of front Other r l may is = absurd (cc)
+new_of front _ r l may is = absurd (cc)
 
 back_false : (job : JobId) (attempt : ℕ) (front : List Act) (e : Act) → is_launched job attempt (front ++ e ∷ []) ≡ false → is_launched job attempt front ≡ false
 back_false job attempt front e none = not_true _ (λ is. (let k = any_kept (launches_run job attempt) front (e ∷ []) is in absurd (cc)))
@@ -87,36 +80,16 @@ starts_apart front (e ∷ es) n m r q all is at job attempt =
 
 not_launcher : (n m caller : ℕ) (call : Duty) (r : Reply) → MayCall n m caller call → eqb caller n ≡ false → launch_in call r ≡ None
 not_launcher n m caller TakeLaunch r may apart = absurd (let e = eq-eqb caller n may in cc)
-not_launcher n m caller (Started job attempt) r may apart = refl
-not_launcher n m caller (StartFailed job attempt) r may apart = refl
-not_launcher n m caller (Exited job attempt x) r may apart = refl
-not_launcher n m caller (ExitUnknown job attempt) r may apart = refl
-not_launcher n m caller TakeSignal r may apart = refl
-not_launcher n m caller (SignalDone job attempt kind) r may apart = refl
-not_launcher n m caller (SignalFailed job attempt kind) r may apart = refl
-not_launcher n m caller Other r may apart = refl
+not_launcher n m caller _ r may apart = refl
 
 not_start : (n m caller : ℕ) (began : Bool) (job : JobId) (attempt : ℕ) (call : Duty) → MayCall n m caller call → eqb caller n ≡ false → is_start_report began job attempt call ≡ false
-not_start n m caller began job attempt TakeLaunch may apart = refl
 not_start n m caller began job attempt (Started other k) may apart = absurd (let e = eq-eqb caller n may in cc)
 not_start n m caller began job attempt (StartFailed other k) may apart = absurd (let e = eq-eqb caller n may in cc)
-not_start n m caller began job attempt (Exited other k x) may apart = refl
-not_start n m caller began job attempt (ExitUnknown other k) may apart = refl
-not_start n m caller began job attempt TakeSignal may apart = refl
-not_start n m caller began job attempt (SignalDone other k kind) may apart = refl
-not_start n m caller began job attempt (SignalFailed other k kind) may apart = refl
-not_start n m caller began job attempt Other may apart = refl
+not_start n m caller began job attempt _ may apart = refl
 
 not_kill : (n m caller : ℕ) (job : JobId) (attempt : ℕ) (call : Duty) → MayCall n m caller call → eqb caller m ≡ false → is_kill_report job attempt call ≡ false
-not_kill n m caller job attempt TakeLaunch may apart = refl
-not_kill n m caller job attempt (Started other k) may apart = refl
-not_kill n m caller job attempt (StartFailed other k) may apart = refl
-not_kill n m caller job attempt (Exited other k x) may apart = refl
-not_kill n m caller job attempt (ExitUnknown other k) may apart = refl
-not_kill n m caller job attempt TakeSignal may apart = refl
 not_kill n m caller job attempt (SignalDone other k kind) may apart = absurd (let e = eq-eqb caller m may in cc)
-not_kill n m caller job attempt (SignalFailed other k kind) may apart = refl
-not_kill n m caller job attempt Other may apart = refl
+not_kill n m caller job attempt _ may apart = refl
 
 requests_of : (n m : ℕ) (es : List Act) → AreAlone n m es → requests_in (of es n) ≡ requests_in es
 requests_of n m [] all = refl

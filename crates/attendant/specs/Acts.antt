@@ -28,34 +28,6 @@ pub data Duty : Type 0 where
   Other : Duty
 
 abbrev pub duty_of : Call → Duty
-duty_of (call.CreateJobSession name) = Other
-duty_of (call.CreateReservationSession name) = Other
-duty_of (call.OpenJobSession name) = Other
-duty_of (call.OpenReservationSession name) = Other
-duty_of (call.DestroyJobSession name) = Other
-duty_of (call.DestroyReservationSession name) = Other
-duty_of call.JobSessionNames = Other
-duty_of call.ReservationSessionNames = Other
-duty_of call.OpenMonitoring = Other
-duty_of (call.CloseSession session) = Other
-duty_of (call.RunJob session t) = Other
-duty_of (call.RunBulk session t indices) = Other
-duty_of (call.GetJobs session filter) = Other
-duty_of (call.GetJobArray session array) = Other
-duty_of (call.Control session meant what) = Other
-duty_of (call.Reap session meant) = Other
-duty_of (call.GetState session job) = Other
-duty_of (call.GetInfo session job) = Other
-duty_of (call.Wait session jobs kind begun timeout) = Other
-duty_of (call.RequestReservation session t) = Other
-duty_of (call.GetReservation session number) = Other
-duty_of (call.GetReservations session) = Other
-duty_of (call.EndReservation session number) = Other
-duty_of (call.AllJobs session filter) = Other
-duty_of (call.AllReservations session) = Other
-duty_of (call.AllQueues session) = Other
-duty_of (call.AllMachines session) = Other
-duty_of call.Register = Other
 duty_of call.TakeLaunch = TakeLaunch
 duty_of (call.Started job attempt) = Started job attempt
 duty_of (call.StartFailed job attempt) = StartFailed job attempt
@@ -64,6 +36,7 @@ duty_of (call.ExitUnknown job attempt) = ExitUnknown job attempt
 duty_of call.TakeSignal = TakeSignal
 duty_of (call.SignalDone job attempt kind) = SignalDone job attempt kind
 duty_of (call.SignalFailed job attempt kind) = SignalFailed job attempt kind
+duty_of _ = Other
 
 -- an entry as they read it
 pub record Act : Type 0 where
@@ -94,46 +67,12 @@ abbrev pub is_run : JobId → ℕ → JobId → ℕ → Bool
 is_run job attempt other n = (job.0 == other.0) && (attempt == n)
 
 abbrev pub launch_reply : Reply → Option Launch
-launch_reply reply.Unit = None
-launch_reply (reply.Session session) = None
-launch_reply (reply.Names names) = None
-launch_reply (reply.Job number) = None
-launch_reply (reply.Array array first count) = None
-launch_reply (reply.Jobs jobs) = None
-launch_reply (reply.State state) = None
-launch_reply (reply.Info info) = None
-launch_reply (reply.Reached number) = None
-launch_reply (reply.Reserved reserved) = None
-launch_reply (reply.Reservation info) = None
-launch_reply (reply.Reservations numbers) = None
-launch_reply (reply.Infos infos) = None
-launch_reply (reply.ReservationInfos infos) = None
-launch_reply (reply.Machine info) = None
-launch_reply (reply.Callback number) = None
 launch_reply (reply.Launch launch) = Some launch
-launch_reply (reply.Signal signal) = None
-launch_reply (reply.Refused why) = None
+launch_reply _ = None
 
 abbrev pub signal_reply : Reply → Option Signal
-signal_reply reply.Unit = None
-signal_reply (reply.Session session) = None
-signal_reply (reply.Names names) = None
-signal_reply (reply.Job number) = None
-signal_reply (reply.Array array first count) = None
-signal_reply (reply.Jobs jobs) = None
-signal_reply (reply.State state) = None
-signal_reply (reply.Info info) = None
-signal_reply (reply.Reached number) = None
-signal_reply (reply.Reserved reserved) = None
-signal_reply (reply.Reservation info) = None
-signal_reply (reply.Reservations numbers) = None
-signal_reply (reply.Infos infos) = None
-signal_reply (reply.ReservationInfos infos) = None
-signal_reply (reply.Machine info) = None
-signal_reply (reply.Callback number) = None
-signal_reply (reply.Launch launch) = None
 signal_reply (reply.Signal signal) = Some signal
-signal_reply (reply.Refused why) = None
+signal_reply _ = None
 
 -- the launch that an entry hands out
 abbrev pub launch_in : Duty → Reply → Option Launch

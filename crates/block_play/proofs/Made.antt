@@ -1,6 +1,6 @@
 -- What one call says of the play of a line.
 use Rattle.std.proofs.Common.{◌≡◌, ℕ, ◌≤◌, Bool, List, [], ◌∷◌, ◌++◌, Option, Some, None, false, refl, sym, ap, ◌∙◌, subst, append-nil, arith}
-use Rattle.std.specs.Prelude.{Result, Ok, Err, IfOk, IfErr, cond}
+use Rattle.std.specs.Prelude.{Result, Err, cond}
 use Rattle.drmaa_types.specs.Readings.{Readings, Reads}
 use Rattle.drmaa_model.specs.declared.calls.Call.{Call}
 use Rattle.drmaa_model.specs.declared.configs.Config.{Config}
@@ -21,10 +21,10 @@ use Rattle.script_asks.specs.Attempts.{attempt_in}
 use Rattle.script_asks.specs.Replies.{names_after}
 use Rattle.call_history.specs.declared.desks.Desk.{Desk}
 use Rattle.call_history.specs.Calls.{entry_by, IsServed, IsUnserved}
-use Rattle.call_history.specs.ClientLaws.{begins-itself}
-use Rattle.call_history.specs.Clients.{Seat, seen_of, mine_of, number_of, KnowsItsOwn, IsStillAt, StaysAt}
+use Rattle.call_history.specs.Clients.{Seat, seen_of, mine_of, number_of, KnowsItsOwn, IsStillAt}
 use Rattle.call_history.specs.Clocks.{Dial, Gives}
 use Rattle.call_history.specs.ClockLaws.{gives-one}
+use Rattle.wait_calls.proofs.Seats.{still-same}
 use Rattle.block_play.specs.declared.stops.Stopped.{Stopped}
 use Rattle.block_play.specs.declared.stops.Stopped.TheVariants as stopped
 use Rattle.script_text.specs.Follows.{lines_of}
@@ -32,16 +32,9 @@ use Rattle.block_play.specs.Played.{PlayedLine, PlayedLines, StopsLine, LeftByLi
 use Rattle.block_play.specs.Played.PlaysLine.{asks_nothing, asks_once}
 use Rattle.block_play.specs.Played.StopsLine.{unmade, unkept}
 
--- nothing was called
-pub still-there : (shared : Named Config) (seat : Seat) → IsFree shared seat → IsStillAt shared seat shared seat
-still-there shared seat free = record { shared_is = refl; client = free; number = refl; begins = begins-itself (seen_of seat); own = λ o. o; legal = λ l. l }
-
 pub still-at : (shared after : Named Config) (old new : Seat) → after ≡ shared → IsFree shared new → number_of new ≡ number_of old → BeginsWith (seen_of new) (seen_of old) → KnowsItsOwn new
     → IsLegal shared.fixed (seen_of new) → IsStillAt shared old after new
 still-at shared after old new same free number begins own legal = record { shared_is = same; client = free; number = number; begins = begins; own = λ o. own; legal = λ l. legal }
-
-pub still-stays : (shared after : Named Config) (old new : Seat) → StaysAt shared old after new → BeginsWith (seen_of new) (seen_of old) → IsStillAt shared old after new
-still-stays shared after old new s begins = record { shared_is = s.shared_is; client = s.client; number = s.number; begins = begins; own = λ o. s.own; legal = λ l. s.legal }
 
 -- what a call takes that does not wait
 reads-one : (l : Line) (at : ℕ) (early late : Readings) → is_wait l ≡ false → Reads early at late → Gives early (taken_by l 0 [] at) late
@@ -115,7 +108,7 @@ left-read given least s names left l m ls ms old new end read is by =
 pub left-unread : {C : Type 0} (given : C → Readings) (least : C → ℕ) (s : Script) (names : List (List ℕ × Given)) (l : Line) (desk : Desk C) → IsFree desk.shared.now desk.client
     → LeftByLine given least s names l desk desk (Err stopped.Memory)
 left-unread given least s names l desk free = record {
-  desk = still-there desk.shared.now desk.client free;
+  desk = still-same desk.shared.now desk.client free;
   timed = λ caller t. t;
   ok = tt;
   err = λ before early. stopped-still s names l before desk.shared.now.fixed desk.client (given desk.clock);
@@ -139,12 +132,3 @@ pub left-kept : {C : Type 0} (given : C → Readings) (least : C → ℕ) (s : S
     → l ≡ m → kept ≡ with_names names end → LeftByLine given least s names l old new (with_names names end) → LeftByLine given least s names m old new kept
 left-kept given least s names l m old new end kept same is left =
     subst (λ (r : Result (List (List ℕ × Given)) Stopped). LeftByLine given least s names m old new r) (sym is) (subst (λ (x : Line). LeftByLine given least s names x old new (with_names names end)) same left)
-
--- what is so of an end that is none, where it is so of each cause
-pub if-err-on : {A E : Type 0} {P Q : E → Type 0} (r : Result A E) → IfErr r P → ((e : E) → P e → Q e) → IfErr r Q
-if-err-on (Ok a) p on = tt
-if-err-on (Err e) p on = on e p
-
-pub if-ok-on : {A E : Type 0} {P Q : A → Type 0} (r : Result A E) → IfOk r P → ((a : A) → P a → Q a) → IfOk r Q
-if-ok-on (Ok a) p on = on a p
-if-ok-on (Err e) p on = tt

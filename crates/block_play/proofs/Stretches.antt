@@ -9,30 +9,13 @@ use Rattle.turn_lock.specs.Tokens.{Named}
 use Rattle.script_lines.specs.declared.lines.Line.{Line}
 use Rattle.script_text.specs.declared.scripts.Script.{Script}
 use Rattle.script_asks.specs.declared.given.Given.{Given}
-use Rattle.call_history.specs.ClientLaws.{begins-both}
-use Rattle.call_history.specs.Clients.{Seat, seen_of, mine_of, IsStillAt}
+use Rattle.call_history.specs.Clients.{Seat, seen_of, mine_of}
 use Rattle.call_history.specs.Timed.{IsTimed, StaysTimed}
 use Rattle.block_play.specs.declared.stops.Stopped.{Stopped}
 use Rattle.block_play.specs.declared.stops.Stopped.TheVariants as stopped
 use Rattle.block_play.specs.Played.{PlayedLine, PlayedLines, StopsLine, StopsLines, StopsBefore, IsCause}
 use Rattle.block_play.specs.Played.StopsLine.{unmade, unkept}
 use Rattle.block_play.specs.PlayLaws.{plays-more}
-
--- ---- a desk over two calls
-
-still-next : (shared last : Named Config) (old mid new : Seat) → IsStillAt shared old shared mid → IsStillAt shared mid last new → IsStillAt shared old last new
-still-next shared last old mid new a b = record {
-  shared_is = b.shared_is;
-  client = b.client;
-  number = b.number ∙ a.number;
-  begins = begins-both (seen_of old) (seen_of mid) (seen_of new) a.begins b.begins;
-  own = λ o. b.own (a.own o);
-  legal = λ l. b.legal (a.legal l);
-}
-
-pub still-both : (shared next last : Named Config) (old mid new : Seat) → IsStillAt shared old next mid → IsStillAt next mid last new → IsStillAt shared old last new
-still-both shared next last old mid new a b =
-    still-next shared last old mid new (subst (λ (n : Named Config). IsStillAt shared old n mid) a.shared_is a) (subst (λ (n : Named Config). IsStillAt n mid last new) a.shared_is b)
 
 -- ---- one line more
 

@@ -14,7 +14,6 @@ ghost use Rattle.command_scripts.specs.declared.batches.Batch.{Batch};
 use crate::sizes::{command_size, digits, frame_size};
 use crate::{Batch, Machine};
 use drmaa_types::{ListOf, Text, TextList};
-use script_lines::with_last;
 use std::alloc::{AllocError, Global};
 use text_codec::Unread;
 use text_lines::{LineReader, TextFault, read_lines};
@@ -83,12 +82,12 @@ impl Reader {
             machine,
             lines,
             room,
-            commands,
+            mut commands,
         } = self;
         let Some(room) = room.checked_sub(command_size(number, line)) else {
             return Err(Unread::Unspelled);
         };
-        let commands = with_last(commands, command_of(alloc, line)?)?;
+        commands.push(command_of(alloc, line)?)?;
         Ok(Reader {
             machine,
             lines: lines + 1,

@@ -11,8 +11,8 @@ use Rattle.job_template.specs.declared.templates.ReservationTemplate.{Reservatio
 use Rattle.text_codec.specs.Formats.{◌>>=◌, strip, checked, behind, pair, list_of}
 use Rattle.text_codec.specs.CleanLaws.{clean_behind}
 use Rattle.text_codec.specs.StepLaws.{both, by_test, bind, chosen}
-use Rattle.text_words.specs.Queues.{queue}
-use Rattle.text_words.specs.QueueLaws.{queue_laws}
+use Rattle.text_codec.specs.Queues.{queue}
+use Rattle.text_codec.specs.QueueLaws.{queue_laws}
 use Rattle.text_lines.specs.Lines.{kept, AreLines, GoesOn}
 use Rattle.text_lines.specs.Automata.{Runs, Reads, GoesBy, from}
 use Rattle.script_lines.specs.declared.lines.Line.{Line}

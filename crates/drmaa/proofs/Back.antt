@@ -1,8 +1,8 @@
 -- The clients come back.
 use Rattle.std.proofs.Common.{◌≡◌, ℕ, zero, suc, ◌+◌, ◌<◌, ◌≤◌, ◌⊎◌, inl, inr, ⊎_elim, List, [], ◌∷◌, ◌++◌, slice_index_or, Some, None, refl, sym, ap, ◌∙◌, subst, length, length-append, append-nil, append_assoc, arith}
 use Rattle.std.specs.Prelude.{All}
-use Rattle.std.proofs.lemmas.List.{length-set}
-use Rattle.std.proofs.lemmas.List.Elements.{All-nil}
+use Rattle.std.proofs.lemmas.List.{get_or-set_same, length-set, nil_from_length}
+use Rattle.std.proofs.lemmas.List.Elements.{All-nil, All-push, All-weaker}
 use Rattle.drmaa_model.specs.declared.configs.Config.{Config}
 use Rattle.drmaa_model.specs.declared.entries.Entry.{Entry}
 use Rattle.turn_lock.specs.Histories.{BeginsWith, left_of}
@@ -12,17 +12,16 @@ use Rattle.call_history.specs.Callers.{calls_of}
 use Rattle.call_history.specs.Clients.{Seat, seen_of, mine_of, number_of, retired_of}
 use Rattle.call_history.specs.ClientLaws.{begins-both}
 use Rattle.drmaa.specs.Crews.{AreOut, HasPlace, IsKnown, AreTakenBack, IsRetired, AreReleased, AreBack}
-use Rattle.drmaa.specs.Hubs.{IsStillBeside}
+use Rattle.beside_clients.specs.Passes.{IsStillBeside}
 use Rattle.drmaa.specs.Works.{IsWorks}
-use Rattle.drmaa.proofs.Keeping.{beside-none, beside-both}
-use Rattle.drmaa.proofs.Lists.{all-push, all-mapped}
-use Rattle.drmaa.proofs.Places.{Lists, all-left, at-set, left-set, keeps-set, only-set, apart, index-in}
+use Rattle.beside_clients.proofs.Keeping.{beside-none, beside-both}
+use Rattle.drmaa.proofs.Places.{Lists, all-left, left-set, keeps-set, only-set, apart, index-in}
 
 -- ---- what one client that comes back changes
 
 module _ (shared : Named Config) (o p client : Seat) (r : IsRetired shared o p client) where
   pub retired-place : HasPlace (retired_of p) client
-  retired-place = subst (λ (l : Lists). slice_index_or l (number_of client) None ≡ Some (mine_of client)) (sym r.retired) (at-set (mine_of client) (retired_of o) (number_of client) r.given)
+  retired-place = subst (λ (l : Lists). slice_index_or l (number_of client) None ≡ Some (mine_of client)) (sym r.retired) (get_or-set_same (retired_of o) (number_of client) (Some (mine_of client)) None r.given)
 
   pub retired-keeps : (k : ℕ) (own : List Entry) → slice_index_or (retired_of o) k None ≡ Some own → slice_index_or (retired_of p) k None ≡ Some own
   retired-keeps k own is = subst (λ (l : Lists). slice_index_or l k None ≡ Some own) (sym r.retired) (keeps-set (mine_of client) (retired_of o) (number_of client) k own r.was_out is)
@@ -76,9 +75,9 @@ module _ {C : Type 0} (shared : Named Config) (o old : Seat) (desks : List (Desk
           opener = r.opener;
           count = retired-count shared p q client r ∙ t.so.count;
           left = (let a = t.so.left in let b = retired-left shared p q client r in let l = length-append t.done (desk ∷ []) in omega arith);
-          back = all-push (λ (d : Desk C). HasPlace (retired_of q) d.client) t.done desk
-              (all-mapped (λ (d : Desk C). HasPlace (retired_of p) d.client) (λ (d : Desk C). HasPlace (retired_of q) d.client) t.done
-              (λ d h. retired-keeps shared p q client r (number_of d.client) (mine_of d.client) h) t.so.back)
+          back = All-push (λ (d : Desk C). HasPlace (retired_of q) d.client) t.done desk
+              (All-weaker (λ (d : Desk C). HasPlace (retired_of p) d.client) (λ (d : Desk C). HasPlace (retired_of q) d.client)
+              (λ d h. retired-keeps shared p q client r (number_of d.client) (mine_of d.client) h) t.done t.so.back)
               (subst (λ (s : Seat). HasPlace (retired_of q) s) same (retired-place shared p q client r));
           known = λ number own back. ⊎_elim
               (λ (a : slice_index_or (retired_of p) number None ≡ Some own). known-more (seen_of new) (seen_of later) still.begins number own (t.so.known number own a))
@@ -89,13 +88,9 @@ module _ {C : Type 0} (shared : Named Config) (o old : Seat) (desks : List (Desk
         free = λ i d below. here (suc i) d (omega arith);
       }
 
-none-left : {X : Type 0} (xs : List X) → length xs ≡ 0 → xs ≡ []
-none-left [] h = refl
-none-left (x ∷ xs) h = absurd (omega arith)
-
 pub taken-back : {C : Type 0} (shared : Named Config) (o p old new : Seat) (desks rest : List (Desk C)) → length rest ≡ 0 → TakingBack shared o p old new desks rest → AreTakenBack shared o p old new desks
 taken-back {C = C} shared o p old new desks rest none t =
-    subst (λ (l : List (Desk C)). AreTakenBack shared o p old new l) (sym (t.all ∙ (ap (λ (l : List (Desk C)). t.done ++ l) (none-left rest none) ∙ append-nil t.done))) t.so
+    subst (λ (l : List (Desk C)). AreTakenBack shared o p old new l) (sym (t.all ∙ (ap (λ (l : List (Desk C)). t.done ++ l) (nil_from_length rest none) ∙ append-nil t.done))) t.so
 
 -- ---- all of them
 

@@ -1,5 +1,3 @@
-pub mod Beginnings
-pub mod Keeping
 pub mod Registering
 pub mod Endings
 pub mod Lists

@@ -1,5 +1,5 @@
 -- From what the parts leave to what all clients leave.
-use Rattle.std.proofs.Common.{◌≡◌, ℕ, ◌≤◌, List, [], length, Option, Some, None, sym, ap, ◌∙◌, subst}
+use Rattle.std.proofs.Common.{◌≡◌, ℕ, ◌≤◌, List, length, Option, None, sym, ap, ◌∙◌, subst}
 use Rattle.std.specs.Prelude.{Result, IsOk}
 use Rattle.child_spawner.specs.declared.fates.Asked.{Asked}
 use Rattle.child_spawner.specs.declared.fates.Fate.{Fate}
@@ -14,27 +14,22 @@ use Rattle.turn_lock.specs.Tokens.{Named}
 use Rattle.call_history.specs.declared.desks.Desk.{Desk}
 use Rattle.call_history.specs.Clients.{Seat, seen_of, mine_of, number_of, KnowsItsOwn}
 use Rattle.call_history.specs.ClientLaws.{begins-both}
-use Rattle.attendant.specs.Acts.{Act, acts_of, own_acts}
+use Rattle.attendant.specs.Acts.{own_acts}
 use Rattle.attendant.specs.declared.pairs.Pair.{Pair}
 use Rattle.attendant.specs.declared.reaper.Held.{Held}
 use Rattle.attendant.specs.declared.reaper.Hand.{Hand}
-use Rattle.attendant.specs.Outside.{Tends, Keeps, AgreesOf}
 use Rattle.attendant.specs.Pairs.{launcher_at, reaping_at, HasAttended}
 use Rattle.notify_hub.specs.Hubs.{Following}
 use Rattle.notify_hub.specs.Places.{HavePlaces}
+use Rattle.beside_clients.specs.Passes.{FollowsAll, IsStillBeside, GoesOn}
+use Rattle.beside_clients.proofs.Tending.{Nothing, HaveTended, have-tended}
 use Rattle.drmaa.specs.declared.crews.Crew.{Crew}
 use Rattle.drmaa.specs.Closed.{RegistersFrom}
 use Rattle.drmaa.specs.Crews.{IsOpened, AreTakenBack, AreReleased, AreBack, IsLeft}
-use Rattle.drmaa.specs.Hubs.{FollowsAll, IsStillBeside, GoesOn, HaveRegistered}
+use Rattle.drmaa.specs.Hubs.{HaveRegistered}
 use Rattle.drmaa.specs.Pairs.{HasEnded}
 use Rattle.drmaa.proofs.Back.{are-back}
 use Rattle.drmaa.proofs.Endings.{refused-short}
-
--- before the first round all is kept
-pub record Nothing {T : Type 0} (told : T → Option Told) (at : ℕ → Option (Held T)) : Type 0 where
-  pub untold : (fate : ℕ → Fate) → Keeps told None fate [] [] at None
-  pub keeps : (fate : ℕ → Fate) → Keeps told (Some []) fate [] [] at None
-  pub agrees : (fate : ℕ → Fate) → AgreesOf (Some []) fate [] []
 
 module _ {B C T : Type 0} (counted : B → ℕ) (told : B → Option (List Notification)) (tells : T → Option Told) (given : C → Readings) (least : C → ℕ) (Does : List (Desk C) → Type 0) (shared : Named Config) (clients : ℕ)
     (o o1 p : Seat) (crew : Crew C) (opened : IsOpened given shared o clients crew) (some : 1 ≤ clients) (h0 h1 h2 h3 : Following B) (pass1 pass2 told_pass pass3 back_launcher : Seat) (desks : List (Desk C)) (pb pc pd last : Pair C) (count : ℕ)
@@ -69,43 +64,9 @@ module _ {B C T : Type 0} (counted : B → ℕ) (told : B → Option (List Notif
 
   -- ---- what launcher and reaper keep
 
-  launcher-acts : own_acts pc.launcher ≡ own_acts pb.launcher
-  launcher-acts = ap (λ (es : List Entry). acts_of es) (still.mine ∙ taken.launcher.mine)
-
-  reaping-acts : own_acts pc.reaping ≡ own_acts pb.reaping
-  reaping-acts = ap (λ (x : Seat). own_acts x) same
-
-  launcher-none : own_acts crew.pair.launcher ≡ []
-  launcher-none = ap (λ (es : List Entry). acts_of es) opened.launcher.mine
-
-  reaping-none : own_acts crew.pair.reaping ≡ []
-  reaping-none = ap (λ (es : List Entry). acts_of es) opened.reaping.mine
-
-  -- from no entries to those that the two began with
-  at-start : (P : List Act → List Act → Option Hand → Type 0) → P [] [] None → P (own_acts crew.pair.launcher) (own_acts crew.pair.reaping) hand0
-  at-start P p = subst (λ (l : List Act). P l (own_acts crew.pair.reaping) hand0) (sym launcher-none) (subst (λ (l : List Act). P [] l hand0) (sym reaping-none) (subst (λ (h : Option Hand). P [] [] h) (sym no_hand) p))
-
-  -- from what the two had to what they go on with
-  at-end : (P : List Act → List Act → Type 0) → P (own_acts pb.launcher) (own_acts pb.reaping) → P (own_acts pc.launcher) (own_acts pc.reaping)
-  at-end P p = subst (λ (l : List Act). P l (own_acts pc.reaping)) (sym launcher-acts) (subst (λ (l : List Act). P (own_acts pb.launcher) l) (sym reaping-acts) p)
-
-  tends-a : Tends (own_acts crew.pair.launcher) (own_acts crew.pair.reaping) at0 hand0
-  tends-a = at-start (λ l m h. Tends l m at0 h) (start.untold fate).tends
-
-  tends-d : Tends (own_acts pd.launcher) (own_acts pd.reaping) at2 hand2
-  tends-d = e.attending.tends (at-end (λ l m. Tends l m at1 hand1) (a.attending.tends tends-a))
-
-  keeps-a : asked ≡ Some [] → Keeps tells asked fate (own_acts crew.pair.launcher) (own_acts crew.pair.reaping) at0 hand0
-  keeps-a none = subst (λ (q : Option (List Asked)). Keeps tells q fate (own_acts crew.pair.launcher) (own_acts crew.pair.reaping) at0 hand0) (sym none) (at-start (λ l m h. Keeps tells (Some []) fate l m at0 h) (start.keeps fate))
-
-  keeps-c : asked ≡ Some [] → Keeps tells asked1 fate1 (own_acts pc.launcher) (own_acts pc.reaping) at1 hand1
-  keeps-c none = at-end (λ l m. Keeps tells asked1 fate1 l m at1 hand1) (a.attending.keeps (keeps-a none))
-
-  agrees-a : asked ≡ Some [] → AgreesOf asked fate (own_acts crew.pair.launcher) (own_acts crew.pair.reaping)
-  agrees-a none = subst (λ (q : Option (List Asked)). AgreesOf q fate (own_acts crew.pair.launcher) (own_acts crew.pair.reaping)) (sym none) (at-start (λ l m h. AgreesOf (Some []) fate l m) (start.agrees fate))
-
-  agrees-d : IsOk ended → asked ≡ Some [] → AgreesOf asked2 fate2 (own_acts pd.launcher) (own_acts pd.reaping)
-  agrees-d ok none = e.attending.agrees ok (keeps-c none) (at-end (λ l m. AgreesOf asked1 fate1 l m) (a.attending.agrees (e.whole ok).0 (keeps-a none) (agrees-a none)))
+  kept : HaveTended tells asked asked1 fate1 (own_acts crew.pair.launcher) (own_acts crew.pair.reaping) (own_acts pc.launcher) (own_acts pc.reaping) at0 at1 hand0 hand1 (IsOk before)
+  kept = have-tended tells crew.pair.launcher pb.launcher pc.launcher crew.pair.reaping pb.reaping pc.reaping asked asked1 fate fate1 at0 at1 hand0 hand1
+      opened.launcher.mine opened.reaping.mine start no_hand a.attending (still.mine ∙ taken.launcher.mine) same
 
   -- ---- the hub's client
 
@@ -140,9 +101,9 @@ module _ {B C T : Type 0} (counted : B → ℕ) (told : B → Option (List Notif
     from_reaping = from_r;
     at = at2;
     hand = hand2;
-    tends = tends-d;
-    keeps = λ none. e.attending.keeps (keeps-c none);
-    agrees = agrees-d;
+    tends = e.attending.tends kept.tends;
+    keeps = λ none. e.attending.keeps (kept.keeps none);
+    agrees = λ ok none. e.attending.agrees ok (kept.keeps none) (kept.agrees (e.whole ok).0 none);
     settled = λ ok. (e.whole ok).1.settled;
     begins = λ ok. (e.whole ok).1.begins;
     short = e.short (refused-short (launcher_at given least shared crew.pair) (launcher_at given least shared pb) (reaping_at given least shared crew.pair) (reaping_at given least shared pb) _ before a.held_up);

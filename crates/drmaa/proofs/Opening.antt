@@ -2,6 +2,7 @@
 use Rattle.std.proofs.Common.{◌≡◌, ℕ, zero, suc, ◌+◌, ◌<◌, ◌≤◌, ◌⊎◌, inl, inr, ⊎_elim, List, [], ◌∷◌, ◌++◌, slice_index_or, None, refl, sym, ap, ◌∙◌, subst, length, length-append, arith}
 use Rattle.std.specs.Prelude.{All}
 use Rattle.std.proofs.lemmas.List.{get_or_append_left, get_or-append-add}
+use Rattle.std.proofs.lemmas.List.Elements.{All-push}
 use Rattle.drmaa_types.specs.Readings.{Readings}
 use Rattle.drmaa_model.specs.declared.configs.Config.{Config}
 use Rattle.turn_lock.specs.Tokens.{Named, BelongsTo, IsFree}
@@ -9,7 +10,6 @@ use Rattle.call_history.specs.declared.desks.Desk.{Desk}
 use Rattle.call_history.specs.Clients.{Seat, number_of, retired_of}
 use Rattle.drmaa.specs.Crews.{AreOut, IsSeated, AreOpened}
 use Rattle.drmaa.specs.Works.{Begins, caller_at, IsUnread, IsLent, AreLent, AreLeft}
-use Rattle.drmaa.proofs.Lists.{all-push}
 use Rattle.drmaa.proofs.Places.{Lists, out-more}
 
 -- which place a number below one more has
@@ -30,8 +30,8 @@ module _ {C : Type 0} (given : C → Readings) (shared : Named Config) where
   lent-more : (n : ℕ) (desks : List (Desk C)) (desk : Desk C) → AreLent given shared n desks → desk.shared.now ≡ shared → IsLent given (caller_at n) desk → AreLent given shared (n + 1) (desks ++ desk ∷ [])
   lent-more n desks desk l at new = record {
     count = (let a = length-append desks (desk ∷ []) in let c = l.count in omega arith);
-    free = all-push (λ (d : Desk C). IsFree d.shared.now d.client) desks desk l.free new.begins.free;
-    shared_is = all-push (λ (d : Desk C). d.shared.now ≡ shared) desks desk l.shared_is at;
+    free = All-push (λ (d : Desk C). IsFree d.shared.now d.client) desks desk l.free new.begins.free;
+    shared_is = All-push (λ (d : Desk C). d.shared.now ≡ shared) desks desk l.shared_is at;
     lent = λ place d below. ⊎_elim
         (λ (a : place < n). subst (λ (x : Desk C). IsLent given (caller_at place) x) (sym (get_or_append_left desks (desk ∷ []) d place (let c = l.count in omega arith))) (l.lent place d a))
         (λ (a : place ≡ n). subst (λ (k : ℕ). IsLent given (caller_at k) (slice_index_or (desks ++ desk ∷ []) k d)) (let c = l.count in let z : length desks + 0 ≡ place = omega arith in z)

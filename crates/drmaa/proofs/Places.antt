@@ -37,12 +37,6 @@ filled (Some own ∷ places) (suc number) none h =
     record { own = f.own; is = f.is }
 
 module _ (own : List Entry) where
-  -- its list stands under its number
-  pub at-set : (places : Lists) (n : ℕ) → n < length places → slice_index_or (set places n (Some own)) n None ≡ Some own
-  at-set [] n h = absurd (omega arith)
-  at-set (p ∷ places) zero h = refl
-  at-set (p ∷ places) (suc n) h = at-set places n (omega arith)
-
   -- one fewer is out
   pub left-set : (places : Lists) (n : ℕ) → n < length places → slice_index_or places n None ≡ None → suc (left_of (set places n (Some own))) ≡ left_of places
   left-set [] n h out = absurd (omega arith)

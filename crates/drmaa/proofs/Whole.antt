@@ -1,6 +1,7 @@
 -- From what all clients leave to the one history.
 use Rattle.std.proofs.Common.{◌≡◌, ℕ, zero, suc, ◌+◌, ◌-◌, ◌<◌, ◌≤◌, ◌⊎◌, inl, inr, ⊎_elim, true, List, [], ◌∷◌, length, slice_index_or, Option, Some, None, refl, sym, ap, ◌∙◌, subst, arith}
 use Rattle.std.specs.Prelude.{IfSome, IsSome, Result, IsOk}
+use Rattle.std.proofs.lemmas.Bool.{cases_lt}
 use Rattle.child_spawner.specs.declared.fates.Asked.{Asked}
 use Rattle.child_spawner.specs.declared.fates.Fate.{Fate}
 use Rattle.child_spawner.specs.Children.{Told}
@@ -24,37 +25,27 @@ use Rattle.call_history.specs.Clients.{Seat, seen_of, mine_of, number_of, retire
 use Rattle.call_history.specs.ClientLaws.{begins-itself, begins-both}
 use Rattle.attendant.specs.declared.reaper.Held.{Held}
 use Rattle.attendant.specs.declared.reaper.Hand.{Hand}
-use Rattle.attendant.specs.Acts.{acts_of, own_acts, Each, is_launched}
+use Rattle.attendant.specs.Acts.{acts_of, Each, is_launched}
 use Rattle.attendant.specs.Runs.{is_ended}
-use Rattle.attendant.specs.Outside.{Keeps, Tells, AgreesOf, IsLaunchersEntry, IsReapersEntry}
+use Rattle.attendant.specs.Outside.{Keeps, AgreesOf, IsLaunchersEntry, IsReapersEntry}
 use Rattle.attendant.specs.Whole.{AgreesWithOutside, AreAlone}
 use Rattle.notify_hub.specs.Ears.{HaveHeard, place_at}
-use Rattle.notify_hub.specs.Hubs.{Following, IsNoteOf, MayBe, noted}
+use Rattle.notify_hub.specs.Hubs.{Following, MayBe, noted}
 use Rattle.notify_hub.specs.Places.{Follows, HavePlaces, changes_of, place_of}
 use Rattle.notify_hub.specs.Places as places
-use Rattle.drmaa.specs.Closed.{RegistersFrom, IsHistory, IsAtRest, AsksAsClient, AllAskAsClients, AreAsked, HaveHeardAll}
+use Rattle.beside_clients.specs.Starts.{AreAsked}
+use Rattle.beside_clients.proofs.Beginnings.{calls-begin, begins-shorter, nothing-after}
+use Rattle.beside_clients.proofs.Outside.{IsClosed, may-note, asked-of, outside-of}
+use Rattle.drmaa.specs.Closed.{RegistersFrom, IsHistory, IsAtRest, AsksAsClient, AllAskAsClients, HaveHeardAll}
 use Rattle.drmaa.specs.Crews.{IsKnown, IsLeft}
 use Rattle.drmaa.specs.Works.{caller_at, HaveMade}
-use Rattle.drmaa.proofs.Beginnings.{calls-begin, begins-shorter, nothing-after}
-use Rattle.drmaa.proofs.Callers.{by-caller, are-alone, none-aside, registers-aside}
+use Rattle.drmaa.proofs.Callers.{by-caller, works-aside, none-aside, registers-aside}
 use Rattle.drmaa.proofs.Places.{filled}
-
--- what the machine that is had back says of its history
-pub record IsClosed (config : Config) (o : Seat) (history : List Entry) : Type 0 where
-  pub legal : IsLegal config history
-  pub seen : BeginsWith history (seen_of o)
-  pub lists : (number : ℕ) (own : List Entry) → slice_index_or (retired_of o) number None ≡ Some own → calls_of history number ≡ own
-  pub strangers : (number : ℕ) → length (retired_of o) ≤ number → calls_of history number ≡ []
 
 -- what is true of every legal history
 pub record Laws (config : Config) : Type 0 where
   pub consistent : (history : List Entry) → IsLegal config history → IsConsistent (replay config history)
   pub quiet : (entry at : ℕ) (p : Plan) → IsFit p → settled (advance_plan entry at p) ≡ true → IsQuiet p
-
--- a machine's note tells its configuration
-may-note : (shared : Named Config) (note : Option Seat) → IsNoteOf shared note → MayBe shared.fixed note
-may-note shared None own = tt
-may-note shared (Some seat) own = own.fixed_is
 
 -- the numbers that these entries register have their places
 registered-there : (n : ℕ) (es : List Entry) (ps : List (Option ℕ)) → RegistersFrom (n + 1) es → HavePlaces es ps → (i : ℕ) → i < length es → IsSome (place_at ps (n + i))
@@ -72,12 +63,6 @@ registered-at es ps all have i h = subst (λ (k : ℕ). IsSome (place_at ps k)) 
 some-place : {B : Type 0} (config : Config) (history : List Entry) (hub : Following B) → Follows config history hub.ears → (i : ℕ) → (o : Option ℕ) → place_at hub.ears.places i ≡ o → IsSome o → o ≡ place_of config history (i + 1)
 some-place config history hub f i None at is = absurd (cc)
 some-place config history hub f i (Some p) at is = sym (f.places i p at)
-
--- a number is below another, or not
-either : (k n : ℕ) → (k < n) ⊎ (n ≤ k)
-either k zero = inr (omega arith)
-either zero (suc n) = inl (omega arith)
-either (suc k) (suc n) = ⊎_elim (λ (a : k < n). inl (omega arith)) (λ (a : n ≤ k). inr (omega arith)) (either k n)
 
 module _ {B C T : Type 0} (counted : B → ℕ) (told : B → Option (List Notification)) (tells : T → Option Told) (Does : List (Desk C) → Type 0) (shared : Named Config) (p : Seat) (clients : ℕ)
     (asked asked2 : Option (List Asked)) (fate : ℕ → Fate) (first hub : Following B) (count : ℕ) (ended : Result (Unit {0}) Refusal)
@@ -119,11 +104,11 @@ module _ {B C T : Type 0} (counted : B → ℕ) (told : B → Option (List Notif
     all-within : (top : List Entry) → BeginsWith history top → BeginsWith top (seen_of x.launcher.client) → BeginsWith top (seen_of x.reaping) → history ≡ top
     all-within top within launched reaped = nothing-after history top within
         (by-caller (λ k. length (calls_of history k) ≤ length (calls_of top k))
-        (enough-of top 0 launched (λ a. absurd (let h = a.1 in omega arith)) (either 0 (length (retired_of p))))
+        (enough-of top 0 launched (λ a. absurd (let h = a.1 in omega arith)) (cases_lt 0 (length (retired_of p))))
         (enough top 1 (number_of x.launcher.client) (seen_of x.launcher.client) (mine_of x.launcher.client) launched of-launcher x.launcher_knows x.launcher_is)
         (enough top 2 (number_of x.reaping) (seen_of x.reaping) (mine_of x.reaping) reaped of-reaper x.reaping_knows x.reaping_is)
         (enough top 3 (number_of x.early) (seen_of x.early) (mine_of x.early) (begins-both (seen_of x.early) (seen_of x.launcher.client) top x.from_early launched) (of-hub ∙ x.pass_mine) x.early_knows x.early_is)
-        (λ k above. enough-of top k launched (λ a. absurd (let h = a.0 in omega arith)) (either k (length (retired_of p)))))
+        (λ k above. enough-of top k launched (λ a. absurd (let h = a.0 in omega arith)) (cases_lt k (length (retired_of p)))))
 
     -- ---- the history
 
@@ -174,14 +159,8 @@ module _ {B C T : Type 0} (counted : B → ℕ) (told : B → Option (List Notif
 
     -- ---- the outside
 
-    asked-then : (then : Option (List Asked)) → Keeps tells then fate (own_acts x.launcher.client) (own_acts x.reaping) x.at x.hand → IfSome then (AreAsked (acts_of (calls_of history 1)))
-    asked-then None k = tt
-    asked-then (Some starts) k =
-        let t : Tells tells starts fate (own_acts x.launcher.client) (own_acts x.reaping) x.at x.hand = k.tells in
-        subst (λ (es : List Entry). AreAsked (acts_of es) starts) (sym of-launcher) t.asked
-
     pub are-asked : asked ≡ Some [] → IfSome asked2 (AreAsked (acts_of (calls_of history 1)))
-    are-asked none = asked-then asked2 (x.keeps none)
+    are-asked none = asked-of tells fate history 1 2 x.launcher.client x.reaping x.at x.hand of-launcher of-reaper asked2 (x.keeps none)
 
     -- a client of the work, or nobody's number
     aside-at : AllAskAsClients clients history → (n : ℕ) → (n < clients) ⊎ (clients ≤ n) → AsksAsClient (calls_of history (caller_at n))
@@ -191,31 +170,20 @@ module _ {B C T : Type 0} (counted : B → ℕ) (told : B → Option (List Notif
 
     aside-behind : AllAskAsClients clients history → (k : ℕ) → 3 < k → AsksAsClient (calls_of history k)
     aside-behind aside (suc (suc (suc (suc n)))) above =
-        subst (λ (k : ℕ). AsksAsClient (calls_of history k)) (let z : n + 4 ≡ suc (suc (suc (suc n))) = omega arith in z) (aside-at aside (suc n) (either (suc n) clients))
+        subst (λ (k : ℕ). AsksAsClient (calls_of history k)) (let z : n + 4 ≡ suc (suc (suc (suc n))) = omega arith in z) (aside-at aside (suc n) (cases_lt (suc n) clients))
     aside-behind aside (suc (suc (suc zero))) above = absurd (omega arith)
     aside-behind aside (suc (suc zero)) above = absurd (omega arith)
     aside-behind aside (suc zero) above = absurd (omega arith)
     aside-behind aside zero above = absurd (omega arith)
 
     alone-all : AllAskAsClients clients history → AreAlone 1 2 (acts_of history)
-    alone-all aside = are-alone history (aside 0 some) launches reports (registers-aside 1 (calls_of history 3) numbers) (aside-behind aside)
-
-    agreed : ((starts : List Asked) (at : ℕ → Option (Held T)) (hand : Option Hand) → AreAlone 1 2 (acts_of history) → Keeps tells (Some starts) fate (acts_of (calls_of history 1)) (acts_of (calls_of history 2)) at hand
-        → AgreesOf (Some starts) fate (acts_of (calls_of history 1)) (acts_of (calls_of history 2)) → AgreesWithOutside starts fate (acts_of history))
-        → AreAlone 1 2 (acts_of history) → (then : Option (List Asked)) → Keeps tells then fate (own_acts x.launcher.client) (own_acts x.reaping) x.at x.hand → AgreesOf then fate (own_acts x.launcher.client) (own_acts x.reaping)
-        → IfSome then (λ starts. AgreesWithOutside starts fate (acts_of history))
-    agreed law lone None k a = tt
-    agreed law lone (Some starts) k a =
-        law starts x.at x.hand lone
-        (subst (λ (es : List Entry). Keeps tells (Some starts) fate (acts_of es) (acts_of (calls_of history 2)) x.at x.hand) (sym of-launcher)
-        (subst (λ (es : List Entry). Keeps tells (Some starts) fate (own_acts x.launcher.client) (acts_of es) x.at x.hand) (sym of-reaper) k))
-        (subst (λ (es : List Entry). AgreesOf (Some starts) fate (acts_of es) (acts_of (calls_of history 2))) (sym of-launcher)
-        (subst (λ (es : List Entry). AgreesOf (Some starts) fate (own_acts x.launcher.client) (acts_of es)) (sym of-reaper) a))
+    alone-all aside = works-aside history (aside 0 some) launches reports (registers-aside 1 (calls_of history 3) numbers) (aside-behind aside)
 
     pub outside-agrees : ((starts : List Asked) (at : ℕ → Option (Held T)) (hand : Option Hand) → AreAlone 1 2 (acts_of history) → Keeps tells (Some starts) fate (acts_of (calls_of history 1)) (acts_of (calls_of history 2)) at hand
         → AgreesOf (Some starts) fate (acts_of (calls_of history 1)) (acts_of (calls_of history 2)) → AgreesWithOutside starts fate (acts_of history))
         → asked ≡ Some [] → IsOk ended → AllAskAsClients clients history → IfSome asked2 (λ starts. AgreesWithOutside starts fate (acts_of history))
-    outside-agrees law none ok aside = agreed law (alone-all aside) asked2 (x.keeps none) (x.agrees ok none)
+    outside-agrees law none ok aside =
+        outside-of tells fate history 1 2 x.launcher.client x.reaping x.at x.hand of-launcher of-reaper (λ starts. law starts x.at x.hand) (alone-all aside) asked2 (x.keeps none) (x.agrees ok none)
 
     -- ---- the callbacks
 

@@ -1,8 +1,7 @@
 -- What a machine leaves, at which a caller worked: by its history alone. The callers are 0, the work's first client; 1, the
 -- launcher; 2, the reaper; 3, the hub; and those from 4 on, where the work has more clients than one. Our profile.
-use Rattle.std.specs.Prelude.{◌≡◌, ℕ, ◌+◌, ◌<◌, true, List, [], ◌∷◌, length, map, slice_index_or, Option}
+use Rattle.std.specs.Prelude.{◌≡◌, ℕ, ◌+◌, ◌<◌, true, List, [], ◌∷◌, length, slice_index_or, Option}
 use Rattle.std.specs.List.{AllByRecursion}
-use Rattle.child_spawner.specs.declared.fates.Asked.{Asked}
 use Rattle.drmaa_types.specs.declared.changes.Notification.{Notification}
 use Rattle.drmaa_types.specs.declared.identifiers.JobId.{JobId}
 use Rattle.drmaa_types.specs.declared.refusals.Limit.TheVariants as limit
@@ -18,9 +17,9 @@ use Rattle.drmaa_model.specs.Order.{settled}
 use Rattle.drmaa_model.specs.SettledLaws.{IsQuiet}
 use Rattle.drmaa_model.specs.Time.{advance}
 use Rattle.call_history.specs.Callers.{calls_of}
-use Rattle.attendant.specs.Acts.{Act, Other, acts_of, duty_of, Each, is_launched}
+use Rattle.attendant.specs.Acts.{Other, acts_of, duty_of, Each, is_launched}
 use Rattle.attendant.specs.Outside.{IsLaunchersEntry, IsReapersEntry}
-use Rattle.attendant.specs.Runs.{is_ended, requests_in}
+use Rattle.attendant.specs.Runs.{is_ended}
 use Rattle.notify_hub.specs.Hearing.{HasHeard}
 use Rattle.drmaa.specs.Works.{caller_at}
 
@@ -67,10 +66,6 @@ AsksAsClient es = AllByRecursion (λ (e : Entry). duty_of e.call ≡ Other) es
 -- no client of a work, of so many, made one of their calls
 abbrev pub AllAskAsClients : ℕ → List Entry → Type 0
 AllAskAsClients clients history = (place : ℕ) → place < clients → AsksAsClient (calls_of history (caller_at place))
-
--- the launches of these entries, in order, are the job, attempt and words of each start that was asked of a spawner
-abbrev pub AreAsked : List Act → List Asked → Type 0
-AreAsked es starts = requests_in es ≡ map (λ (a : Asked). record { job = a.job; attempt = a.attempt; words = a.words }) starts
 
 -- Between the two lists each callback heard exactly what the history has for its number, which counts from 1.
 pub record HaveHeardAll {B : Type 0} (counted : B → ℕ) (told : B → Option (List Notification)) (config : Config) (history : List Entry) (before after : List B) : Type 0 where

@@ -4,11 +4,11 @@ ghost use Rattle.slab.specs.Slab.{get};
 ghost use Rattle.turn_lock.specs.Tokens.{IsFree};
 ghost use Rattle.attendant.specs.Pairs.{ArePlaced, HasAttended};
 ghost use Rattle.notify_hub.specs.Hubs.{IsNoteOf};
-ghost use Rattle.drmaa.specs.Hubs.{GoesOn};
+ghost use Rattle.beside_clients.specs.Passes.{GoesOn};
 
-use crate::passes::{Seated, follow};
 use crate::works::work_there;
 use attendant::{Attended, Done, Pair, Reaper, attend_there};
+use beside_clients::{Seated, follow};
 use call_history::{Bell, Desk, SharedMachine};
 use child_spawner::Spawner;
 use drmaa_types::Clock;

@@ -6,8 +6,8 @@ ghost use Rattle.drmaa.specs.Crews.{IsSeated, IsBegun, AreBegun, AreOpened, IsOp
 ghost use Rattle.drmaa.specs.Works.{IsUnread};
 
 use crate::crews::Crew;
-use crate::passes::Seated;
 use attendant::Pair;
+use beside_clients::Seated;
 use call_history::{Bell, Desk, MachineOpener, SharedMachine};
 use drmaa_types::{CallerId, Clock, Clocks};
 use std::alloc::{AllocError, Global};

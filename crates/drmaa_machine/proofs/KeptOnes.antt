@@ -66,9 +66,6 @@ kept-or call.TakeSignal = inl refl
 kept-or (call.SignalDone job attempt kind) = inl refl
 kept-or (call.SignalFailed job attempt kind) = inl refl
 
-pub kept-same : (c : Call) → (is_submission c ≡ true → ⊥) → c ≡ kept c
-kept-same c never = elim (kept-or c) as (λ _. c ≡ kept c) [ inl same ↦ same | inr submits ↦ absurd (never submits.asked) ]
-
 -- what is known of each that does
 pub submits : (c : Call) → is_submission c ≡ true → IsSubmitting c
 submits (call.CreateJobSession name) is = absurd (cc)

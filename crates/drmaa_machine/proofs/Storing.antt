@@ -21,11 +21,10 @@ use Rattle.drmaa_model.specs.StepLaws.{advance-consistent, step-consistent, step
 use Rattle.drmaa_model.specs.Steps.{answer, IsStep}
 use Rattle.drmaa_model.specs.World.{World}
 use Rattle.scheduler_core.specs.Facts.{reports_to_come}
-use Rattle.scheduler_core.specs.View.{View}
 use Rattle.machine_readings.specs.declared.store.Store.{Store}
 use Rattle.machine_readings.specs.Stores.{world_of, world_at}
 use Rattle.machine_calls.specs.declared.replies.Replies.{Replies}
-use Rattle.machine_calls.specs.Serving.{Comes, Keeps, HasPlace, left_of, spare_of}
+use Rattle.machine_calls.specs.Serving.{Comes, Keeps, HasPlace}
 use Rattle.drmaa_machine.specs.Applies.{Applies, ComesTo, entry_of}
 use Rattle.drmaa_machine.specs.Applying.{served}
 use Rattle.drmaa_machine.specs.Invariant.{IsMachine, ledger_of}
@@ -145,16 +144,6 @@ module _ (s : Store) (m : IsMachine s) where
 -- nothing is changed
 pub keeps-all : (s : Store) → Keeps s s
 keeps-all s = record { config = refl; items = refl; len = refl; more = omega arith }
-
--- what is left before the entry is made is spare after it
-pub left-pushed : (mid t : Store) → t.core ≡ mid.core → vec_len t.history ≡ vec_len mid.history + 1 → vec_capacity t.history ≡ vec_capacity mid.history → left_of mid ≤ spare_of t
-left-pushed mid t core len capacity =
-    let reports : reports_to_come t.core.plan.rows ≡ reports_to_come mid.core.plan.rows = ap (λ (k : View). reports_to_come k.plan.rows) core in
-    let spare : t.core.spare ≡ mid.core.spare = ap (λ (k : View). k.spare) core in
-    omega (arith, reports, spare, len, capacity)
-
-pub left-spare : (t : Store) → left_of t ≤ spare_of t
-left-spare t = omega arith
 
 -- a machine has no more entries than the greatest journal
 pub few-entries : (s : Store) → IsMachine s → length s.history.items ≤ 4000000

@@ -18,7 +18,7 @@ use Rattle.drmaa_model.specs.Steps.{answer}
 use Rattle.drmaa_model.specs.Time.{advance}
 use Rattle.drmaa_model.specs.Waiting.{first_reached, is_timed_out}
 use Rattle.drmaa_model.specs.World.{World}
-use Rattle.job_control.specs.Targets.{is_one_quiet}
+use Rattle.scheduler_core.specs.Targets.{is_one_quiet}
 
 -- one entry more
 abbrev pub served : Ledger → Entry → Ledger

@@ -4,6 +4,7 @@ pub mod ChronicleLaws
 pub mod Chronicles
 pub mod Invariant
 pub mod Looks
+pub mod Names
 pub mod Sparing
 pub mod View
 pub mod Waits

@@ -34,7 +34,10 @@ pub fn serve(store: &mut Store, caller: CallerId, at: Moment, call: Call) -> Res
 {
     a_moment_is_within(at);
     match kept_call(store.alloc, call) {
-        Ok(kept) => serve_kept(store, caller, at, kept),
+        Ok(kept) => match perform(store, at, &kept) {
+            Ok(replies) => Ok(push(store, caller, at, kept, replies)),
+            Err(why) => Err(why),
+        },
         Err(_) => Err(NoEntry::OutOfMemory),
     }
 }
@@ -44,24 +47,6 @@ fn a_moment_is_within(at: Moment)
     ensures { at ≤ greatest }
 {
     let _ = at.number();
-}
-
-/// Serves a call that is as an entry keeps it.
-fn serve_kept(store: &mut Store, caller: CallerId, at: Moment, call: Call) -> Result<Reply, NoEntry>
-    requires machine { IsMachine store.old }
-    requires moment { at ≤ greatest }
-    ensures machine { IsMachine store.new }
-    ensures applies { Applies (ledger_of store.old) caller at call result (ledger_of store.new) }
-    ensures memory { is_foreseen call ≡ true → 1 ≤ spare_of store.old → result ≢ Err NoEntry.OutOfMemory }
-    ensures spare { is_frugal call ≡ true → spare_of store.old ≤ spare_of store.new + 1 }
-    ensures reports { is_run_report call ≡ true → refusal (world_at at store.old) call ≡ None → IsOk result }
-    ensures promised { is_run_report call ≡ true → refusal (world_at at store.old) call ≡ None → spare_of store.old ≤ spare_of store.new }
-    ensures unspent { OnErr result (spare_of store.old ≤ spare_of store.new) }
-{
-    match perform(store, at, &call) {
-        Ok(replies) => Ok(push(store, caller, at, call, replies)),
-        Err(why) => Err(why),
-    }
 }
 
 /// Makes the entry, whose memory is there.

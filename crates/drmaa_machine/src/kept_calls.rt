@@ -1,10 +1,13 @@
-//! The call that an entry keeps.
-ghost use Rattle.std.specs.Prelude.{◌≡◌, true, IfOk, OnErr};
-ghost use Rattle.drmaa_model.specs.KeptCalls.{kept};
+//! The call that an entry keeps: a name of a limit that a journal can't print becomes `OTHER`.
+ghost use Rattle.std.specs.Prelude.{◌≡◌, IfOk, OnOk, OnErr, true, false, map, codes};
+ghost use Rattle.std.specs.List.{list_all};
+ghost use Rattle.drmaa_model.specs.KeptCalls.{is_capital, is_word, kept, kept_limit, kept_template};
 ghost use Rattle.drmaa_machine.specs.Applying.{is_submission};
+ghost use Rattle.drmaa_machine.specs.Names.{has_words};
 
 use drmaa_model::Call;
-use machine_submissions::kept_template;
+use drmaa_types::{ListOf, Shared, Text};
+use job_template::{JobTemplate, LimitList, ResourceLimit};
 use std::alloc::{AllocError, Global};
 
 /// The call as an entry keeps it: the names of limits that no journal can print become `OTHER`. Only a call that submits jobs
@@ -29,4 +32,95 @@ pub fn kept_call(alloc: Global, call: Call) -> Result<Call, AllocError>
         }),
         _ => Ok(call),
     }
+}
+
+/// The template that an entry keeps. It takes memory only where a name becomes `OTHER`.
+fn kept_template(
+    alloc: Global,
+    template: Shared<JobTemplate>,
+) -> Result<Shared<JobTemplate>, AllocError>
+    ensures ok { IfOk result (λ t. t ≡ kept_template template) }
+    ensures err { OnErr result (has_words template.resource_limits ≡ false) }
+{
+    if has_words(template.get().resource_limits.as_slice()) {
+        return Ok(template);
+    }
+    let template = with_kept_limits(alloc, template.get().clone()?)?;
+    Shared::new(alloc, template)
+}
+
+/// Whether a journal can print the names of these limits.
+fn has_words(limits: &[ResourceLimit]) -> bool
+    ensures { result ≡ has_words limits.now }
+{
+    limits
+        .iter()
+        .all(|limit| is_word(limit.name.as_str().as_bytes()))
+}
+
+fn with_kept_limits(alloc: Global, template: JobTemplate) -> Result<JobTemplate, AllocError>
+    ensures { IfOk result (λ t. t ≡ kept_template template) }
+{
+    let limits = kept_limits(alloc, template.resource_limits)?;
+    Ok(JobTemplate {
+        resource_limits: limits,
+        ..template
+    })
+}
+
+fn kept_limits(alloc: Global, limits: LimitList) -> Result<LimitList, AllocError>
+    ensures ok { IfOk result (λ ls. ls ≡ map kept_limit limits) }
+    ensures err { OnErr result (has_words limits ≡ false) }
+{
+    let mut items = limits.into_vec();
+    keep_limits(alloc, &mut items)?;
+    Ok(ListOf::from_vec(items))
+}
+
+fn keep_limits(alloc: Global, limits: &mut Vec<ResourceLimit>) -> Result<(), AllocError>
+    ensures ok { OnOk result (limits.new.items ≡ map kept_limit limits.old.items) }
+    ensures err { OnErr result (has_words limits.old.items ≡ false) }
+{
+    for limit in limits.iter_mut() {
+        keep_limit(alloc, limit)?;
+    }
+    Ok(())
+}
+
+fn keep_limit(alloc: Global, limit: &mut ResourceLimit) -> Result<(), AllocError>
+    ensures ok { OnOk result (limit.new ≡ kept_limit limit.old) }
+    ensures err { OnErr result (is_word limit.old.name ≡ false) }
+{
+    if !is_word(limit.name.as_str().as_bytes()) {
+        limit.name = other_name(alloc)?;
+    }
+    Ok(())
+}
+
+/// The name that stands for one that can't be printed.
+fn other_name(alloc: Global) -> Result<Text, AllocError>
+    ensures { IfOk result (λ t. t ≡ codes "OTHER") }
+{
+    Ok(Text::from_string(String::from_str(alloc, "OTHER")?))
+}
+
+/// Whether a journal can print this name: ASCII capitals and `_`, one at least.
+fn is_word(name: &[u8]) -> bool
+    ensures { result ≡ is_word name.now }
+{
+    !name.is_empty() && are_capitals(name)
+}
+
+/// Whether these bytes are all ASCII capitals or `_`.
+fn are_capitals(bytes: &[u8]) -> bool
+    ensures { result ≡ list_all is_capital bytes.now }
+{
+    bytes.iter().all(|b| is_capital(*b))
+}
+
+/// Whether a byte is an ASCII capital, or `_`.
+fn is_capital(byte: u8) -> bool
+    ensures { result ≡ is_capital byte }
+{
+    (b'A' <= byte && byte <= b'Z') || byte == b'_'
 }

@@ -1,7 +1,5 @@
 //! Questions that make no entry, and memory that is taken ahead.
-ghost use Rattle.std.specs.Prelude.{◌≡◌, ◌⊎◌, ◌≤◌, ◌↔◌, OnOk, IfErr, IsTrue, take, drop, map, IfOk};
-ghost use Rattle.drmaa_model.specs.Infos.{infos, reservation_info};
-ghost use Rattle.drmaa_model.specs.Size.{size};
+ghost use Rattle.std.specs.Prelude.{◌≡◌, ◌⊎◌, ◌≤◌, ◌↔◌, OnOk, IfErr, IsTrue, take, drop, IfOk};
 ghost use Rattle.drmaa_model.specs.Effects.{not_yet};
 ghost use Rattle.drmaa_model.specs.Steps.{answer};
 ghost use Rattle.machine_readings.specs.Stores.{world_of, world_at, IsKept};
@@ -12,9 +10,7 @@ ghost use Rattle.machine_calls.specs.Serving.{Keeps, spare_of};
 
 use crate::waits::Awaited;
 use drmaa_model::{Answer, Question};
-use drmaa_types::{
-    Change, ChangeBatch, InfoList, JobId, Moment, Refusal, ReservationList, SessionId, Text,
-};
+use drmaa_types::{Change, ChangeBatch, JobId, Moment, Refusal, SessionId, Text};
 use machine_readings::{Store, is_timed_out};
 use std::alloc::AllocError;
 
@@ -50,38 +46,6 @@ pub fn must_wait_in(store: &Store, at: Moment, awaited: &Awaited) -> bool
             .first_reached(at, awaited.kind, &awaited.jobs)
             .is_none()
         && !is_timed_out(at, awaited.begun, awaited.timeout)
-}
-
-/// What is told of each kept job, as it is now.
-pub fn infos_in(store: &Store) -> Result<InfoList, Refusal>
-    requires { IsKept store.now }
-    ensures ok { IfOk result (λ list. list ≡ infos (world_of store.now)) }
-    ensures err { IfErr result (λ why. why ≡ Refusal.OutOfMemory) }
-{
-    match store.present_infos() {
-        Ok(list) => Ok(list),
-        Err(_) => Err(Refusal::OutOfMemory),
-    }
-}
-
-/// What is told of each accepted reservation, once time has come to this moment.
-pub fn reservations_in(store: &Store, at: Moment) -> Result<ReservationList, Refusal>
-    requires { IsKept store.now }
-    ensures ok { IfOk result (λ list. list ≡ map (reservation_info (world_at at store.now)) (world_at at store.now).plan.reservations) }
-    ensures err { IfErr result (λ why. why ≡ Refusal.OutOfMemory) }
-{
-    match store.reservation_infos(at) {
-        Ok(list) => Ok(list),
-        Err(_) => Err(Refusal::OutOfMemory),
-    }
-}
-
-/// The size of the journal.
-pub fn size_in(store: &Store) -> u64
-    requires { IsKept store.now }
-    ensures { result ≡ size (world_of store.now) }
-{
-    store.entries + store.core.size()
 }
 
 /// Answers a question.

@@ -25,7 +25,7 @@ ghost use Rattle.drmaa_machine.specs.Looks.{IsAnswer};
 ghost use Rattle.drmaa_machine.specs.Waits.{call_of};
 
 use crate::applying::serve;
-use crate::looks::{infos_in, look_in, must_wait_in, reservations_in, reserve_in, size_in};
+use crate::looks::{look_in, must_wait_in, reserve_in};
 use crate::waits::Awaited;
 use drmaa_model::{Accepted, Answer, Call, Config, Entry, NoEntry, Question, Reply, Row, Started};
 use drmaa_types::{CallerId, Change, End, InfoList, JobId, Moment, Refusal, ReservationList, Text};
@@ -196,7 +196,10 @@ impl Machine {
         ensures ok { IfOk result (λ list. list ≡ infos (now_of self.now.ledger)) }
         ensures err { IfErr result (λ why. why ≡ Refusal.OutOfMemory) }
     {
-        infos_in(&self.store)
+        match self.store.present_infos() {
+            Ok(list) => Ok(list),
+            Err(_) => Err(Refusal::OutOfMemory),
+        }
     }
 
     /// What is told of each accepted reservation, once time has come to this moment. It makes no entry.
@@ -208,14 +211,17 @@ impl Machine {
         ensures ok { IfOk result (λ list. list ≡ map (reservation_info (advance (now_of self.now.ledger) at)) (advance (now_of self.now.ledger) at).plan.reservations) }
         ensures err { IfErr result (λ why. why ≡ Refusal.OutOfMemory) }
     {
-        reservations_in(&self.store, at)
+        match self.store.reservation_infos(at) {
+            Ok(list) => Ok(list),
+            Err(_) => Err(Refusal::OutOfMemory),
+        }
     }
 
     /// The size of the journal: its entries and changes, and the room that is promised to jobs.
     pub fn size(&self) -> u64
         ensures { result ≡ size (now_of self.now.ledger) }
     {
-        size_in(&self.store)
+        self.store.entries + self.store.core.size()
     }
 
     /// The moment to which time has come. It takes no memory.

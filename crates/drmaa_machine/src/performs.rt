@@ -8,11 +8,9 @@ use drmaa_model::{Call, NoEntry, Report};
 use drmaa_types::{Moment, SessionKind};
 use machine_calls::{
     Replies, attach, close, control, create, destroy, end_reservation, monitor, read, reap,
-    register, report, wait,
+    register, report, request_reservation, submit, take_launch, take_signal, wait,
 };
-use machine_orders::{take_launch, take_signal};
 use machine_readings::Store;
-use machine_submissions::{request_reservation, run_bulk, run_job};
 
 /// Serves a call, but for its entry, whose memory is there then.
 pub fn perform(store: &mut Store, at: Moment, call: &Call) -> Result<Replies, NoEntry>
@@ -43,12 +41,12 @@ pub fn perform(store: &mut Store, at: Moment, call: &Call) -> Result<Replies, No
         Call::ReservationSessionNames => read(store, at, call),
         Call::OpenMonitoring => monitor(store, at),
         Call::CloseSession { session } => close(store, at, *session),
-        Call::RunJob { session, template } => run_job(store, at, *session, template.get()),
+        Call::RunJob { session, template } => submit(store, at, *session, template.get(), None),
         Call::RunBulk {
             session,
             template,
             indices,
-        } => run_bulk(store, at, *session, template.get(), *indices),
+        } => submit(store, at, *session, template.get(), Some(*indices)),
         Call::GetJobs { .. } => read(store, at, call),
         Call::GetJobArray { .. } => read(store, at, call),
         Call::Control {

@@ -1,5 +1,5 @@
 -- What was read of a source is the front of a text.
-use Rattle.std.proofs.Common.{◌≡◌, ℕ, ◌<◌, ◌≤◌, nat_le, Bool, true, false, List, length, Option, Some, None, Result, Ok, Err, ◌⊎◌, inl, inr, refl, sym, ap, ◌∙◌, arith}
+use Rattle.std.proofs.Common.{◌≡◌, ℕ, ◌<◌, ◌≤◌, nat_le, Bool, true, false, List, length, Option, Some, None, Result, Ok, Err, ◌⊎◌, inl, inr, refl, sym, ap, subst, ◌∙◌, arith}
 use Rattle.std.proofs.lemmas.Bool.Decides.{nat_tests}
 use Rattle.std.proofs.lemmas.List.{take_all}
 use Rattle.std.specs.Io.KnownBytes.{IsAtEnd}
@@ -22,6 +22,9 @@ is_beyond n limit h = grind (arith, nat_tests)
 pub front_of : (limit : ℕ) (all bytes : List ℕ) (whole : Bool) → ReadsUpTo limit all bytes whole → IsFront limit all bytes whole
 front_of limit all bytes true r = record { first = r.0 ∙ sym (take_all limit all r.1); whole = is_within (length all) limit r.1 }
 front_of limit all bytes false r = record { first = r.0; whole = is_beyond (length all) limit r.1 }
+
+pub front_as : (limit : ℕ) (bytes read all : List ℕ) (whole : Bool) → read ≡ bytes → ReadsUpTo limit all bytes whole → IsFront limit all read whole
+front_as limit bytes read all whole e r = subst (λ (b : List ℕ). IsFront limit all b whole) (sym e) (front_of limit all bytes whole r)
 
 -- bytes within the limit are their own front
 pub own_front : (limit : ℕ) (bytes : List ℕ) (whole : Bool) → whole ≡ true → length bytes ≤ limit → IsFront limit bytes bytes whole

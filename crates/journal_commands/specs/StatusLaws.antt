@@ -1,5 +1,5 @@
 -- What is true of statuses.
-use Rattle.std.proofs.Common.{◌≡◌, ℕ, Option, Some, None, refl, subst}
+use Rattle.std.proofs.Common.{◌≡◌, ℕ, Option, Some, None, Result, Err, refl, ap, subst}
 use Rattle.journal_commands.specs.declared.status.Status.{Status}
 use Rattle.journal_commands.specs.declared.status.Status.TheVariants.{Done, Text, Words, ReadFault, WriteFault, Memory, JournalFull, NotLegal}
 use Rattle.journal_commands.specs.Statuses.{IsQuiet, HasRead, HasWritten, IsUnread, IsRefused, IsUnstarted, ended_as}
@@ -70,3 +70,7 @@ unread_refused WriteFault is calm = absurd is
 unread_refused Memory is calm = tt
 unread_refused (JournalFull size) is calm = absurd is
 unread_refused (NotLegal entry given machine) is calm = absurd is
+
+-- the same status, as why something has no value
+pub err_is : {A : Type 0} (a b : Status) → a ≡ b → ◌≡◌ {A = Result A Status} (Err a) (Err b)
+err_is {A = A} a b e = ap (λ (x : Status). let r : Result A Status = Err x in r) e

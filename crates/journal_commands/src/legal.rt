@@ -29,7 +29,7 @@ pub struct OfLegal<C: LegalCommand> {
 }
 
 /// Replays a journal.
-fn replayed_journal(alloc: Global, journal: Journal) -> Replayed
+pub fn replayed_journal(alloc: Global, journal: Journal) -> Replayed
     requires { IsWritable journal.config journal.entries }
     ensures replay { IsReplayOf journal result }
     ensures kept { KeepCalls journal.entries }

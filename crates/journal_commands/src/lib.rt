@@ -16,7 +16,7 @@ pub use checks::Check;
 pub use forecasts::Forecast;
 pub use inputs::{read_journal, read_status};
 pub use json_forms::Json;
-pub use legal::{LegalCommand, OfLegal};
+pub use legal::{LegalCommand, OfLegal, replayed_journal};
 pub use migrates::{Migrate, migrating_keeps_the_journal};
 pub use recurrences::{Recur, has_occurrences};
 pub use running::{JournalCommand, Made, Output, run_journal, write_made, write_output};

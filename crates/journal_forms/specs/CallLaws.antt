@@ -15,14 +15,14 @@ use Rattle.text_codec.specs.BaseLaws.{text_laws, inside_laws, moment_laws, numbe
 use Rattle.text_codec.specs.Quotes.{text, inside}
 use Rattle.text_codec.specs.Sums.{read_sum, IsArm, Stands}
 use Rattle.text_codec.specs.SumLaws.{alone_found, keyed_found, fielded_found, alone_stands, keyed_stands, fielded_stands, sum_laws}
-use Rattle.text_words.specs.declared.call_words.CallWord.{CallWord}
-use Rattle.text_words.specs.declared.call_words.CallWord.TheVariants as word
-use Rattle.text_words.specs.declared.call_words.TheConstants.{CALL_WORDS}
-use Rattle.text_words.specs.CallWords.{call_word}
-use Rattle.text_words.specs.Numbers.{session_id, job_id, array_id, reservation_id, exit}
-use Rattle.text_words.specs.NumberLaws.{session_id_laws, job_id_laws, array_id_laws, reservation_id_laws, exit_laws}
-use Rattle.text_words.specs.Words.{kind_form}
-use Rattle.text_words.specs.WordLaws.{kind_laws}
+use Rattle.text_codec.specs.declared.call_words.CallWord.{CallWord}
+use Rattle.text_codec.specs.declared.call_words.CallWord.TheVariants as word
+use Rattle.text_codec.specs.declared.call_words.TheConstants.{CALL_WORDS}
+use Rattle.text_codec.specs.CallWords.{call_word}
+use Rattle.text_codec.specs.Numbers.{session_id, job_id, array_id, reservation_id, exit}
+use Rattle.text_codec.specs.NumberLaws.{session_id_laws, job_id_laws, array_id_laws, reservation_id_laws, exit_laws}
+use Rattle.text_codec.specs.ValueWords.{kind_form}
+use Rattle.text_codec.specs.ValueWordLaws.{kind_laws}
 use Rattle.text_forms.specs.Filters.{sought_fields, filter_fields, filter_parts, make_filter}
 use Rattle.text_forms.specs.FilterLaws.{filter_laws}
 use Rattle.text_forms.specs.Templates.{template, frame}

@@ -23,12 +23,12 @@ use Rattle.text_codec.specs.Formats.{Format, number, moment, pair, mapped, or_el
 use Rattle.text_codec.specs.Fields.{Fields, field, always, no_more}
 use Rattle.text_codec.specs.Quotes.{text, inside}
 use Rattle.text_codec.specs.Sums.{Spelled, alone, keyed, fielded, arm_alone, arm, arm_fields, sum_of}
-use Rattle.text_words.specs.declared.call_words.CallWord.{CallWord}
-use Rattle.text_words.specs.declared.call_words.CallWord.TheVariants as word
-use Rattle.text_words.specs.declared.call_words.TheConstants.{CALL_WORDS}
-use Rattle.text_words.specs.CallWords.{call_word}
-use Rattle.text_words.specs.Numbers.{session_id, job_id, array_id, reservation_id, exit}
-use Rattle.text_words.specs.Words.{kind_form}
+use Rattle.text_codec.specs.declared.call_words.CallWord.{CallWord}
+use Rattle.text_codec.specs.declared.call_words.CallWord.TheVariants as word
+use Rattle.text_codec.specs.declared.call_words.TheConstants.{CALL_WORDS}
+use Rattle.text_codec.specs.CallWords.{call_word}
+use Rattle.text_codec.specs.Numbers.{session_id, job_id, array_id, reservation_id, exit}
+use Rattle.text_codec.specs.ValueWords.{kind_form}
 use Rattle.text_forms.specs.Filters.{Filters, filter_fields, filter_parts, make_filter}
 use Rattle.text_forms.specs.Templates.{is_other, template, frame}
 

@@ -14,9 +14,9 @@ use Rattle.text_codec.specs.Formats.{Format, number, moment, pair, mapped, list_
 use Rattle.text_codec.specs.Fields.{Fields}
 use Rattle.text_codec.specs.Quotes.{text}
 use Rattle.text_codec.specs.Sums.{Spelled, alone, keyed, arm_alone, arm, sum_of}
-use Rattle.text_words.specs.Numbers.{session_id, job_id, array_id, reservation_id}
-use Rattle.text_words.specs.Words.{state_form, kind_form}
-use Rattle.text_words.specs.Infos.{job_info, reservation_info}
+use Rattle.text_codec.specs.Numbers.{session_id, job_id, array_id, reservation_id}
+use Rattle.text_codec.specs.ValueWords.{state_form, kind_form}
+use Rattle.text_codec.specs.Infos.{job_info, reservation_info}
 use Rattle.text_forms.specs.Refusals.{refusals, may_stand}
 use Rattle.journal_forms.specs.declared.reply_words.ReplyWord.{ReplyWord}
 use Rattle.journal_forms.specs.declared.reply_words.ReplyWord.TheVariants as told

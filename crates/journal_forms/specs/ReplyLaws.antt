@@ -10,12 +10,12 @@ use Rattle.text_codec.specs.BaseLaws.{text_laws, text_avoids, moment_laws, numbe
 use Rattle.text_codec.specs.Quotes.{text}
 use Rattle.text_codec.specs.Sums.{read_sum, sum_of, IsArm, Stands}
 use Rattle.text_codec.specs.SumLaws.{alone_found, keyed_found, alone_stands, keyed_stands, sum_laws, sum_form}
-use Rattle.text_words.specs.Numbers.{session_id, job_id, array_id, reservation_id}
-use Rattle.text_words.specs.NumberLaws.{session_id_laws, job_id_laws, array_id_laws, reservation_id_laws}
-use Rattle.text_words.specs.Words.{state_form, kind_form}
-use Rattle.text_words.specs.WordLaws.{state_laws, kind_laws}
-use Rattle.text_words.specs.Infos.{job_info, reservation_info}
-use Rattle.text_words.specs.InfoLaws.{job_info_laws, reservation_info_laws}
+use Rattle.text_codec.specs.Numbers.{session_id, job_id, array_id, reservation_id}
+use Rattle.text_codec.specs.NumberLaws.{session_id_laws, job_id_laws, array_id_laws, reservation_id_laws}
+use Rattle.text_codec.specs.ValueWords.{state_form, kind_form}
+use Rattle.text_codec.specs.ValueWordLaws.{state_laws, kind_laws}
+use Rattle.text_codec.specs.Infos.{job_info, reservation_info}
+use Rattle.text_codec.specs.InfoLaws.{job_info_laws, reservation_info_laws}
 use Rattle.text_forms.specs.Refusals.{refusals}
 use Rattle.text_forms.specs.RefusalLaws.{refusals_laws}
 use Rattle.journal_forms.specs.declared.reply_words.ReplyWord.{ReplyWord}

@@ -1,6 +1,6 @@
 -- The words of calls in groups, by what stands behind them.
-use Rattle.text_words.specs.declared.call_words.CallWord.{CallWord}
-use Rattle.text_words.specs.declared.call_words.CallWord.TheVariants as word
+use Rattle.text_codec.specs.declared.call_words.CallWord.{CallWord}
+use Rattle.text_codec.specs.declared.call_words.CallWord.TheVariants as word
 use Rattle.journal_forms.specs.declared.word_groups.CreateWord.{CreateWord}
 use Rattle.journal_forms.specs.declared.word_groups.CreateWord.TheVariants as create
 use Rattle.journal_forms.specs.declared.word_groups.NameWord.{NameWord}

@@ -11,7 +11,7 @@ use crate::reservation_calls::push_request;
 use crate::session_calls::push_named;
 use drmaa_model::Call;
 use std::alloc::AllocError;
-use text_words::spell_call_word;
+use text_codec::spell_call_word;
 
 /// Prints a call, as a journal keeps it: a limit's name that no journal can have as `OTHER`.
 #[tactic(auto, unfolding(crate::specs::Calls::of_job, crate::specs::Calls::of_array, crate::specs::Calls::of_reservation, crate::specs::Calls::launched, crate::specs::Calls::ended, crate::specs::Calls::signalled))]

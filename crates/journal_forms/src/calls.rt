@@ -12,8 +12,7 @@ use crate::session_calls::{create_at, name_at, session_at};
 use crate::word_groups::{GroupedWord, group_of};
 use drmaa_model::Call;
 use drmaa_types::WaitKind;
-use text_codec::{Cursor, Unread};
-use text_words::{CallWord, call_word_of};
+use text_codec::{CallWord, Cursor, Unread, call_word_of};
 
 /// What stands behind the word of a call.
 fn fields_at(word: CallWord, cursor: &mut Cursor) -> Result<Call, Unread>

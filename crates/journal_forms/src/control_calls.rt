@@ -12,8 +12,7 @@ use crate::word_groups::{ArrayWord, JobWord};
 use drmaa_model::{Call, Target};
 use drmaa_types::{Control, SessionId};
 use std::alloc::AllocError;
-use text_codec::{Cursor, Unread};
-use text_words::{CallWord, spell_call_word};
+use text_codec::{CallWord, Cursor, Unread, spell_call_word};
 
 /// A control of what a session has.
 fn control(session: SessionId, target: Target, what: Control) -> Call

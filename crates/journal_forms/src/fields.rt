@@ -6,11 +6,10 @@ ghost use Rattle.text_codec.specs.Sums.{arm, keyed};
 
 use drmaa_types::{Boxed, ListOf, Shared};
 use std::alloc::AllocError;
-use text_codec::{Cursor, Unread};
-use text_words::{PrintForm, ReadForm, push_behind, read_list};
+use text_codec::{Cursor, Form, Print, Unread, push_behind, read_list};
 
 /// Reads one value.
-pub(crate) fn one<A: ReadForm>(cursor: &mut Cursor) -> Result<A, Unread>
+pub(crate) fn one<A: Form>(cursor: &mut Cursor) -> Result<A, Unread>
     ensures { Answers (arm A.form (λ x. x)) cursor.old result cursor.new }
 {
     cursor.expect(b" ")?;
@@ -19,7 +18,7 @@ pub(crate) fn one<A: ReadForm>(cursor: &mut Cursor) -> Result<A, Unread>
 }
 
 /// Reads one value, which is to lie in memory of its own.
-pub(crate) fn boxed<A: ReadForm + Drop>(cursor: &mut Cursor) -> Result<Boxed<A>, Unread>
+pub(crate) fn boxed<A: Form + Drop>(cursor: &mut Cursor) -> Result<Boxed<A>, Unread>
     ensures { Answers (arm A.form (λ x. x)) cursor.old result cursor.new }
 {
     let value = one(cursor)?;
@@ -43,7 +42,7 @@ pub(crate) fn shared<T: Drop>(cursor: &Cursor, value: T) -> Result<Shared<T>, Un
 }
 
 /// Reads a list.
-pub(crate) fn listed<A: ReadForm>(cursor: &mut Cursor) -> Result<ListOf<A>, Unread>
+pub(crate) fn listed<A: Form>(cursor: &mut Cursor) -> Result<ListOf<A>, Unread>
     ensures { Answers (arm (list_of A.form) (λ x. x)) cursor.old result cursor.new }
 {
     cursor.expect(b" ")?;
@@ -52,7 +51,7 @@ pub(crate) fn listed<A: ReadForm>(cursor: &mut Cursor) -> Result<ListOf<A>, Unre
 
 /// Reads two values.
 #[tactic(auto, unfolding(text_codec::specs::Formats::pair))]
-pub(crate) fn two<A: ReadForm, B: ReadForm>(cursor: &mut Cursor) -> Result<(A, B), Unread>
+pub(crate) fn two<A: Form, B: Form>(cursor: &mut Cursor) -> Result<(A, B), Unread>
     ensures { Answers (arm (pair A.form B.form) (λ x. x)) cursor.old result cursor.new }
 {
     let first = one(cursor)?;
@@ -62,9 +61,7 @@ pub(crate) fn two<A: ReadForm, B: ReadForm>(cursor: &mut Cursor) -> Result<(A, B
 
 /// Reads three values.
 #[tactic(auto, unfolding(text_codec::specs::Formats::pair))]
-pub(crate) fn three<A: ReadForm, B: ReadForm, C: ReadForm>(
-    cursor: &mut Cursor,
-) -> Result<(A, (B, C)), Unread>
+pub(crate) fn three<A: Form, B: Form, C: Form>(cursor: &mut Cursor) -> Result<(A, (B, C)), Unread>
     ensures { Answers (arm (pair A.form (pair B.form C.form)) (λ x. x)) cursor.old result cursor.new }
 {
     let first = one(cursor)?;
@@ -73,7 +70,7 @@ pub(crate) fn three<A: ReadForm, B: ReadForm, C: ReadForm>(
 }
 
 /// Prints a word and one value.
-pub(crate) fn push_one<A: PrintForm>(
+pub(crate) fn push_one<A: Print>(
     out: &mut Vec<u8>,
     word: &[u8],
     first: &A,
@@ -87,7 +84,7 @@ pub(crate) fn push_one<A: PrintForm>(
 
 /// Prints a word and two values.
 #[tactic(auto, unfolding(text_codec::specs::Formats::pair))]
-pub(crate) fn push_two<A: PrintForm, B: PrintForm>(
+pub(crate) fn push_two<A: Print, B: Print>(
     out: &mut Vec<u8>,
     word: &[u8],
     first: &A,
@@ -102,7 +99,7 @@ pub(crate) fn push_two<A: PrintForm, B: PrintForm>(
 
 /// Prints a word and three values.
 #[tactic(auto, unfolding(text_codec::specs::Formats::pair))]
-pub(crate) fn push_three<A: PrintForm, B: PrintForm, C: PrintForm>(
+pub(crate) fn push_three<A: Print, B: Print, C: Print>(
     out: &mut Vec<u8>,
     word: &[u8],
     first: &A,

@@ -9,7 +9,7 @@ ghost use Rattle.text_forms.specs.Templates.{any_template, template, any_frame, 
 ghost use Rattle.journal_forms.specs.Calls as calls;
 ghost use Rattle.journal_forms.specs.WordGroups as groups;
 ghost use Rattle.journal_forms.specs.Calls.{call_form};
-ghost use Rattle.text_words.specs.declared.call_words.CallWord.TheVariants as word;
+ghost use Rattle.text_codec.specs.declared.call_words.CallWord.TheVariants as word;
 
 use crate::fields::{one, own, push_one, push_two, shared, two};
 use crate::word_groups::SoughtWord;
@@ -17,9 +17,8 @@ use drmaa_model::{Call, Indices};
 use drmaa_types::{JobFilter, ListOf, Moment, SessionId, Timeout, WaitKind};
 use job_template::JobTemplate;
 use std::alloc::AllocError;
-use text_codec::{Cursor, Unread, push_number};
+use text_codec::{CallWord, Cursor, Print, Unread, push_behind, push_list, push_number, read_list};
 use text_forms::{push_filter, push_template, read_filter, read_template};
-use text_words::{CallWord, PrintForm, push_behind, push_list, read_list};
 
 /// Reads how long a wait may last.
 #[tactic(auto, unfolding(crate::specs::Calls::timeout, text_codec::specs::Formats::mapped, text_codec::specs::Formats::or_else))]

@@ -8,9 +8,8 @@ use crate::fields::{boxed, listed, one, shared, three};
 use crate::{ReplyWord, reply_word_of};
 use drmaa_model::{Launch, Reply, Signal};
 use drmaa_types::{MachineInfo, Reserved};
-use text_codec::{Cursor, Unread};
+use text_codec::{Cursor, Unread, read_list};
 use text_forms::read_refusal;
-use text_words::read_list;
 
 #[tactic(auto, unfolding(crate::specs::Replies::members))]
 fn array_at(cursor: &mut Cursor) -> Result<Reply, Unread>

@@ -10,11 +10,11 @@ use crate::fields::{push_one, push_three};
 use drmaa_model::{Launch, Reply, Signal};
 use drmaa_types::{MachineInfo, Refusal, Reserved};
 use std::alloc::AllocError;
+use text_codec::{Print, push_behind, push_list};
 use text_forms::push_refusal;
-use text_words::{PrintForm, push_behind, push_list};
 
 /// Prints a word and a list.
-fn push_listed<T: PrintForm>(out: &mut Vec<u8>, word: &[u8], values: &[T]) -> Result<(), AllocError>
+fn push_listed<T: Print>(out: &mut Vec<u8>, word: &[u8], values: &[T]) -> Result<(), AllocError>
     ensures text { OnOk result (out.new.items ≡ out.old.items ++ (keyed word.now (list_of T.form) values.now).text) }
     ensures valid { OnOk result ((keyed word.now (list_of T.form) values.now).valid) }
 {

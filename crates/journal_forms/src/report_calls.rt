@@ -4,7 +4,7 @@ ghost use Rattle.text_codec.specs.Formats.{Answers};
 ghost use Rattle.text_forms.specs.Templates.{template, frame};
 ghost use Rattle.journal_forms.specs.Calls as calls;
 ghost use Rattle.journal_forms.specs.WordGroups as groups;
-ghost use Rattle.text_words.specs.declared.call_words.CallWord.TheVariants as word;
+ghost use Rattle.text_codec.specs.declared.call_words.CallWord.TheVariants as word;
 
 use crate::fields::{three, two};
 use crate::word_groups::{LaunchedWord, SignalledWord};

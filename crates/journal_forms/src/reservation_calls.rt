@@ -6,7 +6,7 @@ ghost use Rattle.text_forms.specs.Templates.{any_template, template, any_frame, 
 ghost use Rattle.journal_forms.specs.Calls as calls;
 ghost use Rattle.journal_forms.specs.WordGroups as groups;
 ghost use Rattle.journal_forms.specs.Calls.{call_form};
-ghost use Rattle.text_words.specs.declared.call_words.CallWord.TheVariants as word;
+ghost use Rattle.text_codec.specs.declared.call_words.CallWord.TheVariants as word;
 
 use crate::fields::{one, own, push_one, two};
 use crate::word_groups::ReservationWord;

@@ -2,7 +2,7 @@
 ghost use Rattle.std.specs.Prelude.{◌≡◌};
 ghost use Rattle.journal_forms.specs.WordGroups as groups;
 
-use text_words::CallWord;
+use text_codec::CallWord;
 
 /// The words of calls that make sessions: a name may stand behind them.
 #[derive(Clone, Copy)]

@@ -12,7 +12,7 @@ use Rattle.drmaa_model.specs.KeptCalls.{kept}
 use Rattle.text_codec.specs.Formats.{Format, ◌>>=◌, strip, number, moment, pair, mapped, behind, checked, one_of}
 use Rattle.text_codec.specs.Fields.{Fields, joined}
 use Rattle.text_codec.specs.Quotes.{text}
-use Rattle.text_words.specs.Numbers.{caller_id}
+use Rattle.text_codec.specs.Numbers.{caller_id}
 use Rattle.text_lines.specs.Lines.{ended}
 use Rattle.journal_forms.specs.Calls.{calls}
 use Rattle.journal_forms.specs.Replies.{replies}

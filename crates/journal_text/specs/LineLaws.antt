@@ -12,8 +12,8 @@ use Rattle.text_codec.specs.FormatLaws.{behind_laws, pair_laws, mapped_laws, che
 use Rattle.text_codec.specs.FieldLaws.{joined_laws}
 use Rattle.text_codec.specs.BaseLaws.{text_laws, moment_laws, one_of_laws, number_laws_64, number_laws_32, number_avoids}
 use Rattle.text_codec.specs.Quotes.{text}
-use Rattle.text_words.specs.Numbers.{caller_id}
-use Rattle.text_words.specs.NumberLaws.{caller_id_laws}
+use Rattle.text_codec.specs.Numbers.{caller_id}
+use Rattle.text_codec.specs.NumberLaws.{caller_id_laws}
 use Rattle.journal_forms.specs.Calls.{calls, calls_with}
 use Rattle.journal_forms.specs.CallLaws.{calls_laws}
 use Rattle.journal_forms.specs.Replies.{replies}

@@ -15,7 +15,7 @@ use Rattle.text_codec.specs.Formats.{pair, mapped, checked, number, first_spelle
 use Rattle.text_codec.specs.Fields.{field, flag, repeated, in_braces, joined}
 use Rattle.text_codec.specs.Sums.{sum_of}
 use Rattle.text_codec.specs.Words.{capitals}
-use Rattle.text_words.specs.TemplateParts.{resource_limit}
+use Rattle.text_codec.specs.TemplateParts.{resource_limit}
 use Rattle.text_forms.specs.Templates.{any_template, template, any_frame, frame, Early, Paths, Placed, Late, early_fields, path_fields, placed_fields, late_fields, early_parts, path_parts, placed_parts, late_parts}
 use Rattle.text_lines.specs.Lines.{ended}
 use Rattle.journal_forms.specs.Calls.{call_form, calls_with, calls, running, bulk, requested, has_others}

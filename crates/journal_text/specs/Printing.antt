@@ -6,7 +6,7 @@ use Rattle.drmaa_model.specs.declared.configs.Config.{Config}
 use Rattle.drmaa_model.specs.declared.entries.Entry.{Entry}
 use Rattle.drmaa_model.specs.KeptCalls.{kept}
 use Rattle.text_codec.specs.Formats.{Format, moment}
-use Rattle.text_words.specs.Numbers.{caller_id}
+use Rattle.text_codec.specs.Numbers.{caller_id}
 use Rattle.text_forms.specs.Templates.{any_template, any_frame}
 use Rattle.journal_forms.specs.Calls.{call_form, calls_with, has_others}
 use Rattle.journal_forms.specs.Replies.{reply_form, may_answer}

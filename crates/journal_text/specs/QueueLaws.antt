@@ -3,8 +3,8 @@ use Rattle.std.proofs.Common.{[], ◌∷◌, refl}
 use Rattle.text_codec.specs.Formats.{IsFormat, Avoids, pair, mapped}
 use Rattle.text_codec.specs.FieldLaws.{list_laws}
 use Rattle.text_codec.specs.Quotes.{text}
-use Rattle.text_words.specs.Queues.{queue}
-use Rattle.text_words.specs.QueueLaws.{queue_laws}
+use Rattle.text_codec.specs.Queues.{queue}
+use Rattle.text_codec.specs.QueueLaws.{queue_laws}
 use Rattle.journal_text.specs.Queues.{queues}
 
 -- a queue begins with the quote of its name

@@ -19,12 +19,12 @@ use Rattle.text_codec.specs.FormatLaws.{pair_laws}
 use Rattle.text_codec.specs.CleanLaws.{clean_both, clean_behind, plain_clean}
 use Rattle.text_codec.specs.Sums.{sum_of}
 use Rattle.text_codec.specs.SumLaws.{keyed_stands}
-use Rattle.text_words.specs.declared.call_words.CallWord.TheVariants as word
-use Rattle.text_words.specs.declared.call_words.TheConstants.{CALL_WORDS}
-use Rattle.text_words.specs.CallWords.{call_word}
-use Rattle.text_words.specs.Numbers.{session_id}
-use Rattle.text_words.specs.NumberLaws.{session_id_laws}
-use Rattle.text_words.specs.Words.{limit_form}
+use Rattle.text_codec.specs.declared.call_words.CallWord.TheVariants as word
+use Rattle.text_codec.specs.declared.call_words.TheConstants.{CALL_WORDS}
+use Rattle.text_codec.specs.CallWords.{call_word}
+use Rattle.text_codec.specs.Numbers.{session_id}
+use Rattle.text_codec.specs.NumberLaws.{session_id_laws}
+use Rattle.text_codec.specs.ValueWords.{limit_form}
 use Rattle.text_forms.specs.Refusals.{refusals, refusal_sum, may_stand}
 use Rattle.text_forms.specs.Templates.{any_template, any_frame}
 use Rattle.text_forms.specs.TemplateLaws.{any_template_laws, any_frame_laws}

@@ -17,8 +17,7 @@ use drmaa_model::{Call, Entry, Reply};
 use drmaa_types::{CallerId, Moment};
 use journal_forms::{push_call, push_reply, read_call, read_reply};
 use std::alloc::{AllocError, Global};
-use text_codec::{Cursor, Unread, push_number};
-use text_words::{PrintForm, ReadForm, push_behind};
+use text_codec::{Cursor, Form, Print, Unread, push_behind, push_number};
 
 /// Reads the number of an entry, its caller and its moment.
 #[tactic(auto, unfolding(crate::specs::Journals::stamp, text_codec::specs::Formats::pair))]

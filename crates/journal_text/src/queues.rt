@@ -5,8 +5,7 @@ ghost use Rattle.journal_text.specs.Queues as forms;
 
 use drmaa_types::QueueList;
 use std::alloc::AllocError;
-use text_codec::{Cursor, Unread};
-use text_words::{push_list, read_list};
+use text_codec::{Cursor, Unread, push_list, read_list};
 
 /// Reads the queues.
 #[tactic(auto, unfolding(crate::specs::Queues::queues))]

@@ -17,9 +17,8 @@ use crate::titles::header_of;
 use drmaa_model::{Config, EntryList};
 use drmaa_types::ListOf;
 use std::alloc::Global;
-use text_codec::{Cursor, Unread};
+use text_codec::{Cursor, Unread, push_last};
 use text_lines::{LineReader, TextFault, read_text};
-use text_words::push_last;
 
 /// The greatest number of bytes of a journal.
 pub const BYTE_LIMIT: usize = 268_435_456;

@@ -11,8 +11,7 @@ use crate::queues::{push_queues, queues_at};
 use drmaa_model::Config;
 use drmaa_types::{ListOf, QueueList, Text, are_queues};
 use std::alloc::{AllocError, Global};
-use text_codec::{Cursor, Unread};
-use text_words::PrintForm;
+use text_codec::{Cursor, Print, Unread};
 
 /// Slots, a name, and whether jobs can be suspended.
 type Machine = (u32, (Text, bool));

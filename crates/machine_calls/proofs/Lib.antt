@@ -2,10 +2,13 @@ pub mod ClosedOnes
 pub mod Destroying
 pub mod Dues
 pub mod Firsts
+pub mod LaunchLaws
 pub mod Openings
+pub mod Orders
 pub mod Outcomes
 pub mod Placed
 pub mod Promised
 pub mod Sizes
 pub mod Spares
+pub mod Submits
 pub mod Through

@@ -1,6 +1,6 @@
 -- An operation of the core, after the limit was found.
-use Rattle.std.proofs.Common.{◌≡◌, ℕ, ◌+◌, ◌<◌, ◌≤◌, true, ap, subst, arith}
-use Rattle.std.specs.Prelude.{Result, Ok, Err, OnOk, vec_len, vec_capacity}
+use Rattle.std.proofs.Common.{◌≡◌, ℕ, ◌+◌, ◌<◌, ◌≤◌, true, refl, sym, ◌∙◌, ap, subst, arith}
+use Rattle.std.specs.Prelude.{Result, Ok, Err, IfErr, OnOk, vec_len, vec_capacity}
 use Rattle.drmaa_types.specs.declared.refusals.Refusal.{Refusal}
 use Rattle.drmaa_types.specs.declared.refusals.Refusal.TheVariants.{OutOfMemory}
 use Rattle.drmaa_model.specs.declared.calls.Call.{Call}
@@ -9,7 +9,8 @@ use Rattle.drmaa_model.specs.declared.faults.NoEntry.TheVariants as fault
 use Rattle.drmaa_model.specs.declared.replies.Reply.{Reply}
 use Rattle.drmaa_model.specs.Fit.{IsFit}
 use Rattle.drmaa_model.specs.FitLaws.{advance-fit}
-use Rattle.drmaa_model.specs.Operation.{Operation, outcome, size_at, Meets}
+use Rattle.drmaa_model.specs.Operation.{Operation, Outcome, outcome, size_at, is_answer, Meets, IsServed}
+use Rattle.drmaa_model.specs.Operation.Meets.{served, full, short}
 use Rattle.drmaa_model.specs.Plan.{Plan}
 use Rattle.drmaa_model.specs.Time.{advance_plan}
 use Rattle.drmaa_model.specs.World.{World}
@@ -19,7 +20,14 @@ use Rattle.machine_readings.specs.Stores.{world_of, world_at}
 use Rattle.machine_calls.specs.declared.replies.Replies.{Replies}
 use Rattle.machine_calls.specs.Serving.{Comes, Concludes, HasPlace, is_sized_first}
 use Rattle.machine_calls.proofs.Dues.{advance-due}
+use Rattle.machine_calls.proofs.Sizes.{Planned, short-of}
 use Rattle.machine_calls.proofs.Through.{IsThrough, op-comes, op-comes-sized, op-remembers, op-due, op-place}
+
+-- what is served is no want of memory
+served-other : {A : Type 0} (o : Outcome A) (entry limit : ℕ) (done : Result A Refusal) (new : Plan) → IsServed o entry limit done new → done ≡ Err OutOfMemory → ⊥
+served-other {A} o entry limit done new s e =
+    let answered = subst (λ (d : Result A Refusal). IfErr d (λ why. is_answer why ≡ true)) e s.answers in
+    absurd (cc)
 
 module _ {A : Type 0} (tell : A → Reply) (op : Operation A) (s mid : Store) (at : ℕ) (asked : Call) (is : IsThrough tell op at (world_at at s) asked) (limit : ℕ) (new : Plan)
     (done : Result A Refusal) (result : Result Replies NoEntry) (next : World) (same : world_of mid ≡ world_of s) (placed : 0 < limit → limit ≡ s.config.journal)
@@ -33,6 +41,18 @@ module _ {A : Type 0} (tell : A → Reply) (op : Operation A) (s mid : Store) (a
 
   pub comes-after : (is_sized_first asked ≡ true → done ≡ Err OutOfMemory → ⊥) → Comes (world_of s) at asked result next
   comes-after sure = op-comes tell op (world_of s) at asked is limit placed new result next done sure met-then ends-then
+
+  -- where the journal is known to have room for the entry before memory is asked for
+  pub sized-comes : {n : ℕ} → Planned (world_of s) at asked n → n ≤ s.config.journal → Comes (world_of s) at asked result next
+  sized-comes planned within =
+      elim met [
+        | served x ↦ comes-after (λ sized. served-other (outcome op (mid.entries + 1) (advance_plan (mid.entries + 1) at mid.core.plan)) (mid.entries + 1) limit done new x)
+        | full f ↦ comes-after (λ sized e. (let answered = f.answered in absurd (cc)))
+        | short x ↦
+            (let sorted = (subst (λ (d : Result A Refusal). Concludes tell d (record (world_of mid) { plan = new }) result next) x.answered ends).memory refl in
+            let back : record (world_of mid) { plan = new } ≡ world_of s = ap (λ (p : Plan). record (world_of mid) { plan = p }) x.plan ∙ same in
+            subst (λ (r : Result Replies NoEntry). Comes (world_of s) at asked r next) (sym sorted.0) (short-of (world_of s) next at asked planned within (sorted.1 ∙ back)))
+      ]
 
   -- where memory may be told before the size only if the size is within the limit
   pub comes-after-sized : (is_sized_first asked ≡ true → done ≡ Err OutOfMemory → size_at (mid.entries + 1) (outcome op (mid.entries + 1) (advance_plan (mid.entries + 1) at mid.core.plan)).plan ≤ limit)

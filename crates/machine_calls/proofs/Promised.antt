@@ -1,7 +1,7 @@
 -- A report whose entry was promised: it is not refused, fewer reports are to come after it, and the journal has room for it.
-use Rattle.std.proofs.Common.{◌≡◌, ℕ, ◌+◌, ◌≤◌, Bool, true, false, ◌&&◌, not, eqb, List, map, Option, Some, None, refl, ◌∙◌, ap, arith}
-use Rattle.std.specs.Option.{option_map, option_map_or}
-use Rattle.std.specs.Prelude.{◌==◌, Result, Ok, Err}
+use Rattle.std.proofs.Common.{◌≡◌, ℕ, ◌+◌, ◌≤◌, Bool, true, false, eqb, List, map, Option, Some, None, refl, ◌∙◌, ap, arith}
+use Rattle.std.specs.Option.{option_map_or}
+use Rattle.std.specs.Prelude.{Result, Ok, Err}
 use Rattle.std.proofs.lemmas.Bool.{and_parts}
 use Rattle.drmaa_types.specs.declared.identifiers.JobId.{JobId}
 use Rattle.drmaa_types.specs.declared.refusals.Refusal.{Refusal}
@@ -28,33 +28,12 @@ use Rattle.drmaa_model.specs.Size.{weight}
 use Rattle.drmaa_model.specs.Time.{advance_plan, rows_at}
 use Rattle.drmaa_model.specs.TimeLaws.{weight-advance}
 use Rattle.drmaa_model.specs.WeightLaws.{run-weight}
-use Rattle.scheduler_core.specs.declared.facts.RowFacts.{RowFacts}
-use Rattle.scheduler_core.specs.Facts.{row_facts, reports_due, reports_to_come}
+use Rattle.scheduler_core.specs.Facts.{reports_due, reports_to_come}
 use Rattle.machine_readings.specs.declared.store.Store.{Store}
 use Rattle.machine_readings.specs.Stores.{IsKept}
 use Rattle.machine_calls.specs.Reports.{has_course, is_promised}
 use Rattle.machine_calls.proofs.Dues.{due, go-due, advance-due}
 use Rattle.machine_calls.proofs.Outcomes.{launching-due}
-
--- ---- what is told of a job decides it
-
--- a test of what is told of a job, which is that of its course
-pub told-course : (told : RowFacts → Bool) (test : Course → Bool) → ((row : Row) → told (row_facts row) ≡ test row.course) → (o : Option Row)
-    → option_map_or told (option_map row_facts o) false ≡ option_map_or (λ (row : Row). test row.course) o false
-told-course told test each None = refl
-told-course told test each (Some row) = each row
-
-pub told-begun : (attempt : ℕ) (o : Option Row) (facts : Option RowFacts) → facts ≡ option_map row_facts o
-    → option_map_or (λ (f : RowFacts). is_launching f.phase && (f.attempt == attempt)) facts false ≡ option_map_or (λ (row : Row). may_begin attempt row.course) o false
-told-begun attempt o facts is =
-    ap (λ (x : Option RowFacts). option_map_or (λ (f : RowFacts). is_launching f.phase && (f.attempt == attempt)) x false) is
-    ∙ told-course (λ (f : RowFacts). is_launching f.phase && (f.attempt == attempt)) (may_begin attempt) (λ row. refl) o
-
-pub told-running : (attempt : ℕ) (o : Option Row) (facts : Option RowFacts) → facts ≡ option_map row_facts o
-    → option_map_or (λ (f : RowFacts). not (is_idle f.phase) && (f.attempt == attempt)) facts false ≡ option_map_or (λ (row : Row). may_exit attempt row.course) o false
-told-running attempt o facts is =
-    ap (λ (x : Option RowFacts). option_map_or (λ (f : RowFacts). not (is_idle f.phase) && (f.attempt == attempt)) x false) is
-    ∙ told-course (λ (f : RowFacts). not (is_idle f.phase) && (f.attempt == attempt)) (may_exit attempt) (λ row. refl) o
 
 -- ---- it is exactly what is not refused
 

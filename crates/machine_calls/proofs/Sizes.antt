@@ -1,7 +1,8 @@
 -- The size of what a call comes to that adds nothing to the journal but its entry.
-use Rattle.std.proofs.Common.{◌≡◌, ℕ, ◌+◌, ◌<◌, ◌≤◌, Bool, true, false, List, Some, None, refl, sym, ◌∙◌, ap, subst}
+use Rattle.std.proofs.Common.{◌≡◌, ℕ, ◌+◌, ◌<◌, ◌≤◌, Bool, true, false, inl, inr, List, Some, None, refl, sym, ◌∙◌, ap, subst}
 use Rattle.std.specs.Prelude.{Result, Err}
 use Rattle.std.specs.Option.{option_map_or}
+use Rattle.std.proofs.lemmas.Bool.{cases_lt}
 use Rattle.session_table.specs.Sessions.{home_of, destroyed}
 use Rattle.drmaa_types.specs.declared.sessions.SessionKind.{SessionKind}
 use Rattle.drmaa_types.specs.declared.sessions.SessionKind.TheVariants.{Jobs, Reservations}
@@ -28,14 +29,15 @@ use Rattle.machine_calls.specs.declared.replies.Replies.{Replies}
 use Rattle.machine_calls.specs.Serving.{Comes}
 use Rattle.machine_calls.specs.Serving.Comes.{is_full, is_short}
 
--- the call makes an entry, and nothing else adds to the journal
-pub record Planned (w : World) (at : ℕ) (asked : Call) : Type 0 where
+-- the call makes an entry, and the journal then has this size
+pub record Planned (w : World) (at : ℕ) (asked : Call) (n : ℕ) : Type 0 where
   pub told : Reply
   pub after : World
   pub answered : answer w at asked ≡ gives told after
-  pub size_is : size after ≡ w.entries + 1 + weight w.plan
+  pub size_is : size after ≡ n
 
-pub planned-makes : (w : World) (at : ℕ) (asked : Call) (r : Reply) → answer w at asked ≡ makes r (advance w at) → Planned w at asked
+-- nothing else adds to the journal
+pub planned-makes : (w : World) (at : ℕ) (asked : Call) (r : Reply) → answer w at asked ≡ makes r (advance w at) → Planned w at asked (w.entries + 1 + weight w.plan)
 planned-makes w at asked r is = record {
   told = r;
   after = counted (advance w at);
@@ -43,15 +45,21 @@ planned-makes w at asked r is = record {
   size_is = ap (λ n. w.entries + 1 + n) (weight-advance (w.entries + 1) at w.plan);
 }
 
-pub full-of : (w next : World) (at : ℕ) (asked : Call) (e : NoEntry) → Planned w at asked → e ≡ fault.Journal (w.entries + 1 + weight w.plan)
-    → w.config.journal < w.entries + 1 + weight w.plan → next ≡ w → Comes w at asked (Err e) next
-full-of w next at asked e planned is above same =
-    is_full planned.told planned.after (ap (λ (x : NoEntry). let r : Result Replies NoEntry = Err x in r) (is ∙ ap fault.Journal (sym planned.size_is))) planned.answered
-    (subst (λ n. w.config.journal < n) (sym planned.size_is) above) same
-
-pub short-of : (w next : World) (at : ℕ) (asked : Call) → Planned w at asked → w.entries + 1 + weight w.plan ≤ w.config.journal → next ≡ w → Comes w at asked (Err fault.OutOfMemory) next
+pub short-of : {n : ℕ} (w next : World) (at : ℕ) (asked : Call) → Planned w at asked n → n ≤ w.config.journal → next ≡ w → Comes w at asked (Err fault.OutOfMemory) next
 short-of w next at asked planned within same =
-    is_short planned.told planned.after refl planned.answered (λ sized. subst (λ n. n ≤ w.config.journal) (sym planned.size_is) within) same
+    is_short planned.told planned.after refl planned.answered (λ sized. subst (λ k. k ≤ w.config.journal) (sym planned.size_is) within) same
+
+-- the journal would be too large, or memory is wanting
+pub hindered : {n : ℕ} (w next : World) (at : ℕ) (asked : Call) (m : ℕ) (e : NoEntry) → Planned w at asked n → m ≡ n → (w.config.journal < m → e ≡ fault.Journal m)
+    → (m ≤ w.config.journal → e ≡ fault.OutOfMemory) → next ≡ w → Comes w at asked (Err e) next
+hindered w next at asked m e planned is if_full if_short same =
+    let whole : m ≡ size planned.after = is ∙ sym planned.size_is in
+    elim (cases_lt w.config.journal m) as (λ h. Comes w at asked (Err e) next) [
+      | inl above ↦
+          is_full planned.told planned.after (ap (λ (x : NoEntry). let r : Result Replies NoEntry = Err x in r) (if_full above ∙ ap fault.Journal whole)) planned.answered
+          (subst (λ k. w.config.journal < k) whole above) same
+      | inr below ↦ subst (λ (x : NoEntry). Comes w at asked (Err x) next) (sym (if_short below)) (short-of w next at asked planned (subst (λ k. k ≤ w.config.journal) is below) same)
+    ]
 
 -- ---- the calls of sessions and readings
 
@@ -149,11 +157,11 @@ module _ (at : ℕ) (v : World) (fit : IsFit v.plan) where
   now-planned (call.SignalDone job attempt kind) p = absurd (cc)
   now-planned (call.SignalFailed job attempt kind) p = absurd (cc)
 
-pub planned : (w : World) (at : ℕ) (asked : Call) → IsConsistent w → is_plain asked ≡ true → Planned w at asked
+pub planned : (w : World) (at : ℕ) (asked : Call) → IsConsistent w → is_plain asked ≡ true → Planned w at asked (w.entries + 1 + weight w.plan)
 planned w at asked ok plain =
     let v = advance w at in
     let same : w.entries + 1 + weight v.plan ≡ w.entries + 1 + weight w.plan = ap (λ n. w.entries + 1 + n) (weight-advance (w.entries + 1) at w.plan) in
-    (elim (refusal v asked) as (λ o. refusal v asked ≡ o → Planned w at asked) [
+    (elim (refusal v asked) as (λ o. refusal v asked ≡ o → Planned w at asked (w.entries + 1 + weight w.plan)) [
       | Some why ↦ λ is. planned-makes w at asked (reply.Refused why) (refused-gives at v asked why is)
       | None ↦ λ is.
           (let now = now-planned at v (advance-fit (w.entries + 1) at w.plan ok.fit) asked plain in

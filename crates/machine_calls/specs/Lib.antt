@@ -1,3 +1,4 @@
 pub mod Opening
 pub mod Reports
+pub mod Runs
 pub mod Serving

@@ -62,10 +62,6 @@ is_sized_first call.TakeSignal = true
 is_sized_first (call.SignalDone job attempt kind) = true
 is_sized_first (call.SignalFailed job attempt kind) = true
 
--- the journal has room for what the call comes to
-abbrev pub HasSize : World → ℕ → Call → Type 0
-HasSize w at asked = (r : Reply) (after : World) → answer w at asked ≡ gives r after → size after ≤ w.config.journal
-
 -- A call is answered by its step; or nothing changes, since there is nothing to hand out, what is waited for has not come,
 -- the journal would be too large, or memory ran out.
 pub data Comes (w : World) (at : ℕ) (asked : Call) (result : Result Replies NoEntry) (next : World) : Type 0 where

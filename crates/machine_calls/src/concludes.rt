@@ -3,11 +3,12 @@ ghost use Rattle.std.specs.Prelude.{◌≡◌, ◌<◌};
 ghost use Rattle.drmaa_model.specs.Effects.{unit};
 ghost use Rattle.drmaa_model.specs.declared.replies.Reply.{Reply};
 ghost use Rattle.machine_readings.specs.Stores.{world_of};
-ghost use Rattle.machine_calls.specs.Serving.{Concludes, Keeps};
+ghost use Rattle.machine_calls.specs.Runs.{told_of};
+ghost use Rattle.machine_calls.specs.Serving.{AreBoth, Concludes, Keeps};
 
 use crate::places::sort;
 use crate::replies::Replies;
-use drmaa_model::NoEntry;
+use drmaa_model::{NoEntry, Submitted};
 use drmaa_types::{Refusal, Reserved};
 use machine_readings::Store;
 
@@ -43,5 +44,34 @@ pub fn conclude_reserved(
             Ok(Replies::reserved(&reserved))
         }
         Err(why) => sort(store, why),
+    }
+}
+
+/// Of a job or an array that was submitted.
+pub fn conclude_submitted(
+    store: &mut Store,
+    done: Result<Submitted, Refusal>,
+) -> Result<Replies, NoEntry>
+    requires few { store.old.entries < 4_000_001 }
+    ensures concludes { Concludes told_of done (world_of store.old) result (world_of store.new) }
+    ensures keeps { Keeps store.old store.new }
+    ensures core { store.new.core ≡ store.old.core }
+{
+    match done {
+        Ok(submitted) => {
+            store.entries += 1;
+            Ok(replies_of(&submitted))
+        }
+        Err(why) => sort(store, why),
+    }
+}
+
+/// The array with its first job and how many there are; or the one job.
+fn replies_of(submitted: &Submitted) -> Replies
+    ensures { AreBoth result (told_of submitted.now) }
+{
+    match submitted.array {
+        Some(array) => Replies::array(array, submitted.first, submitted.count),
+        None => Replies::job(submitted.first),
     }
 }

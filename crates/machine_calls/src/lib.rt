@@ -1,22 +1,24 @@
 //! The calls of the machine, over what it stores: each is one step of the world, and an entry more.
 #![tactic(auto)]
 
-mod closes;
 mod closings;
 mod concludes;
+mod launches;
 mod operations;
 mod places;
 mod replies;
 mod reports;
 mod sessions;
 mod settles;
+mod signals;
+mod submissions;
 
-pub use closes::close;
-pub use closings::{destroy, register};
-pub use concludes::{conclude, conclude_reserved};
+pub use closings::{close, destroy, register};
+pub use launches::take_launch;
 pub use operations::{control, end_reservation, reap};
-pub use places::{limit_for, make_place, sort, within};
 pub use replies::Replies;
 pub use reports::report;
 pub use sessions::{attach, create, monitor};
-pub use settles::{pass, read, refuse, settle, wait};
+pub use settles::{read, wait};
+pub use signals::take_signal;
+pub use submissions::{request_reservation, submit};

@@ -1,12 +1,8 @@
 //! Calls that an operation of the core serves.
-ghost use Rattle.std.specs.Prelude.{◌≡◌, ◌≢◌, ◌&&◌, ◌+◌, ◌≤◌, not, true, [], ◌∷◌, OnOk, OnErr, Err, None};
-ghost use Rattle.drmaa_types.specs.Refusals.{first_refusal};
-ghost use Rattle.drmaa_types.specs.declared.sessions.SessionKind.{SessionKind};
+ghost use Rattle.std.specs.Prelude.{◌≡◌, ◌≢◌, ◌+◌, ◌≤◌, true, OnOk, OnErr, Err};
 ghost use Rattle.drmaa_model.specs.declared.calls.Call.{Call};
-ghost use Rattle.drmaa_model.specs.Homes.{session_test, own_test, reap_test, reapers, reservation_test};
-ghost use Rattle.drmaa_model.specs.Refusals.{is_pausing};
-ghost use Rattle.job_control.specs.Targets.{is_one_quiet};
-ghost use Rattle.machine_readings.specs.Stores.{world_of, world_at, IsKept};
+ghost use Rattle.scheduler_core.specs.Targets.{is_one_quiet};
+ghost use Rattle.machine_readings.specs.Stores.{world_of, IsKept};
 ghost use Rattle.machine_calls.specs.Serving.{Comes, Keeps, HasPlace, spare_of, left_of};
 
 use crate::concludes::conclude;
@@ -14,7 +10,7 @@ use crate::places::limit_for;
 use crate::replies::Replies;
 use crate::settles::refuse;
 use drmaa_model::{NoEntry, Target};
-use drmaa_types::{Control, Moment, Refusal, ReservationId, SessionId};
+use drmaa_types::{Control, Moment, ReservationId, SessionId};
 use machine_readings::Store;
 
 /// Forgets ended jobs.
@@ -32,28 +28,13 @@ pub fn reap(
 {
     match store.reap_refusal(at, session, &target) {
         Some(why) => refuse(store, at, &why),
-        None => reap_own(store, at, session, target),
+        None => {
+            let limit = limit_for(store);
+            let entry = store.entries + 1;
+            let done = store.core.reap(at, entry, limit, target);
+            conclude(store, done)
+        }
     }
-}
-
-fn reap_own(
-    store: &mut Store,
-    at: Moment,
-    session: SessionId,
-    target: Target,
-) -> Result<Replies, NoEntry>
-    requires kept { IsKept store.old }
-    requires own { first_refusal (session_test (reapers target) session (world_at at store.old) ∷ reap_test session target (world_at at store.old) ∷ []) ≡ None }
-    ensures comes { Comes (world_of store.old) at (Call.Reap session target) result (world_of store.new) }
-    ensures keeps { Keeps store.old store.new }
-    ensures place { OnOk result (HasPlace 1 store.new) }
-    ensures spare { spare_of store.old ≤ spare_of store.new }
-{
-    let _ = session;
-    let limit = limit_for(store);
-    let entry = store.entries + 1;
-    let done = store.core.reap(at, entry, limit, target);
-    conclude(store, done)
 }
 
 /// Holds, releases, suspends, resumes or terminates jobs. A hold or a release of one job takes no memory where `spare` is at
@@ -75,32 +56,13 @@ pub fn control(
 {
     match store.control_refusal(at, session, &target, what) {
         Some(why) => refuse(store, at, &why),
-        None => control_own(store, at, session, target, what),
+        None => {
+            let limit = limit_for(store);
+            let entry = store.entries + 1;
+            let done = store.core.control(at, entry, limit, target, what);
+            conclude(store, done)
+        }
     }
-}
-
-fn control_own(
-    store: &mut Store,
-    at: Moment,
-    session: SessionId,
-    target: Target,
-    what: Control,
-) -> Result<Replies, NoEntry>
-    requires kept { IsKept store.old }
-    requires own { first_refusal (session_test (SessionKind.Jobs ∷ []) session (world_at at store.old) ∷ own_test session target (world_at at store.old) ∷
-        (is_pausing what && not store.old.config.suspend, Refusal.UnsupportedOperation) ∷ []) ≡ None }
-    ensures comes { Comes (world_of store.old) at (Call.Control session target what) result (world_of store.new) }
-    ensures keeps { Keeps store.old store.new }
-    ensures place { OnOk result (HasPlace 1 store.new) }
-    ensures memory { is_one_quiet target what ≡ true → 1 ≤ spare_of store.old → result ≢ Err NoEntry.OutOfMemory }
-    ensures spare { is_one_quiet target what ≡ true → spare_of store.old ≤ left_of store.new + 1 }
-    ensures unspent { OnErr result (spare_of store.old ≤ spare_of store.new) }
-{
-    let _ = session;
-    let limit = limit_for(store);
-    let entry = store.entries + 1;
-    let done = store.core.control(at, entry, limit, target, what);
-    conclude(store, done)
 }
 
 /// Ends a reservation.
@@ -118,26 +80,11 @@ pub fn end_reservation(
 {
     match store.reservation_refusal(at, session, number) {
         Some(why) => refuse(store, at, &why),
-        None => end_own(store, at, session, number),
+        None => {
+            let limit = limit_for(store);
+            let entry = store.entries + 1;
+            let done = store.core.end_reservation(at, entry, limit, number);
+            conclude(store, done)
+        }
     }
-}
-
-fn end_own(
-    store: &mut Store,
-    at: Moment,
-    session: SessionId,
-    number: ReservationId,
-) -> Result<Replies, NoEntry>
-    requires kept { IsKept store.old }
-    requires own { first_refusal (session_test (SessionKind.Reservations ∷ []) session (world_at at store.old) ∷ reservation_test session number (world_at at store.old) ∷ []) ≡ None }
-    ensures comes { Comes (world_of store.old) at (Call.EndReservation session number) result (world_of store.new) }
-    ensures keeps { Keeps store.old store.new }
-    ensures place { OnOk result (HasPlace 1 store.new) }
-    ensures spare { spare_of store.old ≤ spare_of store.new }
-{
-    let _ = session;
-    let limit = limit_for(store);
-    let entry = store.entries + 1;
-    let done = store.core.end_reservation(at, entry, limit, number);
-    conclude(store, done)
 }

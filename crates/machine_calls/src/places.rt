@@ -1,5 +1,5 @@
-//! The memory for entries, and the limit that an operation of the core is given.
-ghost use Rattle.std.specs.Prelude.{◌≡◌, ◌+◌, ◌<◌, ◌≤◌, OnOk, OnErr, IsOk, IfErr};
+//! The journal's room and the memory for entries, and the limit that an operation of the core is given.
+ghost use Rattle.std.specs.Prelude.{◌≡◌, ◌≢◌, ◌+◌, ◌<◌, ◌≤◌, OnOk, IsOk, IfErr};
 ghost use Rattle.drmaa_model.specs.Size.{weight};
 ghost use Rattle.machine_readings.specs.Stores.{world_of, IsKept};
 ghost use Rattle.machine_calls.specs.Serving.{Keeps, HasPlace, places, spare_of, Sorts};
@@ -11,7 +11,7 @@ use machine_readings::Store;
 use std::alloc::AllocError;
 
 /// Takes the memory for an entry, and for so many more that reports will make.
-pub fn make_place(store: &mut Store, more: u32) -> Result<(), AllocError>
+fn make_place(store: &mut Store, more: u32) -> Result<(), AllocError>
     requires kept { IsKept store.old }
     ensures world { world_of store.new ≡ world_of store.old }
     ensures core { store.new.core ≡ store.old.core }
@@ -43,18 +43,55 @@ pub fn limit_for(store: &mut Store) -> u64
     store.config.journal
 }
 
-/// Whether the journal has room for an entry that adds nothing to it.
-pub fn within(store: &Store) -> Result<(), NoEntry>
-    requires { IsKept store.now }
-    ensures ok { OnOk result (store.now.entries + 1 + weight store.now.core.plan ≤ store.now.config.journal) }
-    ensures err { IfErr result (λ e. e ≡ NoEntry.Journal (store.now.entries + 1 + weight store.now.core.plan)) }
-    ensures above { OnErr result (store.now.config.journal < store.now.entries + 1 + weight store.now.core.plan) }
+/// Takes the memory for an entry, and for so many more that reports will make, where the journal has room for the entry and for
+/// what it adds beside itself.
+///
+/// # Errors
+///
+/// `Journal` with the size that the journal would have, where that is above the greatest; else want of memory.
+pub fn make_room(store: &mut Store, added: u32, reports: u32) -> Result<(), NoEntry>
+    requires kept { IsKept store.old }
+    ensures world { world_of store.new ≡ world_of store.old }
+    ensures core { store.new.core ≡ store.old.core }
+    ensures keeps { Keeps store.old store.new }
+    ensures spare { spare_of store.old ≤ spare_of store.new }
+    ensures place { OnOk result (HasPlace (1 + reports) store.new) }
+    ensures within { OnOk result (store.old.entries + 1 + weight store.old.core.plan + added ≤ store.old.config.journal) }
+    ensures full { IfErr result (λ e. store.old.config.journal < store.old.entries + 1 + weight store.old.core.plan + added
+        → e ≡ NoEntry.Journal (store.old.entries + 1 + weight store.old.core.plan + added)) }
+    ensures short { IfErr result (λ e. store.old.entries + 1 + weight store.old.core.plan + added ≤ store.old.config.journal
+        → e ≡ NoEntry.OutOfMemory) }
+    ensures memory { 1 + reports ≤ places store.old → IfErr result (λ e. e ≢ NoEntry.OutOfMemory) }
 {
-    let size = store.entries + 1 + store.core.size();
+    let size = size_with(store, added);
     if size > store.config.journal {
         return Err(NoEntry::Journal { size });
     }
-    Ok(())
+    match make_place(store, reports) {
+        Ok(()) => Ok(()),
+        Err(_) => Err(NoEntry::OutOfMemory),
+    }
+}
+
+/// The size that the journal would have with an entry more that adds so much beside itself.
+pub fn size_with(store: &Store, added: u32) -> u64
+    requires { IsKept store.now }
+    ensures { result ≡ store.now.entries + 1 + weight store.now.core.plan + added }
+{
+    store.entries + 1 + store.core.size() + added as u64
+}
+
+/// Why a call for which memory is wanting makes no entry, where the journal would have this size with it: that this is too large
+/// comes first.
+pub fn hindrance(store: &Store, size: u64) -> NoEntry
+    ensures full { store.now.config.journal < size → result ≡ NoEntry.Journal size }
+    ensures short { size ≤ store.now.config.journal → result ≡ NoEntry.OutOfMemory }
+{
+    if size > store.config.journal {
+        NoEntry::Journal { size }
+    } else {
+        NoEntry::OutOfMemory
+    }
 }
 
 /// Takes an operation's error: a refusal is a reply.
@@ -66,22 +103,10 @@ pub fn sort(store: &mut Store, why: Refusal) -> Result<Replies, NoEntry>
 {
     match why {
         Refusal::OutOfMemory => Err(NoEntry::OutOfMemory),
-        Refusal::OutOfResource(Limit::Journal { size }) => Err(too_large(store, size)),
+        Refusal::OutOfResource(Limit::Journal { size }) => Err(hindrance(store, size)),
         _ => {
             store.entries += 1;
             Ok(Replies::refused(&why))
         }
-    }
-}
-
-/// A size that is above the limit which an operation was given.
-fn too_large(store: &Store, size: u64) -> NoEntry
-    ensures full { store.now.config.journal < size → result ≡ NoEntry.Journal size }
-    ensures short { size ≤ store.now.config.journal → result ≡ NoEntry.OutOfMemory }
-{
-    if size > store.config.journal {
-        NoEntry::Journal { size }
-    } else {
-        NoEntry::OutOfMemory
     }
 }

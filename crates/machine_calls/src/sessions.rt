@@ -1,16 +1,14 @@
 //! The calls of the session manager.
-ghost use Rattle.std.specs.Prelude.{◌≡◌, ◌+◌, ◌<◌, ◌≤◌, IsTrue, OnOk};
+ghost use Rattle.std.specs.Prelude.{◌<◌, ◌≤◌, IsTrue, OnOk};
 ghost use Rattle.session_table.specs.Sessions.{has_names};
 ghost use Rattle.drmaa_model.specs.declared.calls.Call.{Call};
-ghost use Rattle.drmaa_model.specs.Size.{weight};
-ghost use Rattle.drmaa_model.specs.Time.{advance};
-ghost use Rattle.drmaa_model.specs.World.{counted};
 ghost use Rattle.machine_readings.specs.Stores.{world_of, IsKept};
 ghost use Rattle.machine_calls.specs.Opening.{Opens, create_call, open_call};
 ghost use Rattle.machine_calls.specs.Serving.{Comes, Keeps, HasPlace, spare_of};
 
-use crate::places::{make_place, within};
+use crate::places::{hindrance, make_room, size_with};
 use crate::replies::Replies;
+use crate::settles::go_on;
 use drmaa_model::NoEntry;
 use drmaa_types::{Moment, Refusal, SessionId, SessionKind, Text};
 use machine_readings::{Store, copied};
@@ -29,32 +27,13 @@ pub fn create(
     ensures place { OnOk result (HasPlace 1 store.new) }
     ensures spare { spare_of store.old ≤ spare_of store.new }
 {
-    match within(store) {
-        Ok(()) => create_within(store, at, kind, name),
-        Err(full) => Err(full),
-    }
-}
-
-fn create_within(
-    store: &mut Store,
-    at: Moment,
-    kind: SessionKind,
-    name: &Option<Text>,
-) -> Result<Replies, NoEntry>
-    requires kept { IsKept store.old }
-    requires kind { IsTrue (has_names kind) }
-    requires within { store.old.entries + 1 + weight store.old.core.plan ≤ store.old.config.journal }
-    ensures comes { Comes (world_of store.old) at (create_call kind name.now) result (world_of store.new) }
-    ensures keeps { Keeps store.old store.new }
-    ensures place { OnOk result (HasPlace 1 store.new) }
-    ensures spare { spare_of store.old ≤ spare_of store.new }
-{
     match copied(name) {
         Ok(name) => create_named(store, at, kind, name),
-        Err(_) => Err(NoEntry::OutOfMemory),
+        Err(_) => Err(hindrance(store, size_with(store, 0))),
     }
 }
 
+/// Makes a named session with a name of its own: the one in the call becomes part of the entry.
 fn create_named(
     store: &mut Store,
     at: Moment,
@@ -63,18 +42,17 @@ fn create_named(
 ) -> Result<Replies, NoEntry>
     requires kept { IsKept store.old }
     requires kind { IsTrue (has_names kind) }
-    requires within { store.old.entries + 1 + weight store.old.core.plan ≤ store.old.config.journal }
     ensures comes { Comes (world_of store.old) at (create_call kind name) result (world_of store.new) }
     ensures keeps { Keeps store.old store.new }
     ensures place { OnOk result (HasPlace 1 store.new) }
     ensures spare { spare_of store.old ≤ spare_of store.new }
 {
-    match make_place(store, 0) {
+    match make_room(store, 0, 0) {
         Ok(()) => {
             let made = store.sessions.create(kind, name);
             open_up(store, at, made)
         }
-        Err(_) => Err(NoEntry::OutOfMemory),
+        Err(why) => Err(why),
     }
 }
 
@@ -92,32 +70,12 @@ pub fn attach(
     ensures place { OnOk result (HasPlace 1 store.new) }
     ensures spare { spare_of store.old ≤ spare_of store.new }
 {
-    match within(store) {
-        Ok(()) => attach_within(store, at, kind, name),
-        Err(full) => Err(full),
-    }
-}
-
-fn attach_within(
-    store: &mut Store,
-    at: Moment,
-    kind: SessionKind,
-    name: &Text,
-) -> Result<Replies, NoEntry>
-    requires kept { IsKept store.old }
-    requires kind { IsTrue (has_names kind) }
-    requires within { store.old.entries + 1 + weight store.old.core.plan ≤ store.old.config.journal }
-    ensures comes { Comes (world_of store.old) at (open_call kind name.now) result (world_of store.new) }
-    ensures keeps { Keeps store.old store.new }
-    ensures place { OnOk result (HasPlace 1 store.new) }
-    ensures spare { spare_of store.old ≤ spare_of store.new }
-{
-    match make_place(store, 0) {
+    match make_room(store, 0, 0) {
         Ok(()) => {
             let made = store.sessions.attach(kind, name);
             open_up(store, at, made)
         }
-        Err(_) => Err(NoEntry::OutOfMemory),
+        Err(why) => Err(why),
     }
 }
 
@@ -129,26 +87,12 @@ pub fn monitor(store: &mut Store, at: Moment) -> Result<Replies, NoEntry>
     ensures place { OnOk result (HasPlace 1 store.new) }
     ensures spare { spare_of store.old ≤ spare_of store.new }
 {
-    match within(store) {
-        Ok(()) => monitor_within(store, at),
-        Err(full) => Err(full),
-    }
-}
-
-fn monitor_within(store: &mut Store, at: Moment) -> Result<Replies, NoEntry>
-    requires kept { IsKept store.old }
-    requires within { store.old.entries + 1 + weight store.old.core.plan ≤ store.old.config.journal }
-    ensures comes { Comes (world_of store.old) at Call.OpenMonitoring result (world_of store.new) }
-    ensures keeps { Keeps store.old store.new }
-    ensures place { OnOk result (HasPlace 1 store.new) }
-    ensures spare { spare_of store.old ≤ spare_of store.new }
-{
-    match make_place(store, 0) {
+    match make_room(store, 0, 0) {
         Ok(()) => {
             let made = store.sessions.monitor();
             open_up(store, at, made)
         }
-        Err(_) => Err(NoEntry::OutOfMemory),
+        Err(why) => Err(why),
     }
 }
 
@@ -170,20 +114,4 @@ fn open_up(
         Err(Refusal::OutOfMemory) => Err(NoEntry::OutOfMemory),
         Err(why) => Ok(go_on(store, at, Replies::refused(&why))),
     }
-}
-
-/// Time goes on, and an entry is made.
-pub fn go_on(store: &mut Store, at: Moment, replies: Replies) -> Replies
-    requires few { store.old.entries < 4_000_001 }
-    requires room { HasPlace 1 store.old }
-    ensures replies { result ≡ replies }
-    ensures world { world_of store.new ≡ counted (advance (world_of store.old) at) }
-    ensures keeps { Keeps store.old store.new }
-    ensures place { HasPlace 1 store.new }
-    ensures spare { spare_of store.old ≤ spare_of store.new }
-{
-    let entry = store.entries + 1;
-    store.core.advance(at, entry);
-    store.entries = entry;
-    replies
 }

@@ -1,28 +1,28 @@
 //! Calls that change no more than time: refusals, and what only reads.
-ghost use Rattle.std.specs.Prelude.{◌≡◌, ◌≢◌, ◌+◌, ◌≤◌, IfOk, IsOk, OnOk, Some, None, Err, true};
+ghost use Rattle.std.specs.Prelude.{◌≡◌, ◌≢◌, ◌<◌, ◌≤◌, IfOk, IsOk, OnOk, Some, None, Err, true};
 ghost use Rattle.drmaa_types.specs.declared.identifiers.JobId.{JobId};
 ghost use Rattle.drmaa_types.specs.declared.identifiers.SessionId.{SessionId};
 ghost use Rattle.drmaa_model.specs.declared.calls.Call.{Call};
 ghost use Rattle.drmaa_model.specs.Effects.{makes};
 ghost use Rattle.drmaa_model.specs.Refusals.{refusal};
-ghost use Rattle.drmaa_model.specs.Size.{weight};
 ghost use Rattle.drmaa_model.specs.Steps.{answer};
+ghost use Rattle.drmaa_model.specs.Time.{advance};
+ghost use Rattle.drmaa_model.specs.World.{counted};
 ghost use Rattle.machine_readings.specs.Stores.{world_of, world_at, IsKept};
 ghost use Rattle.machine_readings.specs.Telling.{IsReply, is_reading};
 ghost use Rattle.machine_calls.specs.Serving.{Comes, IsLooked, Keeps, HasPlace, spare_of};
 
-use crate::places::{make_place, within};
+use crate::places::{hindrance, make_room, size_with};
 use crate::replies::Replies;
 use drmaa_model::{Call, NoEntry};
 use drmaa_types::{IdList, JobId, Moment, Refusal, SessionId, Timeout, WaitKind};
 use machine_readings::{Store, is_timed_out};
 use std::alloc::AllocError;
 
-/// Answers what changes no more than time.
-pub fn pass(store: &mut Store, at: Moment, replies: Replies) -> Result<Replies, NoEntry>
+/// Answers what changes no more than time, where the journal has room for it.
+pub fn settle(store: &mut Store, at: Moment, replies: Replies) -> Result<Replies, NoEntry>
     requires kept { IsKept store.old }
     requires twice { replies.kept ≡ replies.told }
-    requires within { store.old.entries + 1 + weight store.old.core.plan ≤ store.old.config.journal }
     ensures comes { (asked : Call) → answer (world_of store.old) at asked ≡ makes replies.told (world_at at store.old)
         → Comes (world_of store.old) at asked result (world_of store.new) }
     ensures keeps { Keeps store.old store.new }
@@ -30,15 +30,26 @@ pub fn pass(store: &mut Store, at: Moment, replies: Replies) -> Result<Replies, 
     ensures memory { 1 ≤ spare_of store.old → result ≢ Err NoEntry.OutOfMemory }
     ensures spare { spare_of store.old ≤ spare_of store.new }
 {
-    match make_place(store, 0) {
-        Ok(()) => {
-            let entry = store.entries + 1;
-            store.core.advance(at, entry);
-            store.entries = entry;
-            Ok(replies)
-        }
-        Err(_) => Err(NoEntry::OutOfMemory),
+    match make_room(store, 0, 0) {
+        Ok(()) => Ok(go_on(store, at, replies)),
+        Err(why) => Err(why),
     }
+}
+
+/// Time goes on, and an entry is made.
+pub fn go_on(store: &mut Store, at: Moment, replies: Replies) -> Replies
+    requires few { store.old.entries < 4_000_001 }
+    requires room { HasPlace 1 store.old }
+    ensures replies { result ≡ replies }
+    ensures world { world_of store.new ≡ counted (advance (world_of store.old) at) }
+    ensures keeps { Keeps store.old store.new }
+    ensures place { HasPlace 1 store.new }
+    ensures spare { spare_of store.old ≤ spare_of store.new }
+{
+    let entry = store.entries + 1;
+    store.core.advance(at, entry);
+    store.entries = entry;
+    replies
 }
 
 /// Refuses a call.
@@ -51,10 +62,7 @@ pub fn refuse(store: &mut Store, at: Moment, why: &Refusal) -> Result<Replies, N
     ensures memory { 1 ≤ spare_of store.old → result ≢ Err NoEntry.OutOfMemory }
     ensures spare { spare_of store.old ≤ spare_of store.new }
 {
-    match within(store) {
-        Ok(()) => pass(store, at, Replies::refused(why)),
-        Err(full) => Err(full),
-    }
+    settle(store, at, Replies::refused(why))
 }
 
 /// Serves a call that only reads. What asks for a job's state takes no memory where `spare` is at least 1.
@@ -68,26 +76,9 @@ pub fn read(store: &mut Store, at: Moment, call: &Call) -> Result<Replies, NoEnt
         → result ≢ Err NoEntry.OutOfMemory }
     ensures spare { spare_of store.old ≤ spare_of store.new }
 {
-    match within(store) {
-        Ok(()) => read_within(store, at, call),
-        Err(full) => Err(full),
-    }
-}
-
-fn read_within(store: &mut Store, at: Moment, call: &Call) -> Result<Replies, NoEntry>
-    requires kept { IsKept store.old }
-    requires reading { is_reading call.now ≡ true }
-    requires within { store.old.entries + 1 + weight store.old.core.plan ≤ store.old.config.journal }
-    ensures comes { Comes (world_of store.old) at call.now result (world_of store.new) }
-    ensures keeps { Keeps store.old store.new }
-    ensures place { OnOk result (HasPlace 1 store.new) }
-    ensures memory { (session : SessionId) (job : JobId) → call.now ≡ Call.GetState session job → 1 ≤ spare_of store.old
-        → result ≢ Err NoEntry.OutOfMemory }
-    ensures spare { spare_of store.old ≤ spare_of store.new }
-{
     match replies_to(store, at, call) {
-        Ok(replies) => pass(store, at, replies),
-        Err(_) => Err(NoEntry::OutOfMemory),
+        Ok(replies) => settle(store, at, replies),
+        Err(_) => Err(hindrance(store, size_with(store, 0))),
     }
 }
 
@@ -146,32 +137,14 @@ pub fn wait(
 {
     match store.wait_refusal(at, session, jobs) {
         Some(why) => refuse(store, at, &why),
-        None => look(store, at, session, jobs, kind, begun, timeout),
-    }
-}
-
-fn look(
-    store: &mut Store,
-    at: Moment,
-    session: SessionId,
-    jobs: &IdList,
-    kind: WaitKind,
-    begun: Moment,
-    timeout: Timeout,
-) -> Result<Replies, NoEntry>
-    requires kept { IsKept store.old }
-    requires free { refusal (world_at at store.old) (Call.Wait session jobs.now kind begun timeout) ≡ None }
-    ensures comes { Comes (world_of store.old) at (Call.Wait session jobs.now kind begun timeout) result (world_of store.new) }
-    ensures keeps { Keeps store.old store.new }
-    ensures place { OnOk result (HasPlace 1 store.new) }
-    ensures spare { spare_of store.old ≤ spare_of store.new }
-{
-    let _ = session;
-    let job = store.first_reached(at, kind, jobs);
-    let over = is_timed_out(at, begun, timeout);
-    match looked(job, over) {
-        Some(replies) => settle(store, at, replies),
-        None => Err(NoEntry::NotYet),
+        None => {
+            let job = store.first_reached(at, kind, jobs);
+            let over = is_timed_out(at, begun, timeout);
+            match looked(job, over) {
+                Some(replies) => settle(store, at, replies),
+                None => Err(NoEntry::NotYet),
+            }
+        }
     }
 }
 
@@ -187,22 +160,5 @@ fn looked(job: Option<u64>, over: bool) -> Option<Replies>
             }
             None
         }
-    }
-}
-
-/// Answers what changes no more than time, where the journal has room for it.
-pub fn settle(store: &mut Store, at: Moment, replies: Replies) -> Result<Replies, NoEntry>
-    requires kept { IsKept store.old }
-    requires twice { replies.kept ≡ replies.told }
-    ensures comes { (asked : Call) → answer (world_of store.old) at asked ≡ makes replies.told (world_at at store.old)
-        → Comes (world_of store.old) at asked result (world_of store.new) }
-    ensures keeps { Keeps store.old store.new }
-    ensures place { OnOk result (HasPlace 1 store.new) }
-    ensures memory { 1 ≤ spare_of store.old → result ≢ Err NoEntry.OutOfMemory }
-    ensures spare { spare_of store.old ≤ spare_of store.new }
-{
-    match within(store) {
-        Ok(()) => pass(store, at, replies),
-        Err(full) => Err(full),
     }
 }

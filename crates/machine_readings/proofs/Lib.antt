@@ -1,4 +1,5 @@
 pub mod Loops
 pub mod MemberSteps
+pub mod RangeSteps
 pub mod RowSteps
 pub mod Tellings

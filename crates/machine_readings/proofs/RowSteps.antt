@@ -19,7 +19,7 @@ use Rattle.drmaa_model.specs.Time.{rows_at, lapsed, called_in, let_go, come_to}
 use Rattle.drmaa_model.specs.TimeLaws.{row_of-advance, timed, timed-only, lapsed-job, called-job}
 use Rattle.drmaa_model.specs.World.{World}
 use Rattle.scheduler_core.specs.declared.facts.RowFacts.{RowFacts}
-use Rattle.reservation_requests.specs.Reservations.{reservation_from}
+use Rattle.scheduler_core.specs.Reservations.{reservation_from}
 use Rattle.scheduler_core.specs.Facts.{row_facts, job_from}
 use Rattle.machine_readings.specs.Lookups.{any-one, any-found, any-one_both}
 use Rattle.machine_readings.specs.Told.{told_of, name_in}

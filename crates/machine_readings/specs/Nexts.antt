@@ -1,5 +1,6 @@
 -- The job, or the reservation, that comes next from a number on, and those that come after it.
 use Rattle.std.specs.Prelude.{◌≡◌, ℕ, ◌+◌, ◌<◌, ◌^◌, List, [], ◌∷◌, Option, Some, MatchOption}
+use Rattle.std.specs.List.{AllByRecursion}
 use Rattle.drmaa_model.specs.declared.reservations.Accepted.{Accepted}
 use Rattle.drmaa_model.specs.declared.rows.Row.{Row}
 use Rattle.drmaa_model.specs.Fit.{number_of, reservation_number}
@@ -19,6 +20,10 @@ pub record IsNextRow (rows : List Row) (from : ℕ) (facts : RowFacts) : Type 0 
 -- it is the next one, or there is none
 abbrev pub AfterRow : List Row → ℕ → Option RowFacts → Type 0
 AfterRow rows from o = MatchOption o (from_on number_of from rows ≡ []) (IsNextRow rows from)
+
+-- it is the next one, or those from the number on all come after a last number
+abbrev pub AfterRowThrough : List Row → ℕ → ℕ → Option RowFacts → Type 0
+AfterRowThrough rows from last o = MatchOption o (AllByRecursion (λ (row : Row). last < row.job.0) (from_on number_of from rows)) (IsNextRow rows from)
 
 -- the same of reservations
 pub record IsNextAccepted (rs : List Accepted) (from : ℕ) (a : Accepted) : Type 0 where

@@ -22,7 +22,7 @@ use scheduler_core::RowFacts;
 use std::alloc::AllocError;
 
 impl Store {
-    /// The jobs of a home that a filter lets through.
+    /// The jobs of a home that a filter lets through. It goes over the jobs between the first and the last of that home.
     pub fn jobs_of(
         &self,
         at: Moment,
@@ -32,9 +32,10 @@ impl Store {
         requires { IsKept self.now }
         ensures { IfOk result (λ jobs. jobs ≡ numbers (filter (λ (row : Row). is_same_home home row.home && matches wanted.now (info (world_at at self.now) row)) (rows_at at self.now.core.plan))) }
     {
+        let range = self.core.numbers_of_home(home);
         let mut jobs = Vec::new(self.alloc);
-        let mut from = 0;
-        while let Some(facts) = self.next_facts(at, from) {
+        let mut from = range.first;
+        while let Some(facts) = self.next_facts_through(at, from, range.last) {
             if self.is_chosen(at, home, wanted, &facts)? {
                 jobs.push(facts.job.0)?;
             }
@@ -60,7 +61,7 @@ impl Store {
         self.is_let_through(at, wanted, facts.job)
     }
 
-    /// The members of an array that belong to a home.
+    /// The members of an array that belong to a home. It goes over the jobs between the array's first and last member.
     pub fn members_of(
         &self,
         at: Moment,
@@ -70,9 +71,10 @@ impl Store {
         requires { IsKept self.now }
         ensures { IfOk result (λ jobs. jobs ≡ numbers (filter (λ (row : Row). is_same_home home row.home && is_member array row) (rows_at at self.now.core.plan))) }
     {
+        let range = self.core.numbers_of_array(array);
         let mut jobs = Vec::new(self.alloc);
-        let mut from = 0;
-        while let Some(facts) = self.next_facts(at, from) {
+        let mut from = range.first;
+        while let Some(facts) = self.next_facts_through(at, from, range.last) {
             if is_same_home(home, facts.home) && is_member(array, facts.array) {
                 jobs.push(facts.job.0)?;
             }

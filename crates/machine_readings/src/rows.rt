@@ -8,7 +8,7 @@ ghost use Rattle.drmaa_model.specs.Load.{is_member};
 ghost use Rattle.drmaa_model.specs.Rows.{row_of, is_of};
 ghost use Rattle.drmaa_model.specs.Time.{rows_at};
 ghost use Rattle.scheduler_core.specs.Facts.{row_facts};
-ghost use Rattle.machine_readings.specs.Nexts.{AfterRow};
+ghost use Rattle.machine_readings.specs.Nexts.{AfterRow, AfterRowThrough};
 ghost use Rattle.machine_readings.specs.Stores.{IsKept};
 
 use crate::sessions::is_same_home;
@@ -24,6 +24,20 @@ impl Store {
     {
         match self.core.next_row(JobId(from)) {
             Some(job) => self.core.row(at, job),
+            None => None,
+        }
+    }
+
+    /// The same, unless its number passes the last one.
+    pub(crate) fn next_facts_through(&self, at: Moment, from: u64, last: u64) -> Option<RowFacts>
+        requires { IsKept self.now }
+        ensures { AfterRowThrough (rows_at at self.now.core.plan) from last result }
+    {
+        match self.next_facts(at, from) {
+            Some(facts) => {
+                let number = facts.job.0;
+                if number <= last { Some(facts) } else { None }
+            }
             None => None,
         }
     }

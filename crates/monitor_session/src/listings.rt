@@ -9,7 +9,7 @@ use crate::columns::{push_left, push_right};
 use drmaa_types::{InfoList, JobInfo, Refusal, Text};
 use itoa::Buffer;
 use std::alloc::{AllocError, Global};
-use text_codec::Print;
+use text_codec::quoted;
 
 /// How many places the columns have.
 const JOB_PLACES: usize = 10;
@@ -56,15 +56,6 @@ fn slots_word(digits: &mut Buffer, slots: Option<u32>) -> &str
         Some(slots) => digits.format(slots),
         None => UNSET,
     }
-}
-
-/// A text in its quotes.
-fn quoted(alloc: Global, text: &Text) -> Result<String, AllocError>
-    ensures { IfOk result (λ word. string_bytes word ≡ lexical.quoted text.now) }
-{
-    let mut bytes = Vec::new(alloc);
-    text.push(&mut bytes)?;
-    Ok(String::from_utf8(bytes).unwrap())
 }
 
 /// The name in its quotes.

@@ -60,42 +60,13 @@ some-same tell op w =
 
 effect-no_fewer : (at : ℕ) (w : World) (c : Call) → NoFewer w (effect at w c)
 unfolding NoFewer
-effect-no_fewer at w (call.CreateJobSession name) = same w.registrations
-effect-no_fewer at w (call.CreateReservationSession name) = same w.registrations
-effect-no_fewer at w (call.OpenJobSession name) = same w.registrations
-effect-no_fewer at w (call.OpenReservationSession name) = same w.registrations
 effect-no_fewer at w (call.DestroyJobSession name) = destroyed-same Jobs name w
 effect-no_fewer at w (call.DestroyReservationSession name) = destroyed-same Reservations name w
-effect-no_fewer at w call.JobSessionNames = same w.registrations
-effect-no_fewer at w call.ReservationSessionNames = same w.registrations
-effect-no_fewer at w call.OpenMonitoring = same w.registrations
-effect-no_fewer at w (call.CloseSession session) = same w.registrations
-effect-no_fewer at w (call.RunJob session t) = same w.registrations
-effect-no_fewer at w (call.RunBulk session t indices) = same w.registrations
-effect-no_fewer at w (call.GetJobs session f) = same w.registrations
-effect-no_fewer at w (call.GetJobArray session array) = same w.registrations
-effect-no_fewer at w (call.Control session meant what) = same w.registrations
-effect-no_fewer at w (call.Reap session meant) = same w.registrations
-effect-no_fewer at w (call.GetState session job) = same w.registrations
-effect-no_fewer at w (call.GetInfo session job) = same w.registrations
 effect-no_fewer at w (call.Wait session listed kind begun timeout) = waited-same w (first_reached kind w.plan.rows listed) (is_timed_out at begun timeout)
-effect-no_fewer at w (call.RequestReservation session t) = same w.registrations
-effect-no_fewer at w (call.GetReservation session number) = same w.registrations
-effect-no_fewer at w (call.GetReservations session) = same w.registrations
-effect-no_fewer at w (call.EndReservation session number) = same w.registrations
-effect-no_fewer at w (call.AllJobs session f) = same w.registrations
-effect-no_fewer at w (call.AllReservations session) = same w.registrations
-effect-no_fewer at w (call.AllQueues session) = same w.registrations
-effect-no_fewer at w (call.AllMachines session) = same w.registrations
 effect-no_fewer at w call.Register = omega arith
 effect-no_fewer at w call.TakeLaunch = some-same reply.Launch launch w
-effect-no_fewer at w (call.Started job attempt) = same w.registrations
-effect-no_fewer at w (call.StartFailed job attempt) = same w.registrations
-effect-no_fewer at w (call.Exited job attempt exit) = same w.registrations
-effect-no_fewer at w (call.ExitUnknown job attempt) = same w.registrations
 effect-no_fewer at w call.TakeSignal = some-same reply.Signal signal w
-effect-no_fewer at w (call.SignalDone job attempt kind) = same w.registrations
-effect-no_fewer at w (call.SignalFailed job attempt kind) = same w.registrations
+effect-no_fewer at w _ = same w.registrations
 
 pub step-no_fewer : (w : World) (entry : Entry) (next : World) → IsStep w entry next → w.registrations ≤ next.registrations
 unfolding NoFewer
@@ -103,42 +74,8 @@ step-no_fewer w entry next step =
     subst (NoFewer w) step.answered (answer-cases entry.at (advance w entry.at) entry.call (NoFewer w) (λ why e. same w.registrations) (λ free. effect-no_fewer entry.at (advance w entry.at) entry.call))
 
 only-register : (c : Call) → kind_of_call c ≡ a_callback → c ≡ call.Register
-only-register (call.CreateJobSession name) is = absurd (cc)
-only-register (call.CreateReservationSession name) is = absurd (cc)
-only-register (call.OpenJobSession name) is = absurd (cc)
-only-register (call.OpenReservationSession name) is = absurd (cc)
-only-register (call.DestroyJobSession name) is = absurd (cc)
-only-register (call.DestroyReservationSession name) is = absurd (cc)
-only-register call.JobSessionNames is = absurd (cc)
-only-register call.ReservationSessionNames is = absurd (cc)
-only-register call.OpenMonitoring is = absurd (cc)
-only-register (call.CloseSession session) is = absurd (cc)
-only-register (call.RunJob session t) is = absurd (cc)
-only-register (call.RunBulk session t indices) is = absurd (cc)
-only-register (call.GetJobs session f) is = absurd (cc)
-only-register (call.GetJobArray session array) is = absurd (cc)
-only-register (call.Control session meant what) is = absurd (cc)
-only-register (call.Reap session meant) is = absurd (cc)
-only-register (call.GetState session job) is = absurd (cc)
-only-register (call.GetInfo session job) is = absurd (cc)
-only-register (call.Wait session listed kind begun timeout) is = absurd (cc)
-only-register (call.RequestReservation session t) is = absurd (cc)
-only-register (call.GetReservation session number) is = absurd (cc)
-only-register (call.GetReservations session) is = absurd (cc)
-only-register (call.EndReservation session number) is = absurd (cc)
-only-register (call.AllJobs session f) is = absurd (cc)
-only-register (call.AllReservations session) is = absurd (cc)
-only-register (call.AllQueues session) is = absurd (cc)
-only-register (call.AllMachines session) is = absurd (cc)
 only-register call.Register is = refl
-only-register call.TakeLaunch is = absurd (cc)
-only-register (call.Started job attempt) is = absurd (cc)
-only-register (call.StartFailed job attempt) is = absurd (cc)
-only-register (call.Exited job attempt exit) is = absurd (cc)
-only-register (call.ExitUnknown job attempt) is = absurd (cc)
-only-register call.TakeSignal is = absurd (cc)
-only-register (call.SignalDone job attempt kind) is = absurd (cc)
-only-register (call.SignalFailed job attempt kind) is = absurd (cc)
+only-register _ is = absurd (cc)
 
 -- only Register is answered a callback's number
 register-of : (c : Call) (n : ℕ) → IsReplyOf c (reply.Callback n) → c ≡ call.Register
@@ -244,24 +181,7 @@ run-no_fewer w (x ∷ xs) legal =
 
 pub registers-is : (n : ℕ) (r : Reply) → registers n r ≡ true → r ≡ reply.Callback n
 registers-is n (reply.Callback number) is = ap reply.Callback (eqb-true number n is)
-registers-is n reply.Unit is = absurd (cc)
-registers-is n (reply.Session session) is = absurd (cc)
-registers-is n (reply.Names names) is = absurd (cc)
-registers-is n (reply.Job job) is = absurd (cc)
-registers-is n (reply.Array array first count) is = absurd (cc)
-registers-is n (reply.Jobs jobs) is = absurd (cc)
-registers-is n (reply.State state) is = absurd (cc)
-registers-is n (reply.Info info) is = absurd (cc)
-registers-is n (reply.Reached job) is = absurd (cc)
-registers-is n (reply.Reserved reserved) is = absurd (cc)
-registers-is n (reply.Reservation info) is = absurd (cc)
-registers-is n (reply.Reservations numbers) is = absurd (cc)
-registers-is n (reply.Infos infos) is = absurd (cc)
-registers-is n (reply.ReservationInfos infos) is = absurd (cc)
-registers-is n (reply.Machine info) is = absurd (cc)
-registers-is n (reply.Launch launch) is = absurd (cc)
-registers-is n (reply.Signal signal) is = absurd (cc)
-registers-is n (reply.Refused why) is = absurd (cc)
+registers-is n _ is = absurd (cc)
 
 pub registers-own : (n : ℕ) (r : Reply) → r ≡ reply.Callback n → registers n r ≡ true
 registers-own n r is = ap (registers n) is ∙ eq-eqb n n refl

@@ -27,9 +27,6 @@ use Rattle.plan_book.proofs.Searched.{others-before, others-behind, others-all}
 
 -- ---- which they are
 
-pub among-all : (t : Target) (rows part : List Row) → part ≡ rows → HasAllMeant t rows part
-among-all t rows part same = record { before = []; behind = []; none_before = tt; none_behind = tt; parts = sym (append-nil part ∙ same) }
-
 one-behind : (rows : List Row) (i : ℕ) → drop i rows ≡ take 1 (drop i rows) ++ drop (suc i) rows
 one-behind [] zero = refl
 one-behind [] (suc i) = refl

@@ -5,6 +5,7 @@ pub mod Gone
 pub mod GoneLaws
 pub mod Meant
 pub mod MeetLaws
+pub mod Numbers
 pub mod Open
 pub mod Owed
 pub mod Passes

@@ -1,37 +1,55 @@
--- Between which numbers the members of an array stand, as it is kept beside the jobs: our profile.
+-- Between which numbers the members of an array and the jobs of a home stand, as it is kept beside the jobs: our profile.
 use Rattle.std.specs.Prelude.{◌≡◌, ℕ, ◌<◌, ◌≤◌, min, max, ◌==◌, List, find, Option, Some}
 use Rattle.std.specs.List.{AllByRecursion}
 use Rattle.drmaa_types.specs.declared.identifiers.ArrayId.{ArrayId}
 use Rattle.drmaa_model.specs.declared.rows.Row.{Row}
 use Rattle.drmaa_model.specs.Fit.{IsRising}
 use Rattle.plan_book.specs.declared.spans.Span.{Span}
+use Rattle.plan_book.specs.declared.spans.SpanList.{SpanList}
 use Rattle.plan_book.specs.declared.spans.Spans.{Spans}
 
 abbrev pub span_number : Span → ℕ
-span_number span = span.array
+span_number span = span.group
 
--- the spans are in order of array number
-abbrev pub AreOrdered : Spans → Type 0
-AreOrdered spans = IsRising span_number spans.list.items
+-- the spans are in order of the number of their group, an array or a home
+abbrev pub IsOrdered : SpanList → Type 0
+IsOrdered spans = IsRising span_number spans.list.items
 
--- the span of the array
+-- both lists are
+pub record AreOrdered (spans : Spans) : Type 0 where
+  pub arrays : IsOrdered spans.arrays
+  pub homes : IsOrdered spans.homes
+
+-- the span of the group
 abbrev pub span_of : ℕ → List Span → Option Span
-span_of array spans = find (λ (span : Span). span.array == array) spans
+span_of group spans = find (λ (span : Span). span.group == group) spans
 
--- the array has a span, and the number is in it
-pub record IsInSpan (array job : ℕ) (spans : List Span) : Type 0 where
+-- the group has a span, and the number is in it
+pub record IsInSpan (group job : ℕ) (spans : List Span) : Type 0 where
   pub span : Span
-  pub found : span_of array spans ≡ Some span
+  pub found : span_of group spans ≡ Some span
   pub since : span.first ≤ job
   pub until : job ≤ span.last
 
--- the same, but for arrays that may have none
-abbrev pub IsWithin : ℕ → ℕ → Spans → Type 0
-IsWithin array job spans = spans.unspanned < array → IsInSpan array job spans.list.items
+-- the same, but for groups that may have none
+abbrev pub IsWithin : ℕ → ℕ → SpanList → Type 0
+IsWithin group job spans = spans.unspanned < group → IsInSpan group job spans.list.items
+
+-- what is within the one is within the other
+abbrev pub Keeps : SpanList → SpanList → Type 0
+Keeps old new = (group job : ℕ) → IsWithin group job old → IsWithin group job new
 
 -- a member of an array is in its span
-abbrev pub IsSpanned : Spans → Row → Type 0
-IsSpanned spans row = (array : ArrayId) → row.wants.array ≡ Some array → IsWithin array.0 row.job.0 spans
+abbrev pub IsInArraySpan : SpanList → Row → Type 0
+IsInArraySpan arrays row = (array : ArrayId) → row.wants.array ≡ Some array → IsWithin array.0 row.job.0 arrays
+
+-- a job of a home is in its span
+abbrev pub IsInHomeSpan : SpanList → Row → Type 0
+IsInHomeSpan homes row = (home : ℕ) → row.home ≡ Some home → IsWithin home row.job.0 homes
+
+pub record IsSpanned (spans : Spans) (row : Row) : Type 0 where
+  pub array : IsInArraySpan spans.arrays row
+  pub home : IsInHomeSpan spans.homes row
 
 -- the spans are those of the jobs
 pub record AreSpanned (rows : List Row) (spans : Spans) : Type 0 where
@@ -40,4 +58,4 @@ pub record AreSpanned (rows : List Row) (spans : Spans) : Type 0 where
 
 -- the span with one more number
 abbrev pub widened : ℕ → Span → Span
-widened job span = record { array = span.array; first = min span.first job; last = max span.last job }
+widened job span = record { group = span.group; first = min span.first job; last = max span.last job }

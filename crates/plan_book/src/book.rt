@@ -1,19 +1,21 @@
 //! The plan as it is kept, and what is read of it.
-ghost use Rattle.std.specs.Prelude.{◌≡◌, ◌-◌, ◌<◌, ◌≤◌, ◌^◌, true, length, max, filter, SomeIff, OnOk, IfErr};
+ghost use Rattle.std.specs.Prelude.{◌≡◌, ◌-◌, ◌<◌, ◌≤◌, ◌^◌, true, Bool, length, max, filter, SomeIff, IfSome, OnOk, IfErr};
 ghost use Rattle.std.specs.List.{AllByRecursion};
 ghost use Rattle.std.specs.Option.{option_copied, option_map};
 ghost use Rattle.drmaa_types.specs.Queues.{most_queues};
 ghost use Rattle.drmaa_model.specs.declared.rows.Row.{Row};
+ghost use Rattle.drmaa_model.specs.Homes.{is_same_home};
 ghost use Rattle.drmaa_model.specs.Order.{held};
 ghost use Rattle.drmaa_model.specs.Plan.{opening_plan};
 ghost use Rattle.drmaa_model.specs.Rows.{row_of};
 ghost use Rattle.drmaa_model.specs.Size.{weight};
 ghost use Rattle.drmaa_model.specs.Submitting.{kept_text, most_kept_text};
 ghost use Rattle.drmaa_model.specs.Time.{advance_plan, is_accepted, rows_at, lasts, lapsed, called_in};
-ghost use Rattle.drmaa_model.specs.Load.{reservation_of};
+ghost use Rattle.drmaa_model.specs.Load.{is_member, reservation_of};
 ghost use Rattle.plan_book.specs.Book.{plan_of, calendar_of, IsKept, spare, course_then};
 ghost use Rattle.plan_book.specs.Facts.{facts_of};
 ghost use Rattle.plan_book.specs.Meant.{HasAllMeant};
+ghost use Rattle.plan_book.specs.Numbers.{HasNumbersOf};
 ghost use Rattle.plan_book.specs.Open.{AreOpen, IsPriorityBound};
 ghost use Rattle.plan_book.specs.Owed.{reports_to_come};
 ghost use Rattle.plan_book.specs.Places.{AreInOrder};
@@ -21,9 +23,10 @@ ghost use Rattle.plan_book.specs.Places.{AreInOrder};
 use crate::kept::Rows;
 use crate::reservations::{is_lasting, reservation_of};
 use crate::rows::Facts;
+use crate::spans::{NumberRange, no_numbers};
 use crate::time::{course_at, is_past};
 use drmaa_model::{Accepted, Course, Order, Row, Target};
-use drmaa_types::{Change, End, JobId, Moment, QueueList, Refusal, ReservationId};
+use drmaa_types::{ArrayId, Change, End, JobId, Moment, QueueList, Refusal, ReservationId};
 use reservation_calendar::Calendar;
 use std::alloc::Global;
 
@@ -180,12 +183,47 @@ impl Book {
     }
 
     /// The kept jobs, but for some at the front and at the end of which none is meant: that of one job alone, or those between the first
-    /// and the last member of an array.
+    /// and the last member of an array, or all where the array's span found no memory.
     pub fn meant_rows(&self, target: Target) -> &[Row]
         requires kept { IsKept self.now }
         ensures { HasAllMeant target (plan_of self.now).rows result.now }
     {
         self.rows.meant_rows(target)
+    }
+
+    /// Numbers among which are those of all kept members of the array: from its first to its last, or all numbers up to the next one
+    /// where its span found no memory.
+    pub fn numbers_of_array(&self, array: ArrayId) -> NumberRange
+        requires kept { IsKept self.now }
+        ensures { HasNumbersOf (is_member array) (plan_of self.now).rows result }
+    {
+        self.numbers_or_all(self.rows.numbers_of_array(array))
+    }
+
+    /// Numbers among which are those of all kept jobs of the home: from its first to its last, or all numbers up to the next one where
+    /// its span found no memory. No job is of no home.
+    pub fn numbers_of_home(&self, home: Option<u64>) -> NumberRange
+        requires kept { IsKept self.now }
+        ensures { HasNumbersOf (λ (row : Row). is_same_home home row.home) (plan_of self.now).rows result }
+    {
+        match home {
+            Some(home) => self.numbers_or_all(self.rows.numbers_of_home(home)),
+            None => no_numbers(),
+        }
+    }
+
+    /// These numbers, or all up to the next one.
+    fn numbers_or_all(&self, range: Option<NumberRange>) -> NumberRange
+        requires kept { IsKept self.now }
+        ensures { (test : Row → Bool) → IfSome range (HasNumbersOf test (plan_of self.now).rows) → HasNumbersOf test (plan_of self.now).rows result }
+    {
+        match range {
+            Some(range) => range,
+            None => NumberRange {
+                first: 0,
+                last: self.next_job,
+            },
+        }
     }
 
     /// A priority that no kept job's passes.

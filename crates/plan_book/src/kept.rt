@@ -1,7 +1,8 @@
 //! The rows of a book with what they come to, which is kept up. Time goes over those behind the settled ones at the front alone, and
 //! what they come to is added up on the way; a call for an array goes over those between the first and the last of its
-//! members, or over all where its span found no memory, and a reap of an array closes up all.
-ghost use Rattle.std.specs.Prelude.{◌≡◌, ◌+◌, ◌≤◌, ◌^◌, ◌<◌, [], ◌++◌, ◌&&◌, not, map, filter, take, drop, length, vec_len, vec_capacity, OnOk};
+//! members, or over all where its span found no memory, and a reap of an array closes up all. Between which numbers the jobs of a
+//! home stand is known too.
+ghost use Rattle.std.specs.Prelude.{◌≡◌, ◌+◌, ◌≤◌, ◌^◌, ◌<◌, [], ◌++◌, ◌&&◌, not, map, filter, take, drop, length, vec_len, vec_capacity, IfSome, OnOk, Some};
 ghost use Rattle.std.specs.List.{AllByRecursion, flat_map, remove};
 ghost use Rattle.std.specs.Option.{option_copied};
 ghost use Rattle.drmaa_model.specs.declared.calls.Target.{Target};
@@ -9,6 +10,8 @@ ghost use Rattle.drmaa_model.specs.declared.rows.Row.{Row};
 ghost use Rattle.drmaa_model.specs.Controlling.{control_step, is_done};
 ghost use Rattle.drmaa_model.specs.Effects.{left_by, is_forgotten};
 ghost use Rattle.drmaa_model.specs.Fit.{IsRising, IsSound, number_of};
+ghost use Rattle.drmaa_model.specs.Homes.{is_same_home};
+ghost use Rattle.drmaa_model.specs.Load.{is_member};
 ghost use Rattle.drmaa_model.specs.Order.{held};
 ghost use Rattle.drmaa_model.specs.Rows.{row_of, with_course};
 ghost use Rattle.drmaa_model.specs.Size.{promised};
@@ -16,6 +19,7 @@ ghost use Rattle.drmaa_model.specs.Submitting.{kept_text};
 ghost use Rattle.drmaa_model.specs.Targets.{is_meant};
 ghost use Rattle.drmaa_model.specs.TimeLaws.{timed};
 ghost use Rattle.plan_book.specs.Meant.{HasAllMeant, NoneMeant};
+ghost use Rattle.plan_book.specs.Numbers.{HasNumbersOf};
 ghost use Rattle.plan_book.specs.Open.{AreOpen, IsPriorityBound};
 ghost use Rattle.plan_book.specs.Owed.{owed, askable, reports_to_come};
 ghost use Rattle.plan_book.specs.Passes.{ends, kills_then};
@@ -28,7 +32,7 @@ use crate::open_jobs::{
 };
 use crate::row_list::RowList;
 use crate::rows::{Places, places_within};
-use crate::spans::Spans;
+use crate::spans::{NumberRange, Spans};
 use crate::sums::{Sums, going_on, no_sums, sums_of, with_others, without_job, without_others};
 use crate::sweeps::controlled_course;
 use crate::targets::is_done;
@@ -51,7 +55,7 @@ pub struct Rows {
     settled: usize,
     /// No job's priority passes it.
     greatest: i32,
-    /// Between which numbers the members of arrays stand.
+    /// Between which numbers the members of arrays and the jobs of homes stand.
     spans: Spans,
 }
 
@@ -110,13 +114,13 @@ impl Rows {
     }
 
     /// Rows among which are all that are meant: that of the job alone, which is found by halves, or those between the first and the
-    /// last of the array's members.
+    /// last of the array's members, or all where its span found no memory.
     pub fn meant_rows(&self, target: Target) -> &[Row]
         requires rising { IsRising number_of self.now.items }
         ensures { HasAllMeant target self.now.items result.now }
     {
         match target {
-            Target::Job(_) => targets::meant_rows(self.list.rows(), target),
+            Target::Job(job) => targets::row_alone(self.list.rows(), job),
             Target::Array(array) => self.rows_about(array),
         }
     }
@@ -137,13 +141,27 @@ impl Rows {
         ensures before { NoneMeant (Target.Array array) (take result.from self.now.items) }
         ensures behind { NoneMeant (Target.Array array) (drop result.until self.now.items) }
     {
-        match self.spans.numbers_of(array) {
-            Some(span) => places_within(self.list.rows(), span.first, span.last),
+        match self.spans.arrays.numbers_of(array.0) {
+            Some(range) => places_within(self.list.rows(), range.first, range.last),
             None => Places {
                 from: 0,
                 until: self.list.rows().len(),
             },
         }
+    }
+
+    /// Between which numbers the members of the array stand. None where its span found no memory, so that they may stand anywhere.
+    pub(crate) fn numbers_of_array(&self, array: ArrayId) -> Option<NumberRange>
+        ensures { IfSome result (HasNumbersOf (is_member array) self.now.items) }
+    {
+        self.spans.arrays.numbers_of(array.0)
+    }
+
+    /// Between which numbers the jobs of the home stand. None where its span found no memory, so that they may stand anywhere.
+    pub(crate) fn numbers_of_home(&self, home: u64) -> Option<NumberRange>
+        ensures { IfSome result (HasNumbersOf (λ (row : Row). is_same_home (Some home) row.home) self.now.items) }
+    {
+        self.spans.homes.numbers_of(home)
     }
 
     /// A priority that no job's passes.

@@ -33,3 +33,4 @@ pub use book::Book;
 pub use kept::Rows;
 pub use moves::{Booked, Edit, Move};
 pub use rows::Facts;
+pub use spans::NumberRange;

@@ -31,19 +31,8 @@ fn is_member(array: ArrayId, row: &Row) -> bool
     }
 }
 
-/// Rows among which are all that are meant: that of the job alone, which is found by halves, or all rows.
-pub fn meant_rows(rows: &[Row], target: Target) -> &[Row]
-    requires rising { IsRising number_of rows.now }
-    ensures { HasAllMeant target rows.now result.now }
-{
-    match target {
-        Target::Job(job) => row_alone(rows, job),
-        Target::Array(_) => rows,
-    }
-}
-
-/// The row of this job alone, or none where the job isn't kept.
-fn row_alone(rows: &[Row], job: JobId) -> &[Row]
+/// The row of this job alone, which is found by halves, or none where the job isn't kept.
+pub fn row_alone(rows: &[Row], job: JobId) -> &[Row]
     requires rising { IsRising number_of rows.now }
     ensures { HasAllMeant (Target.Job job) rows.now result.now }
 {

@@ -30,7 +30,7 @@ use Rattle.recurring_reservations.specs.Requests.{asking, entry_of, by_entry, by
 use Rattle.recurring_reservations.proofs.RequestLaws.{with-none}
 use Rattle.recurring_reservations.specs.Steps.{Grants, Denies}
 use Rattle.drmaa_model.specs.Requests.{reserved_as, request_tests}
-use Rattle.reservation_requests.proofs.TableLaws.{request-answers}
+use Rattle.scheduler_core.proofs.TableLaws.{request-answers}
 
 -- ---- a reply
 

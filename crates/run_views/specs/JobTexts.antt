@@ -13,7 +13,7 @@ use Rattle.drmaa_types.specs.declared.states.Note.TheVariants as note
 use Rattle.drmaa_model.specs.declared.entries.Entry.{Entry}
 use Rattle.text_codec.specs.Lexical.{quoted}
 use Rattle.drmaa_types.specs.Said.{state_name}
-use Rattle.text_words.specs.Words.{note_text}
+use Rattle.text_codec.specs.ValueWords.{note_text}
 use Rattle.run_views.specs.declared.runs.Ending.{Ending}
 use Rattle.run_views.specs.declared.submissions.Submission.{Submission}
 use Rattle.run_views.specs.declared.told.Told.{Told}

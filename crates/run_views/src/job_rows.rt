@@ -1,27 +1,11 @@
 //! The row of a kept job.
-ghost use Rattle.std.specs.Prelude.{◌≡◌, ◌++◌, IfOk, OnOk, option_copied, string_bytes};
-ghost use Rattle.text_codec.specs.Lexical.{quoted};
+ghost use Rattle.std.specs.Prelude.{◌≡◌, ◌++◌, OnOk, option_copied, string_bytes};
 ghost use Rattle.run_views.specs.JobTexts as texts;
 
 use drmaa_types::{Exit, JobInfo, JobState, Moment, Note, Text};
 use itoa::Buffer;
 use std::alloc::{AllocError, Global};
-use text_words::PrintForm;
-
-/// Room for a name of usual length, in bytes.
-const ROOM: usize = 32;
-
-/// A text in quotes.
-fn quoted(alloc: Global, text: &Text) -> Result<String, AllocError>
-    ensures { IfOk result (λ s. string_bytes s ≡ quoted text.now) }
-{
-    let mut out = Vec::with_capacity(alloc, ROOM)?;
-    text.push(&mut out)?;
-    let Ok(text) = String::from_utf8(out) else {
-        unreachable!();
-    };
-    Ok(text)
-}
+use text_codec::quoted;
 
 /// Writes a name in quotes.
 #[tactic(auto, unfolding(crate::specs::JobTexts::name_text))]

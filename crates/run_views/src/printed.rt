@@ -6,7 +6,7 @@ use crate::runs::{Ending, Run, RunEnd, RunList};
 use drmaa_types::{Exit, Text, TextList};
 use itoa::Buffer;
 use std::alloc::{AllocError, Global};
-use text_words::push_list;
+use text_codec::push_list;
 
 /// Room for the words of a launch of usual length, in bytes.
 const ROOM: usize = 64;

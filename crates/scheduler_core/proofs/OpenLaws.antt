@@ -4,7 +4,7 @@ use Rattle.std.specs.Prelude.{ℤ, int_lt, is_none, nat_le}
 use Rattle.std.proofs.Math.ListN.{drop_of_length-le}
 use Rattle.std.specs.List.{AllByRecursion, list_any}
 use Rattle.std.specs.Option.{option_map, option_map_or}
-use Rattle.std.proofs.lemmas.Bool.{and_parts}
+use Rattle.std.proofs.lemmas.Bool.{and_parts, not-true}
 use Rattle.drmaa_types.specs.States.{is_waiting, is_started}
 use Rattle.drmaa_types.specs.declared.moments.End.{End}
 use Rattle.drmaa_types.specs.declared.states.JobState.{JobState}
@@ -30,17 +30,13 @@ pub record OverFacts (row : Row) : Type 0 where
   pub still : is_started row.course.state ≡ false
   pub planned : is_none row.course.planned ≡ true
 
-from-not : (b : Bool) → not b ≡ true → b ≡ false
-from-not true h = absurd (cc)
-from-not false h = refl
-
 pub over-facts : (row : Row) → is_over row ≡ true → OverFacts row
 over-facts row over =
     let waits = is_waiting row.course.state in
     let started = is_started row.course.state in
     let all = and_parts (not waits && not started) (is_none row.course.planned) over in
     let both = and_parts (not waits) (not started) all.0 in
-    record { idle = from-not waits both.0; still = from-not started both.1; planned = all.1 }
+    record { idle = not-true waits both.0; still = not-true started both.1; planned = all.1 }
 
 idle-not_queued : (s : JobState) → is_waiting s ≡ false → is_queued s ≡ false
 idle-not_queued Undetermined h = refl
@@ -140,7 +136,7 @@ pub none-better : (at : Row → Row) → ((r : Row) → (at r).wants ≡ r.wants
     → option_map at best ≡ first_of (option_map at best) (first_in_order (filter test (map at (drop i rows))))
 none-better at same test None greatest high all rows i most are = absurd (cc)
 none-better at same test (Some best) greatest high all rows i most are =
-    sym (last-word at same test best greatest (from-not (int_lt best.wants.priority greatest) high) (drop i rows) (greatest-left greatest all rows i most are))
+    sym (last-word at same test best greatest (not-true (int_lt best.wants.priority greatest) high) (drop i rows) (greatest-left greatest all rows i most are))
 
 -- none is left
 pub over-of : (at : Row → Row) (test : Row → Bool) (best : Option Row) (rows : List Row) (i : ℕ) → length rows ≤ i

@@ -1,5 +1,5 @@
 -- What the jobs hold, where some are left out that hold nothing: those outside of an array's members, and those at the front that are over.
-use Rattle.std.proofs.Common.{◌≡◌, ℕ, ltb, Bool, true, false, cond, ◌&&◌, ◌||◌, List, [], ◌∷◌, ◌++◌, sum_by, Option, refl, sym, ◌∙◌, ap, subst, arith}
+use Rattle.std.proofs.Common.{◌≡◌, ℕ, ltb, Bool, true, false, cond, ◌&&◌, List, [], ◌∷◌, ◌++◌, sum_by, Option, refl, ◌∙◌, ap, subst, arith}
 use Rattle.std.specs.List.{AllByRecursion, list_any}
 use Rattle.std.proofs.lemmas.List.Sums.{sum_by-append}
 use Rattle.drmaa_types.specs.declared.identifiers.ArrayId.{ArrayId}
@@ -14,6 +14,7 @@ use Rattle.drmaa_model.specs.SumLaws.{sum-each, sum-zero}
 use Rattle.plan_book.specs.Meant.{NoneMeant, HasAllMeant}
 use Rattle.plan_book.specs.Open.{AreOpen, is_over}
 use Rattle.scheduler_core.specs.Facts.{is_own_member}
+use Rattle.scheduler_core.proofs.Among.{any-among}
 use Rattle.scheduler_core.proofs.OpenLaws.{over-facts}
 
 -- ---- outside of an array's members
@@ -47,18 +48,8 @@ module _ (array : ArrayId) where
     not-own row out =
         ap (λ (b : Bool). is_same_home home row.home && b) out ∙ elim (is_same_home home row.home) as (λ (b : Bool). (b && false) ≡ false) [ true ↦ refl | false ↦ refl ]
 
-    own-behind : (front rows : List Row) → Outside front → list_any own (front ++ rows) ≡ list_any own rows
-    own-behind [] rows none = refl
-    own-behind (row ∷ front) rows none = ap (λ (b : Bool). b || list_any own (front ++ rows)) (not-own row none.0) ∙ own-behind front rows none.1
-
-    own-before : (rows behind : List Row) → Outside behind → list_any own (rows ++ behind) ≡ list_any own rows
-    own-before [] [] none = refl
-    own-before [] (row ∷ behind) none = ap (λ (b : Bool). b || list_any own behind) (not-own row none.0) ∙ own-before [] behind none.1
-    own-before (row ∷ rows) behind none = ap (λ (b : Bool). own row || b) (own-before rows behind none)
-
     pub own-part : (rows part : List Row) → HasAllMeant (target.Array array) rows part → list_any own part ≡ list_any own rows
-    own-part rows part all =
-        sym (ap (list_any own) all.parts ∙ own-behind all.before (part ++ all.behind) all.none_before ∙ own-before part all.behind all.none_behind)
+    own-part rows part all = any-among own (target.Array array) not-own rows part all
 
 -- ---- at the front that is over
 

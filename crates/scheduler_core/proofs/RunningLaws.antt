@@ -16,7 +16,7 @@ timed-started m rs r =
     called-cases (λ (a b : Row). is_started b.course.state ≡ is_started a.course.state) m rs (lapsed m rs r) (λ h. refl) (λ h s n. refl)
     ∙ lapsed-cases (λ (a b : Row). is_started b.course.state ≡ is_started a.course.state) m rs r (λ h. refl) (λ h w n. sym (waits-not_started r.course.state w))
 
-find-map : {X : Type 0} (t : X → Bool) (f : X → X) (xs : List X) → ((x : X) → t (f x) ≡ t x) → find t (map f xs) ≡ option_map f (find t xs)
+pub find-map : {X : Type 0} (t : X → Bool) (f : X → X) (xs : List X) → ((x : X) → t (f x) ≡ t x) → find t (map f xs) ≡ option_map f (find t xs)
 find-map t f [] same = refl
 find-map t f (x ∷ xs) same =
     ap (λ b. cond b (Some (f x)) (find t (map f xs))) (same x)

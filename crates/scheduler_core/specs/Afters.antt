@@ -1,12 +1,9 @@
--- The first moment after another, and jobs once time has come to a moment, as they are looked for.
-use Rattle.std.specs.Prelude.{ℕ, max, min, filter, List, Option, Some, None}
+-- The first moment after another, as it is looked for.
+use Rattle.std.specs.Prelude.{ℕ, min, List, Option, Some, None}
 use Rattle.std.specs.List.{list_any}
 use Rattle.drmaa_model.specs.declared.reservations.Accepted.{Accepted}
 use Rattle.drmaa_model.specs.declared.rows.Row.{Row}
 use Rattle.drmaa_model.specs.Events.{turns_at, bounds_at, first_after}
-use Rattle.drmaa_model.specs.Plan.{Plan}
-use Rattle.drmaa_model.specs.Time.{lasts}
-use Rattle.drmaa_model.specs.TimeLaws.{timed}
 
 -- the lesser of two moments, where there are any
 abbrev pub earlier : Option ℕ → Option ℕ → Option ℕ
@@ -21,7 +18,3 @@ first_turn after rows = first_after after (λ x. list_any (turns_at x) rows)
 -- the first start or end of any of the reservations
 abbrev pub first_bound : ℕ → List Accepted → Option ℕ
 first_bound after rs = first_after after (λ x. list_any (bounds_at x) rs)
-
--- a job once time has come to a moment
-abbrev pub timed_at : ℕ → Plan → Row → Row
-timed_at at p row = timed (max p.moment at) (filter (lasts (max p.moment at)) p.reservations) row

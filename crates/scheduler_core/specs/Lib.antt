@@ -1,6 +1,12 @@
 pub mod Afters
+pub mod Batches
+pub mod Early
 pub mod Facts
 pub mod Launches
 pub mod Reports
+pub mod Requesting
+pub mod Reservations
+pub mod Signals
 pub mod Sums
+pub mod Targets
 pub mod View

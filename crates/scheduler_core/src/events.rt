@@ -2,13 +2,25 @@
 ghost use Rattle.std.specs.Prelude.{◌≡◌, ◌==◌, false};
 ghost use Rattle.std.specs.Option.{option_map_or};
 ghost use Rattle.drmaa_model.specs.Events.{bounds_at, first_after, is_end_at, is_set_to, is_wanted_at, next_event, turns_at};
-ghost use Rattle.plan_book.specs.Book.{plan_of};
 ghost use Rattle.scheduler_core.specs.Afters.{earlier, first_bound, first_turn};
 
+use crate::cores::Core;
 use drmaa_model::{Accepted, Row};
 use drmaa_types::{End, Moment};
-use plan_book::Book;
 use plan_book::states::is_waiting;
+
+impl Core {
+    /// The next moment, after this one, at which time may change something. It looks at no job at the front that
+    /// is over.
+    pub fn next_event(&self, after: Moment) -> Option<Moment>
+        ensures { result ≡ next_event self.now.plan after }
+    {
+        earlier(
+            next_turn(after, self.book.open_rows()),
+            next_bound(after, self.book.reservations()),
+        )
+    }
+}
 
 // The earlier of two moments, where there are any.
 fn earlier(first: Option<Moment>, second: Option<Moment>) -> Option<Moment>
@@ -117,14 +129,4 @@ fn next_bound(after: Moment, reservations: &Vec<Accepted>) -> Option<Moment>
         best = earlier(best, next_of_reservation(after, reservation));
     }
     best
-}
-
-/// The next moment, after this one, at which time may change something. It looks at no job at the front that is over.
-pub fn next_event(book: &Book, after: Moment) -> Option<Moment>
-    ensures { result ≡ next_event (plan_of book.now) after }
-{
-    earlier(
-        next_turn(after, book.open_rows()),
-        next_bound(after, book.reservations()),
-    )
 }

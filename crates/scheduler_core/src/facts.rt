@@ -5,12 +5,11 @@ ghost use Rattle.std.specs.Option.{option_map};
 ghost use Rattle.drmaa_types.specs.States.{is_waiting, is_state};
 ghost use Rattle.drmaa_model.specs.Rows.{row_of};
 ghost use Rattle.drmaa_model.specs.Time.{rows_at};
-ghost use Rattle.plan_book.specs.Book.{plan_of, IsKept};
 ghost use Rattle.scheduler_core.specs.Facts.{row_facts, job_from, is_own_member, lapses_at};
 
+use crate::cores::Core;
 use drmaa_model::{Course, Kill, Phase, Row, Target};
 use drmaa_types::{ArrayId, End, Exit, JobId, JobState, Moment, Note, ReservationId};
-use plan_book::Book;
 use plan_book::states::{is_state, is_waiting};
 
 /// A kept job, without its template.
@@ -52,6 +51,65 @@ pub struct RowFacts {
     pub note: Note,
 }
 
+impl Core {
+    /// What is known of a job once time has come to this moment. None exactly where it is not kept.
+    pub fn row(&self, at: Moment, job: JobId) -> Option<RowFacts>
+        ensures { result ≡ option_map row_facts (row_of job (rows_at at self.now.plan)) }
+    {
+        let Some(row) = self.book.row(job) else {
+            return None;
+        };
+        match self.book.facts_at(at, job) {
+            Some(facts) => Some(facts_with(row, &facts.course)),
+            None => None,
+        }
+    }
+
+    /// What is known of a job as it is now, before time comes to a later moment. None exactly where it is not kept.
+    pub fn present_row(&self, job: JobId) -> Option<RowFacts>
+        ensures { result ≡ option_map row_facts (row_of job self.now.plan.rows) }
+    {
+        match self.book.row(job) {
+            Some(row) => Some(facts_with(row, &row.course)),
+            None => None,
+        }
+    }
+
+    /// The number of the first job in the list of kept jobs, which stand in order of number, that is this one or above it. It
+    /// is found by halves.
+    pub fn next_row(&self, from: JobId) -> Option<JobId>
+        ensures { result ≡ job_from from.0 self.now.plan }
+    {
+        let rows = self.book.rows();
+        let first = rows.partition_point(|row| row.job.0 < from.0);
+        match rows.get(first) {
+            Some(row) => Some(row.job),
+            None => None,
+        }
+    }
+
+    /// Whether a member of an array is kept that belongs to this home. Time makes no difference to it. It goes
+    /// over the jobs between the array's first and last member.
+    pub fn has_member(&self, home: Option<u64>, array: ArrayId) -> bool
+        ensures { result ≡ list_any (is_own_member home array) self.now.plan.rows }
+    {
+        is_any_own(self.book.meant_rows(Target::Array(array)), home, array)
+    }
+
+    /// Whether time would end a job that waits, when it comes to this moment.
+    pub fn lapses(&self, at: Moment, job: JobId) -> bool
+        ensures { result ≡ lapses_at at job self.now.plan }
+    {
+        let Some(row) = self.book.row(job) else {
+            return false;
+        };
+        match self.book.facts_at(at, job) {
+            Some(facts) => has_lapsed(row.course.state, facts.course.state),
+            None => false,
+        }
+    }
+}
+
 fn facts_with(row: &Row, course: &Course) -> RowFacts
     ensures { result ≡ row_facts (record row.now { course = course.now }) }
 {
@@ -81,53 +139,6 @@ fn facts_with(row: &Row, course: &Course) -> RowFacts
     }
 }
 
-/// What is told of a job once time has come to this moment.
-pub fn row_facts(book: &Book, at: Moment, job: JobId) -> Option<RowFacts>
-    requires kept { IsKept book.now }
-    ensures { result ≡ option_map row_facts (row_of job (rows_at at (plan_of book.now))) }
-{
-    let Some(row) = book.row(job) else {
-        return None;
-    };
-    match book.facts_at(at, job) {
-        Some(facts) => Some(facts_with(row, &facts.course)),
-        None => None,
-    }
-}
-
-/// What is told of a job, as it is now.
-pub fn present_facts(book: &Book, job: JobId) -> Option<RowFacts>
-    requires kept { IsKept book.now }
-    ensures { result ≡ option_map row_facts (row_of job (plan_of book.now).rows) }
-{
-    match book.row(job) {
-        Some(row) => Some(facts_with(row, &row.course)),
-        None => None,
-    }
-}
-
-/// The first kept job whose number is this one or above it. It is found by halves.
-pub fn job_from(book: &Book, number: u64) -> Option<JobId>
-    requires kept { IsKept book.now }
-    ensures { result ≡ job_from number (plan_of book.now) }
-{
-    let rows = book.rows();
-    let first = rows.partition_point(|row| row.job.0 < number);
-    match rows.get(first) {
-        Some(row) => Some(row.job),
-        None => None,
-    }
-}
-
-/// Whether a member of an array is kept that belongs to this home. It goes over the jobs between the array's first and last
-/// member.
-pub fn has_member(book: &Book, home: Option<u64>, array: ArrayId) -> bool
-    requires kept { IsKept book.now }
-    ensures { result ≡ list_any (is_own_member home array) (plan_of book.now).rows }
-{
-    is_any_own(book.meant_rows(Target::Array(array)), home, array)
-}
-
 /// Whether one of these jobs is a member of an array, and belongs to this home.
 fn is_any_own(rows: &[Row], home: Option<u64>, array: ArrayId) -> bool
     ensures { result ≡ list_any (is_own_member home array) rows.now }
@@ -144,20 +155,6 @@ fn is_own_member(row: &Row, home: Option<u64>, array: ArrayId) -> bool
     };
     match row.wants.array {
         Some(member) => home == own && member.0 == array.0,
-        None => false,
-    }
-}
-
-/// Whether time would end a job that waits, when it comes to this moment.
-pub fn lapses(book: &Book, at: Moment, job: JobId) -> bool
-    requires kept { IsKept book.now }
-    ensures { result ≡ lapses_at at job (plan_of book.now) }
-{
-    let Some(row) = book.row(job) else {
-        return false;
-    };
-    match book.facts_at(at, job) {
-        Some(facts) => has_lapsed(row.course.state, facts.course.state),
         None => false,
     }
 }

@@ -1,19 +1,16 @@
 //! The next launch.
-ghost use Rattle.std.specs.Prelude.{true, false, IfSome, ◌≡◌, ◌≢◌, ◌+◌, ◌-◌, ◌^◌, ◌<◌, ◌≤◌, min, filter, map, IfOk, OnOk, OnErr, IsSome, None, Some, Ok};
-ghost use Rattle.std.specs.Option.{option_copied, option_map};
+ghost use Rattle.std.specs.Prelude.{true, false, IfSome, ◌≡◌, ◌+◌, ◌^◌, ◌<◌, ◌≤◌, IfErr, IfOk, OnErr, IsSome, None, Ok};
 ghost use Rattle.job_template.specs.Launch.{launch_words};
-ghost use Rattle.drmaa_model.specs.declared.rows.Row.{Row};
-ghost use Rattle.drmaa_model.specs.Fit.{IsFit};
 ghost use Rattle.drmaa_model.specs.Operation.{Meets, outcome};
 ghost use Rattle.drmaa_model.specs.Launching.{launch};
 ghost use Rattle.drmaa_model.specs.Order.{held, is_ready, slots_for, next_launch};
-ghost use Rattle.drmaa_model.specs.Time.{advance_plan, lasts};
-ghost use Rattle.drmaa_model.specs.TimeLaws.{timed};
-ghost use Rattle.plan_book.specs.Book.{plan_of, calendar_of, spare, IsKept};
+ghost use Rattle.drmaa_model.specs.Time.{advance_plan};
+ghost use Rattle.plan_book.specs.Book.{plan_of, calendar_of, IsKept};
 ghost use Rattle.reservation_calendar.specs.Schedules.{is_booked};
 ghost use Rattle.plan_book.specs.Ties.{MayMake};
-ghost use Rattle.scheduler_core.specs.Launches.{IsLaunchOf, IsNext, IsNextIn, MayMakeNext, launch_booking, seen, seen_row};
+ghost use Rattle.scheduler_core.specs.Launches.{IsLaunchOf, IsNextIn, MayMakeNext, launch_booking, seen, seen_row};
 
+use crate::cores::Core;
 use crate::ready::{first_ready_at, slots_at};
 use crate::times::course_then;
 use drmaa_model::{Launch, Row};
@@ -31,8 +28,59 @@ pub struct Next {
     pub launch: Launch,
 }
 
-/// What would be launched at this moment.
-pub fn next_launch(book: &Book, alloc: Global, at: Moment) -> Result<Option<Next>, AllocError>
+impl Core {
+    /// What would be launched at this moment. Where that is nothing it takes no memory.
+    ///
+    /// # Errors
+    ///
+    /// Want of memory.
+    pub fn next_launch(&self, at: Moment) -> Result<Option<Launch>, Refusal>
+        ensures next { IfOk result (λ o. o ≡ launch.told (advance_plan 0 at self.now.plan)) }
+        ensures nothing { next_launch (advance_plan 0 at self.now.plan) ≡ None → result ≡ Ok None }
+        ensures err { IfErr result (λ why. why ≡ Refusal.OutOfMemory) }
+    {
+        match next_launch(&self.book, self.alloc, at) {
+            Ok(Some(next)) => Ok(Some(next.launch)),
+            Ok(None) => Ok(None),
+            Err(_) => Err(Refusal::OutOfMemory),
+        }
+    }
+
+    /// Hands out the job that is next in order, if there is one. Where there is none nothing changes, the moment neither.
+    ///
+    /// # Errors
+    ///
+    /// A journal that would be too large, and want of memory.
+    pub fn take_launch(
+        &mut self,
+        at: Moment,
+        entry: u64,
+        limit: u64,
+    ) -> Result<Option<Launch>, Refusal>
+        requires entry { entry ≤ 4_000_001 }
+        requires limit { limit ≤ 4_000_000 }
+        ensures nothing { next_launch (advance_plan entry at self.old.plan) ≡ None → (result ≡ Ok None) × (self.new.plan ≡ self.old.plan) }
+        ensures left { next_launch (advance_plan entry at self.old.plan) ≡ None → self.new.spare ≡ self.old.spare }
+        ensures meets { IsSome (next_launch (advance_plan entry at self.old.plan)) →
+            Meets (outcome launch entry (advance_plan entry at self.old.plan)) self.old.plan entry limit result self.new.plan }
+        ensures spare { self.old.spare ≤ self.new.spare + 2 }
+        ensures err { OnErr result (self.old.spare ≤ self.new.spare) }
+    {
+        match next_launch(&self.book, self.alloc, at) {
+            Err(_) => Err(Refusal::OutOfMemory),
+            Ok(None) => Ok(None),
+            Ok(Some(next)) => {
+                if let Err(why) = self.book.make(at, entry, limit, &next.m) {
+                    return Err(why);
+                }
+                Ok(Some(next.launch))
+            }
+        }
+    }
+}
+
+/// The job that would be launched at this moment.
+fn next_launch(book: &Book, alloc: Global, at: Moment) -> Result<Option<Next>, AllocError>
     requires kept { IsKept book.now }
     ensures next { IfOk result (IsNextIn (advance_plan 0 at (plan_of book.now))) }
     ensures may { IfOk result (MayMakeNext (calendar_of book.now)) }
@@ -43,35 +91,6 @@ pub fn next_launch(book: &Book, alloc: Global, at: Moment) -> Result<Option<Next
     match first_ready_at(book, moment, used) {
         None => Ok(None),
         Some(row) => Ok(Some(next_of(book, alloc, row, moment, used)?)),
-    }
-}
-
-/// Hands out the job that is next in order, if there is one.
-pub fn take_launch(
-    book: &mut Book,
-    alloc: Global,
-    at: Moment,
-    entry: u64,
-    limit: u64,
-) -> Result<Option<Launch>, Refusal>
-    requires kept { IsKept book.old }
-    requires entry { entry ≤ 4_000_001 }
-    requires limit { limit ≤ 4_000_000 }
-    ensures nothing { next_launch (advance_plan entry at (plan_of book.old)) ≡ None → (result ≡ Ok None) × (plan_of book.new ≡ plan_of book.old) }
-    ensures left { next_launch (advance_plan entry at (plan_of book.old)) ≡ None → spare book.new ≡ spare book.old }
-    ensures meets { IsSome (next_launch (advance_plan entry at (plan_of book.old))) →
-        Meets (outcome launch entry (advance_plan entry at (plan_of book.old))) (plan_of book.old) entry limit result (plan_of book.new) }
-    ensures kept { IsKept book.new }
-    ensures spare { spare book.old ≤ spare book.new + 2 }
-    ensures err { OnErr result (spare book.old ≤ spare book.new) }
-{
-    match next_launch(book, alloc, at) {
-        Err(_) => Err(Refusal::OutOfMemory),
-        Ok(None) => Ok(None),
-        Ok(Some(next)) => match book.make(at, entry, limit, &next.m) {
-            Ok(()) => Ok(Some(next.launch)),
-            Err(why) => Err(why),
-        },
     }
 }
 

@@ -1,16 +1,18 @@
 //! Who may be launched at a moment, and with how many slots. None of it takes memory.
-ghost use Rattle.std.specs.Prelude.{◌≡◌, ℕ, ◌+◌, ◌-◌, ◌^◌, ◌<◌, ◌≤◌, ◌&&◌, true, false, Some, map, filter, nat_le, IsTrue, ◌↔◌};
+ghost use Rattle.std.specs.Prelude.{◌≡◌, ◌+◌, ◌-◌, ◌^◌, ◌<◌, ◌≤◌, ◌&&◌, true, false, Some, map, filter, nat_le};
 ghost use Rattle.std.specs.Option.{option_copied, option_map, option_map_or};
 ghost use Rattle.drmaa_model.specs.declared.reservations.Accepted.{Accepted};
 ghost use Rattle.drmaa_model.specs.declared.rows.Row.{Row};
 ghost use Rattle.drmaa_model.specs.Load.{covers, in_reservation, in_array, holds_in, held_inside, reservation_of};
-ghost use Rattle.drmaa_model.specs.Order.{held, is_queued, is_reached, is_ready, has_slots_in, has_turn, better, first_in_order, settled};
+ghost use Rattle.drmaa_model.specs.Order.{held, is_queued, is_reached, has_slots_in, better, first_in_order, settled};
 ghost use Rattle.drmaa_model.specs.Time.{lasts, advance_plan};
 ghost use Rattle.plan_book.specs.Book.{plan_of, IsKept};
 ghost use Rattle.scheduler_core.specs.Launches.{seen, seen_row, may_launch, turn_of, free_of, slots_of, IsMost};
 ghost use Rattle.scheduler_core.specs.Sums.{IsKnown};
 
+use crate::cores::Core;
 use crate::queues::{capped, has_room, left_in_queue};
+use crate::reservations::lasting_of;
 use crate::rows::{has_priority, is_beaten, is_reached};
 use crate::sums::Known;
 use crate::times::course_then;
@@ -19,7 +21,20 @@ use drmaa_types::{ArrayId, JobState, Moment, ReservationId};
 use plan_book::Book;
 use plan_book::courses::planned_end;
 use plan_book::states::is_queued;
-use reservation_requests::lasting_of;
+
+impl Core {
+    /// Whether, once time has come to this moment, no job holds slots, no order stands and none is ready.
+    pub fn settled(&self, at: Moment) -> bool
+        ensures { result ≡ settled (advance_plan 0 at self.now.plan) }
+    {
+        let moment = self.book.moment_at(at);
+        let used = self.book.held();
+        if used > 0 {
+            return false; // where no job holds slots, no order stands
+        }
+        first_ready_at(&self.book, moment, used).is_none()
+    }
+}
 
 /// Of the jobs that may be launched once time has come to this moment the first by priority descending and number
 /// ascending. It goes over the jobs behind those at the front that are over, up to the first that it finds of a priority
@@ -72,19 +87,6 @@ fn best_with<'a>(
     } else {
         best
     }
-}
-
-/// Whether nothing is left to do once time has come to this moment. Where no job holds slots, no order stands.
-pub fn is_settled(book: &Book, at: Moment) -> bool
-    requires kept { IsKept book.now }
-    ensures { result ≡ settled (advance_plan 0 at (plan_of book.now)) }
-{
-    let moment = book.moment_at(at);
-    let used = book.held();
-    if used > 0 {
-        return false;
-    }
-    first_ready_at(book, moment, used).is_none()
 }
 
 fn may_launch_at(book: &Book, row: &Row, moment: Moment, used: u32, known: &mut Known) -> bool

@@ -3,47 +3,60 @@ ghost use Rattle.std.specs.Prelude.{◌≡◌, ◌≢◌, ◌≤◌, Err};
 ghost use Rattle.std.specs.List.{list_any};
 ghost use Rattle.drmaa_model.specs.Operation.{Meets, outcome};
 ghost use Rattle.drmaa_model.specs.Reporting.{report_of, is_launching, is_idle, may_begin, may_exit, is_taken, signal_number};
+ghost use Rattle.drmaa_model.specs.Size.{promised, weight};
 ghost use Rattle.drmaa_model.specs.Time.{advance_plan};
-ghost use Rattle.plan_book.specs.Book.{plan_of, spare, IsKept};
+ghost use Rattle.scheduler_core.specs.Facts.{reports_to_come};
 ghost use Rattle.scheduler_core.specs.Reports.{job_of, may_report, after_report, edit_after, booked_after, report_move};
 
+use crate::cores::Core;
 use drmaa_model::{Course, Order, Phase, Report};
 use drmaa_types::{JobId, Moment, Refusal, SignalKind, Which};
 use plan_book::courses::{begun, exited, lost, signal_failed, unstarted};
-use plan_book::{Book, Booked, Edit, Facts, Move};
+use plan_book::{Booked, Edit, Facts, Move};
 
-/// Takes a report of the last launch of its job, at a moment. It takes no memory.
-///
-/// # Errors
-///
-/// `InvalidArgument(Job)` where the job is not kept, `InvalidState` where no such report may come of it, and a journal that
-/// would be too large.
-pub fn report(
-    book: &mut Book,
-    at: Moment,
-    entry: u64,
-    limit: u64,
-    report: Report,
-) -> Result<(), Refusal>
-    requires kept { IsKept book.old }
-    requires entry { entry ≤ 4_000_001 }
-    requires limit { limit ≤ 4_000_000 }
-    ensures meets { Meets (outcome (report_of report) entry (advance_plan entry at (plan_of book.old))) (plan_of book.old) entry limit result (plan_of book.new) }
-    ensures kept { IsKept book.new }
-    ensures spare { spare book.old ≤ spare book.new }
-    ensures memory { result ≢ Err Refusal.OutOfMemory }
-{
-    let moment = book.moment_at(at);
-    let Some(facts) = book.facts_at(at, job_of(report)) else {
-        let why = Refusal::InvalidArgument(Which::Job);
-        return Err(book.refuse(at, entry, limit, &why));
-    };
-    if !may_report(book.orders(), report, &facts.course) {
-        let why = Refusal::InvalidState(facts.course.state);
-        return Err(book.refuse(at, entry, limit, &why));
+impl Core {
+    /// Takes a report of the last launch of its job. It takes no memory.
+    ///
+    /// # Errors
+    ///
+    /// `InvalidArgument(Job)` where the job is not kept, `InvalidState` where no such report may come of it, and a journal
+    /// that would be too large.
+    pub fn report(
+        &mut self,
+        at: Moment,
+        entry: u64,
+        limit: u64,
+        report: Report,
+    ) -> Result<(), Refusal>
+        requires entry { entry ≤ 4_000_001 }
+        requires limit { limit ≤ 4_000_000 }
+        ensures meets { Meets (outcome (report_of report) entry (advance_plan entry at self.old.plan)) self.old.plan entry limit result self.new.plan }
+        ensures spare { self.old.spare ≤ self.new.spare }
+        ensures memory { result ≢ Err Refusal.OutOfMemory }
+    {
+        let moment = self.book.moment_at(at);
+        let Some(facts) = self.book.facts_at(at, job_of(report)) else {
+            let why = Refusal::InvalidArgument(Which::Job);
+            return Err(self.book.refuse(at, entry, limit, &why));
+        };
+        if !may_report(self.book.orders(), report, &facts.course) {
+            let why = Refusal::InvalidState(facts.course.state);
+            return Err(self.book.refuse(at, entry, limit, &why));
+        }
+        let m = report_move(report, &facts, moment);
+        self.book.make(at, entry, limit, &m)
     }
-    let m = report_move(report, &facts, moment);
-    book.make(at, entry, limit, &m)
+
+    /// The reports of starts and ends that the processes of all jobs may still bring: two for a job that is handed out to be
+    /// started, one for a job whose start is reported. The room that is promised to the jobs in the journal holds them.
+    pub fn reports_to_come(&self) -> u64
+        ensures value { result ≡ reports_to_come self.now.plan.rows }
+        ensures room { result ≤ weight self.now.plan }
+        ensures promised { result ≤ promised self.now.plan.rows }
+    {
+        let _weight = self.book.weight();
+        self.book.reports_to_come()
+    }
 }
 
 fn job_of(report: Report) -> JobId

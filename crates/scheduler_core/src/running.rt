@@ -8,12 +8,25 @@ ghost use Rattle.drmaa_model.specs.Events.{started_from, started_of};
 ghost use Rattle.drmaa_model.specs.Fit.{IsRising, number_of};
 ghost use Rattle.drmaa_model.specs.Time.{rows_at};
 ghost use Rattle.plan_book.specs.Book.{plan_of, IsKept};
-ghost use Rattle.scheduler_core.specs.Afters.{timed_at};
+ghost use Rattle.scheduler_core.specs.Targets.{row_then};
 
+use crate::cores::Core;
 use drmaa_model::{Kill, Row, Started};
 use drmaa_types::{JobId, Moment};
 use plan_book::Book;
 use plan_book::states::is_started;
+
+impl Core {
+    /// The started job of least number that is this one or above it, once time has come to this moment.
+    pub fn started(&self, at: Moment, from: JobId) -> Option<Started>
+        ensures { result ≡ option_map started_of (started_from from.0 (rows_at at self.now.plan)) }
+    {
+        match first_row(self.book.rows(), from) {
+            Some(row) => Some(started_then(&self.book, at, row)),
+            None => None,
+        }
+    }
+}
 
 fn is_asked(kill: Kill) -> bool
     ensures { result ≡ is_asked kill }
@@ -27,7 +40,7 @@ fn is_asked(kill: Kill) -> bool
 // What is told of a started job once time has come to this moment.
 fn started_then(book: &Book, at: Moment, row: &Row) -> Started
     requires kept { IsKept book.now }
-    ensures { result ≡ started_of (timed_at at (plan_of book.now) row.now) }
+    ensures { result ≡ started_of (row_then at (plan_of book.now) row.now) }
 {
     let course = book.course_at(at, row);
     Started {
@@ -58,15 +71,4 @@ fn first_row(rows: &[Row], from: JobId) -> Option<&Row>
     ensures { option_copied result ≡ started_from from.0 rows.now }
 {
     first_started(rows_from(rows, from))
-}
-
-/// The started job of least number that is this one or above it, once time has come to this moment.
-pub fn started_from(book: &Book, at: Moment, from: JobId) -> Option<Started>
-    requires kept { IsKept book.now }
-    ensures { result ≡ option_map started_of (started_from from.0 (rows_at at (plan_of book.now))) }
-{
-    match first_row(book.rows(), from) {
-        Some(row) => Some(started_then(book, at, row)),
-        None => None,
-    }
 }

@@ -1,5 +1,6 @@
 -- Laws of sets of names.
 use Rattle.std.proofs.Common.{◌≡◌, ℕ, ◌+◌, ◌<◌, ◌≤◌, ◌||◌, Bool, true, false, cond, List, [], ◌∷◌, ◌++◌, length, get_or, drop, Option, Some, None, is_some, refl, sym, ap, subst, ◌∙◌, arith}
+use Rattle.std.proofs.Math.Bool.{or_assoc, or-false, or-true}
 use Rattle.std.specs.Str.{bytes_eq}
 use Rattle.std.specs.Map.{lookup}
 use Rattle.std.specs.List.{flat_map}
@@ -10,26 +11,14 @@ use Rattle.script_text.specs.Names.{is_there}
 use Rattle.script_text.specs.NameLaws.{either, lookup-append}
 use Rattle.script_advice.specs.NameSets.{is_among, Set, Extends, Fills}
 
-or_true : (b : Bool) → true ≡ (b || true)
-or_true true = refl
-or_true false = refl
-
-or_false : (b : Bool) → b ≡ (b || false)
-or_false true = refl
-or_false false = refl
-
-or_assoc : (a b d : Bool) → (a || (b || d)) ≡ ((a || b) || d)
-or_assoc true b d = refl
-or_assoc false b d = refl
-
 -- ---- one name
 
 pub extends_none : (set : Set) → Extends set set []
-extends_none set = record { each = λ n. or_false (is_there set n) }
+extends_none set = record { each = λ n. sym (or-false (is_there set n)) }
 
 again_at : (set : Set) (name n : List ℕ) (b : Bool) → is_there set name ≡ true → b ≡ bytes_eq n name → is_there set n ≡ (is_there set n || (b || false))
-again_at set name n true h e = ap (is_there set) ((bytes_eq-Decides n name).0 (sym e)) ∙ h ∙ or_true (is_there set n)
-again_at set name n false h e = or_false (is_there set n)
+again_at set name n true h e = ap (is_there set) ((bytes_eq-Decides n name).0 (sym e)) ∙ h ∙ sym (or-true (is_there set n))
+again_at set name n false h e = sym (or-false (is_there set n))
 
 pub extends_again : (set : Set) (name : List ℕ) → is_there set name ≡ true → Extends set set (name ∷ [])
 extends_again set name h = record { each = λ n. again_at set name n (bytes_eq n name) h refl }
@@ -63,7 +52,7 @@ extends_twice old mid new xs ys first second = record {
   each = λ n.
       second.each n
       ∙ ap (λ b. b || is_among ys n) (first.each n)
-      ∙ sym (or_assoc (is_there old n) (is_among xs n) (is_among ys n))
+      ∙ or_assoc (is_there old n) (is_among xs n) (is_among ys n)
       ∙ ap (λ b. is_there old n || b) (sym (list_any-append (bytes_eq n) xs ys));
 }
 
@@ -74,7 +63,7 @@ fills_next : (old mid new : Set) (here rest all : List (List ℕ)) → Fills old
 fills_next old mid new here rest all so_far put = record {
   each = λ n.
       ap (λ b. b || is_among rest n) (put.each n)
-      ∙ sym (or_assoc (is_there mid n) (is_among here n) (is_among rest n))
+      ∙ or_assoc (is_there mid n) (is_among here n) (is_among rest n)
       ∙ ap (λ b. is_there mid n || b) (sym (list_any-append (bytes_eq n) here rest))
       ∙ so_far.each n;
 }
@@ -89,7 +78,7 @@ pub fills_at_last : {X : Type 0} (f : X → List (List ℕ)) (i : ℕ) (xs : Lis
     → Fills old new (flat_map f (drop i xs)) all → Extends old new all
 fills_at_last f i xs old new all past so_far =
     let done : Fills old new [] all = subst (λ ys. Fills old new (flat_map f ys) all) (drop_all i xs past) so_far in
-    record { each = λ n. or_false (is_there new n) ∙ done.each n }
+    record { each = λ n. sym (or-false (is_there new n)) ∙ done.each n }
 
 -- what is in a set that began empty
 pub filled_test : (set : Set) (all : List (List ℕ)) → Extends [] set all → is_there set ≡ is_among all

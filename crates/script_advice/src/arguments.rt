@@ -71,7 +71,7 @@ fn wrong_filters(alloc: Global, scope: &Scope, words: &[&str]) -> Advice {
             if wrong.is_some() {
                 return Ok(wrong);
             }
-        } else if text_words::state_of(value.as_bytes()).is_none() {
+        } else if text_codec::state_of(value.as_bytes()).is_none() {
             return Ok(Some(format!(in alloc; "{written} names no state, as RUNNING")?));
         }
     }

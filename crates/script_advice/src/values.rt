@@ -4,9 +4,8 @@ ghost use Rattle.std.specs.Prelude.{◌<◌, ◌≤◌, length, IfOk, IfSome};
 use crate::items::Item;
 use crate::showing::{Advice, shown};
 use std::alloc::Global;
-use text_codec::{Cursor, Form, integer_of, is_capitals, number_of};
+use text_codec::{Cursor, Form, attribute_of, integer_of, is_capitals, kind_of, number_of};
 use text_dates::Said;
-use text_words::{attribute_of, kind_of};
 
 /// Whether a byte is a digit of an escape.
 fn is_digit(byte: u8) -> bool {

@@ -1,5 +1,4 @@
 pub mod Continuing
 pub mod Kept
 pub mod Played
-pub mod Somes
 pub mod Went

@@ -237,42 +237,12 @@ reservation-stands w number =
 
 effect-stands : (at : ℕ) (w : World) (c : Call) → Stands (effect at w c)
 unfolding Stands
-effect-stands at w (call.CreateJobSession name) = refl
-effect-stands at w (call.CreateReservationSession name) = refl
-effect-stands at w (call.OpenJobSession name) = refl
-effect-stands at w (call.OpenReservationSession name) = refl
-effect-stands at w (call.DestroyJobSession name) = refl
-effect-stands at w (call.DestroyReservationSession name) = refl
-effect-stands at w call.JobSessionNames = refl
-effect-stands at w call.ReservationSessionNames = refl
-effect-stands at w call.OpenMonitoring = refl
-effect-stands at w (call.CloseSession session) = refl
-effect-stands at w (call.RunJob session t) = refl
-effect-stands at w (call.RunBulk session t indices) = refl
-effect-stands at w (call.GetJobs session f) = refl
-effect-stands at w (call.GetJobArray session array) = refl
-effect-stands at w (call.Control session meant what) = refl
-effect-stands at w (call.Reap session meant) = refl
-effect-stands at w (call.GetState session job) = refl
 effect-stands at w (call.GetInfo session job) = info-stands w job
 effect-stands at w (call.Wait session listed kind begun timeout) = wait-stands (first_reached kind w.plan.rows listed) (is_timed_out at begun timeout) w
-effect-stands at w (call.RequestReservation session t) = refl
 effect-stands at w (call.GetReservation session number) = reservation-stands w number
-effect-stands at w (call.GetReservations session) = refl
-effect-stands at w (call.EndReservation session number) = refl
-effect-stands at w (call.AllJobs session f) = refl
-effect-stands at w (call.AllReservations session) = refl
-effect-stands at w (call.AllQueues session) = refl
-effect-stands at w (call.AllMachines session) = refl
-effect-stands at w call.Register = refl
 effect-stands at w call.TakeLaunch = some-stands reply.Launch launch w (λ told. refl)
-effect-stands at w (call.Started job attempt) = refl
-effect-stands at w (call.StartFailed job attempt) = refl
-effect-stands at w (call.Exited job attempt exit) = refl
-effect-stands at w (call.ExitUnknown job attempt) = refl
 effect-stands at w call.TakeSignal = some-stands reply.Signal signal w (λ told. refl)
-effect-stands at w (call.SignalDone job attempt kind) = refl
-effect-stands at w (call.SignalFailed job attempt kind) = refl
+effect-stands at w _ = refl
 
 -- The reply of a step may stand in a journal.
 pub answer-stands : (w : World) (at : ℕ) (c : Call) (r : Reply) (next : World) → answer w at c ≡ gives r next → may_answer r ≡ true

@@ -2,33 +2,21 @@
 use Rattle.std.proofs.Common.{◌≡◌, ℕ, true, false, cond, ◌&&◌, List, [], ◌∷◌, ◌++◌, Option, Some, None, refl, sym, ap, subst}
 use Rattle.std.specs.List.{AllByRecursion, list_all}
 use Rattle.std.specs.Map.{lookup}
-use Rattle.std.specs.Option.{option_map_or}
 use Rattle.std.specs.Str.{bytes_eq}
+use Rattle.std.proofs.lemmas.Option.{none-some, same_Some}
 use Rattle.drmaa_types.specs.declared.refusals.Attribute.{Attribute}
 use Rattle.job_template.specs.declared.templates.JobTemplate.{JobTemplate}
 use Rattle.job_template.specs.declared.templates.ReservationTemplate.{ReservationTemplate}
 use Rattle.drmaa_model.specs.declared.calls.Call.{Call}
-use Rattle.drmaa_model.specs.declared.calls.Call.TheVariants as call
-use Rattle.drmaa_model.specs.declared.calls.Indices.{Indices}
-use Rattle.drmaa_model.specs.declared.calls.Target.TheVariants as target
 use Rattle.text_codec.specs.Formats.{◌>>=◌, checked}
 use Rattle.text_codec.specs.Fields.{always, no_more}
 use Rattle.text_forms.specs.Templates.{is_other, other_form}
 use Rattle.journal_forms.specs.Calls.{has_others}
-use Rattle.drmaa_types.specs.declared.moments.Timeout.{Timeout}
-use Rattle.drmaa_types.specs.declared.states.Control.{Control}
-use Rattle.drmaa_types.specs.declared.states.Control.TheVariants as control
-use Rattle.drmaa_types.specs.declared.states.Exit.{Exit}
-use Rattle.drmaa_types.specs.declared.states.Exit.TheVariants as exit
-use Rattle.drmaa_types.specs.declared.states.SignalKind.{SignalKind}
-use Rattle.drmaa_types.specs.declared.states.WaitKind.{WaitKind}
-use Rattle.drmaa_types.specs.declared.states.WaitKind.TheVariants as reached
 use Rattle.script_lines.specs.declared.draft.Draft.{Draft}
 use Rattle.script_lines.specs.declared.fields.JobField.{JobField}
 use Rattle.script_lines.specs.declared.fields.JobField.TheVariants as job
 use Rattle.script_lines.specs.declared.fields.ReservationField.{ReservationField}
 use Rattle.script_lines.specs.declared.fields.ReservationField.TheVariants as reservation
-use Rattle.script_lines.specs.declared.lines.Filter.{Filter}
 use Rattle.script_lines.specs.declared.lines.Line.{Line}
 use Rattle.script_lines.specs.declared.lines.Line.TheVariants as line
 use Rattle.script_lines.specs.declared.refs.Ref.{Ref}
@@ -36,11 +24,13 @@ use Rattle.script_lines.specs.TemplateFields.{other_fields}
 use Rattle.script_lines.specs.Templates.{IsJobField, IsReservationField, filled, made, with_field, is_set, booked, is_reservation_set, with_reservation_field, no_fields, no_reservation_fields}
 use Rattle.script_text.specs.declared.scripts.Mode.{Mode}
 use Rattle.script_text.specs.declared.scripts.Script.{Script}
-use Rattle.script_text.specs.Scripts.{Part, After, Makes, begun}
+use Rattle.script_text.specs.Follows.{is_wait, is_serial_line, is_register}
+use Rattle.script_text.specs.Scripts.{Part, After, Makes}
 use Rattle.script_text.specs.Scripts.Part.{Job, Reservation, Lines}
 use Rattle.script_asks.specs.declared.given.Given.{Given}
-use Rattle.script_asks.specs.Asks.{asks, number_of, numbers_of, filter_of, number_if, template_in, template_of, ask_close, ask_reservations, ask_all_reservations, ask_queues, ask_machines, ask_run, ask_bulk, ask_jobs, ask_all_jobs, ask_array, ask_control, ask_control_array, ask_reap, ask_reap_array, ask_state, ask_info, ask_wait, ask_reserve, ask_reservation, ask_cancel, ask_started, ask_start_failed, ask_exited, ask_exit_unknown, ask_signal_done, ask_signal_failed}
+use Rattle.script_asks.specs.Asks.{asks, number_of, numbers_of, filter_of, number_if, template_in, template_of}
 use Rattle.drmaa_model.specs.RowLaws.{all-push}
+use Rattle.script_journals.specs.Calls.{is_attendants, is_registers, is_waiting}
 
 -- ---- templates
 
@@ -60,25 +50,8 @@ AreBookedOthers t = list_all is_other t.others ≡ true
 
 filled-others : (t : JobTemplate) (f : JobField) → IsJobField f → AreOthers t → AreOthers (filled t f)
 unfolding AreOthers other_fields other_form always checked no_more
-filled-others t (job.Command x) valid all = all
-filled-others t (job.Arg x) valid all = all
-filled-others t job.Hold valid all = all
-filled-others t job.Rerunnable valid all = all
-filled-others t (job.Env x) valid all = all
-filled-others t (job.Directory x) valid all = all
-filled-others t (job.Name x) valid all = all
-filled-others t (job.Input x) valid all = all
-filled-others t (job.Output x) valid all = all
-filled-others t (job.Error x) valid all = all
-filled-others t job.Join valid all = all
-filled-others t (job.Queue x) valid all = all
-filled-others t (job.MinSlots x) valid all = all
-filled-others t (job.MaxSlots x) valid all = all
-filled-others t (job.Priority x) valid all = all
-filled-others t (job.Start x) valid all = all
-filled-others t (job.Deadline x) valid all = all
-filled-others t (job.Limit x) valid all = all
 filled-others t (job.Other x) valid all = push-other t.others x all valid.0.1
+filled-others t _ valid all = all
 
 made-others : (d : Draft) (fs : List JobField) (e : Draft) → AllByRecursion IsJobField fs → AreOthers d.template → made d fs ≡ Some e → AreOthers e.template
 made-others d [] e valid all is = let same : d ≡ e = cc in subst (λ (x : Draft). AreOthers x.template) same all
@@ -90,13 +63,8 @@ made-others d (f ∷ fs) e valid all is =
 
 set-others : (t : ReservationTemplate) (f : ReservationField) → IsReservationField f → AreBookedOthers t → AreBookedOthers (with_reservation_field t f)
 unfolding AreBookedOthers other_fields other_form always checked no_more
-set-others t (reservation.Name x) valid all = all
-set-others t (reservation.Start x) valid all = all
-set-others t (reservation.End x) valid all = all
-set-others t (reservation.Duration x) valid all = all
-set-others t (reservation.MinSlots x) valid all = all
-set-others t (reservation.MaxSlots x) valid all = all
 set-others t (reservation.Other x) valid all = push-other t.others x all valid.0.1
+set-others t _ valid all = all
 
 booked-others : (t : ReservationTemplate) (fs : List ReservationField) (r : ReservationTemplate) → AllByRecursion IsReservationField fs → AreBookedOthers t → booked t fs ≡ Some r → AreBookedOthers r
 booked-others t [] r valid all is = let same : t ≡ r = cc in subst AreBookedOthers same all
@@ -134,209 +102,91 @@ makes-others m s (p ∷ ps) t (u, first, rest) has = makes-others m u ps t rest 
 
 -- ---- what lines ask
 
--- what is asked, if anything is, may stand in a journal
-unfoldable pub Holds : Option Call → Type 0
-Holds o = option_map_or has_others o true ≡ true
+-- what is asked, if anything is, has this property
+abbrev pub Asks : (Call → Type 0) → Option Call → Type 0
+Asks P o = (c : Call) → o ≡ Some c → P c
 
-bind-holds : {A : Type 0} (o : Option A) (f : A → Option Call) → ((x : A) → Holds (f x)) → Holds (o >>= f)
-unfolding Holds
-bind-holds None f each = refl
-bind-holds (Some x) f each = each x
+this : (P : Call → Type 0) {c : Call} → P c → Asks P (Some c)
+this P {c = c} own = λ d is. subst P (same_Some c d is) own
 
-find-holds : {T : Type 0} (P : T → Type 0) (name : List ℕ) (xs : List (List ℕ × T)) (f : T → Option Call) → AllByRecursion (λ (q : List ℕ × T). P q.1) xs → ((t : T) → P t → Holds (f t)) → Holds (lookup (bytes_eq name) xs >>= f)
-unfolding Holds
-find-holds P name [] f all each = refl
-find-holds P name ((k, t) ∷ xs) f all each =
-    elim (bytes_eq name k) as (λ b. Holds (cond b (Some t) (lookup (bytes_eq name) xs) >>= f)) [
-      | true ↦ each t all.0
-      | false ↦ find-holds P name xs f all.1 each
-    ]
+one : {A : Type 0} (P : Call → Type 0) (o : Option A) (f : A → Call) → ((x : A) → o ≡ Some x → P (f x)) → Asks P (o >>= λ x. Some (f x))
+one P None f each = λ c is. absurd (none-some c is)
+one P (Some x) f each = this P (each x refl)
 
-close-holds : (names : List (List ℕ × Given)) (session : Ref) → Holds (ask_close names session)
-unfolding Holds
-close-holds names session = bind-holds (number_of names session) (λ s. Some (call.CloseSession (record { 0 = s }))) (λ s. refl)
+two : {A B : Type 0} (P : Call → Type 0) (o : Option A) (p : Option B) (f : A → B → Call) → ((x : A) (y : B) → p ≡ Some y → P (f x y)) → Asks P (o >>= λ x. p >>= λ y. Some (f x y))
+two P None p f each = λ c is. absurd (none-some c is)
+two P (Some x) p f each = one P p (f x) (each x)
 
-reservations-holds : (names : List (List ℕ × Given)) (session : Ref) → Holds (ask_reservations names session)
-unfolding Holds
-reservations-holds names session = bind-holds (number_of names session) (λ s. Some (call.GetReservations (record { 0 = s }))) (λ s. refl)
+-- what is found by its name is one of the list
+found : {T : Type 0} (P : T → Type 0) (name : List ℕ) (xs : List (List ℕ × T)) (t : T) → AllByRecursion (λ (q : List ℕ × T). P q.1) xs → lookup (bytes_eq name) xs ≡ Some t → P t
+found P name [] t all is = absurd (none-some t is)
+found P name ((k, u) ∷ xs) t all is =
+    (elim (bytes_eq name k) as (λ b. cond b (Some u) (lookup (bytes_eq name) xs) ≡ Some t → P t) [
+      | true ↦ λ e. subst P (same_Some u t e) all.0
+      | false ↦ λ e. found P name xs t all.1 e
+    ]) is
 
-all_reservations-holds : (names : List (List ℕ × Given)) (session : Ref) → Holds (ask_all_reservations names session)
-unfolding Holds
-all_reservations-holds names session = bind-holds (number_of names session) (λ s. Some (call.AllReservations (record { 0 = s }))) (λ s. refl)
-
-queues-holds : (names : List (List ℕ × Given)) (session : Ref) → Holds (ask_queues names session)
-unfolding Holds
-queues-holds names session = bind-holds (number_of names session) (λ s. Some (call.AllQueues (record { 0 = s }))) (λ s. refl)
-
-machines-holds : (names : List (List ℕ × Given)) (session : Ref) → Holds (ask_machines names session)
-unfolding Holds
-machines-holds names session = bind-holds (number_of names session) (λ s. Some (call.AllMachines (record { 0 = s }))) (λ s. refl)
-
-jobs-holds : (names : List (List ℕ × Given)) (session : Ref) (filter : Filter) → Holds (ask_jobs names session filter)
-unfolding Holds
-jobs-holds names session filter = bind-holds (number_of names session) (λ s. filter_of names filter >>= λ f. Some (call.GetJobs (record { 0 = s }) f)) (λ s. bind-holds (filter_of names filter) (λ f. Some (call.GetJobs (record { 0 = s }) f)) (λ f. refl))
-
-all_jobs-holds : (names : List (List ℕ × Given)) (session : Ref) (filter : Filter) → Holds (ask_all_jobs names session filter)
-unfolding Holds
-all_jobs-holds names session filter = bind-holds (number_of names session) (λ s. filter_of names filter >>= λ f. Some (call.AllJobs (record { 0 = s }) f)) (λ s. bind-holds (filter_of names filter) (λ f. Some (call.AllJobs (record { 0 = s }) f)) (λ f. refl))
-
-array-holds : (names : List (List ℕ × Given)) (session array : Ref) → Holds (ask_array names session array)
-unfolding Holds
-array-holds names session array = bind-holds (number_of names session) (λ s. number_of names array >>= λ a. Some (call.GetJobArray (record { 0 = s }) (record { 0 = a }))) (λ s. bind-holds (number_of names array) (λ a. Some (call.GetJobArray (record { 0 = s }) (record { 0 = a }))) (λ a. refl))
-
-control-holds : (names : List (List ℕ × Given)) (session job : Ref) (what : Control) → Holds (ask_control names session job what)
-unfolding Holds
-control-holds names session job what = bind-holds (number_of names session) (λ s. number_of names job >>= λ j. Some (call.Control (record { 0 = s }) (target.Job (record { 0 = j })) what)) (λ s. bind-holds (number_of names job) (λ j. Some (call.Control (record { 0 = s }) (target.Job (record { 0 = j })) what)) (λ j. refl))
-
-control_array-holds : (names : List (List ℕ × Given)) (session array : Ref) (what : Control) → Holds (ask_control_array names session array what)
-unfolding Holds
-control_array-holds names session array what = bind-holds (number_of names session) (λ s. number_of names array >>= λ a. Some (call.Control (record { 0 = s }) (target.Array (record { 0 = a })) what)) (λ s. bind-holds (number_of names array) (λ a. Some (call.Control (record { 0 = s }) (target.Array (record { 0 = a })) what)) (λ a. refl))
-
-reap-holds : (names : List (List ℕ × Given)) (session job : Ref) → Holds (ask_reap names session job)
-unfolding Holds
-reap-holds names session job = bind-holds (number_of names session) (λ s. number_of names job >>= λ j. Some (call.Reap (record { 0 = s }) (target.Job (record { 0 = j })))) (λ s. bind-holds (number_of names job) (λ j. Some (call.Reap (record { 0 = s }) (target.Job (record { 0 = j })))) (λ j. refl))
-
-reap_array-holds : (names : List (List ℕ × Given)) (session array : Ref) → Holds (ask_reap_array names session array)
-unfolding Holds
-reap_array-holds names session array = bind-holds (number_of names session) (λ s. number_of names array >>= λ a. Some (call.Reap (record { 0 = s }) (target.Array (record { 0 = a })))) (λ s. bind-holds (number_of names array) (λ a. Some (call.Reap (record { 0 = s }) (target.Array (record { 0 = a })))) (λ a. refl))
-
-state-holds : (names : List (List ℕ × Given)) (session job : Ref) → Holds (ask_state names session job)
-unfolding Holds
-state-holds names session job = bind-holds (number_of names session) (λ s. number_of names job >>= λ j. Some (call.GetState (record { 0 = s }) (record { 0 = j }))) (λ s. bind-holds (number_of names job) (λ j. Some (call.GetState (record { 0 = s }) (record { 0 = j }))) (λ j. refl))
-
-info-holds : (names : List (List ℕ × Given)) (session job : Ref) → Holds (ask_info names session job)
-unfolding Holds
-info-holds names session job = bind-holds (number_of names session) (λ s. number_of names job >>= λ j. Some (call.GetInfo (record { 0 = s }) (record { 0 = j }))) (λ s. bind-holds (number_of names job) (λ j. Some (call.GetInfo (record { 0 = s }) (record { 0 = j }))) (λ j. refl))
-
-wait-holds : (names : List (List ℕ × Given)) (begun : ℕ) (kind : WaitKind) (session : Ref) (timeout : Timeout) (jobs : List Ref) → Holds (ask_wait names begun kind session timeout jobs)
-unfolding Holds
-wait-holds names begun kind session timeout jobs =
-    bind-holds (number_of names session) (λ s. numbers_of names jobs >>= λ js. Some (call.Wait (record { 0 = s }) js kind begun timeout)) (λ s.
-    bind-holds (numbers_of names jobs) (λ js. Some (call.Wait (record { 0 = s }) js kind begun timeout)) (λ js. refl))
-
-reservation-holds : (names : List (List ℕ × Given)) (session reserved : Ref) → Holds (ask_reservation names session reserved)
-unfolding Holds
-reservation-holds names session reserved = bind-holds (number_of names session) (λ s. number_of names reserved >>= λ r. Some (call.GetReservation (record { 0 = s }) (record { 0 = r }))) (λ s. bind-holds (number_of names reserved) (λ r. Some (call.GetReservation (record { 0 = s }) (record { 0 = r }))) (λ r. refl))
-
-cancel-holds : (names : List (List ℕ × Given)) (session reserved : Ref) → Holds (ask_cancel names session reserved)
-unfolding Holds
-cancel-holds names session reserved = bind-holds (number_of names session) (λ s. number_of names reserved >>= λ r. Some (call.EndReservation (record { 0 = s }) (record { 0 = r }))) (λ s. bind-holds (number_of names reserved) (λ r. Some (call.EndReservation (record { 0 = s }) (record { 0 = r }))) (λ r. refl))
-
-started-holds : (names : List (List ℕ × Given)) (attempt : ℕ → ℕ) (job : Ref) → Holds (ask_started names attempt job)
-unfolding Holds
-started-holds names attempt job = bind-holds (number_of names job) (λ j. Some (call.Started (record { 0 = j }) (attempt j))) (λ j. refl)
-
-start_failed-holds : (names : List (List ℕ × Given)) (attempt : ℕ → ℕ) (job : Ref) → Holds (ask_start_failed names attempt job)
-unfolding Holds
-start_failed-holds names attempt job = bind-holds (number_of names job) (λ j. Some (call.StartFailed (record { 0 = j }) (attempt j))) (λ j. refl)
-
-exited-holds : (names : List (List ℕ × Given)) (attempt : ℕ → ℕ) (job : Ref) (how : Exit) → Holds (ask_exited names attempt job how)
-unfolding Holds
-exited-holds names attempt job how = bind-holds (number_of names job) (λ j. Some (call.Exited (record { 0 = j }) (attempt j) how)) (λ j. refl)
-
-exit_unknown-holds : (names : List (List ℕ × Given)) (attempt : ℕ → ℕ) (job : Ref) → Holds (ask_exit_unknown names attempt job)
-unfolding Holds
-exit_unknown-holds names attempt job = bind-holds (number_of names job) (λ j. Some (call.ExitUnknown (record { 0 = j }) (attempt j))) (λ j. refl)
-
-signal_done-holds : (names : List (List ℕ × Given)) (attempt : ℕ → ℕ) (job : Ref) (kind : SignalKind) → Holds (ask_signal_done names attempt job kind)
-unfolding Holds
-signal_done-holds names attempt job kind = bind-holds (number_of names job) (λ j. Some (call.SignalDone (record { 0 = j }) (attempt j) kind)) (λ j. refl)
-
-signal_failed-holds : (names : List (List ℕ × Given)) (attempt : ℕ → ℕ) (job : Ref) (kind : SignalKind) → Holds (ask_signal_failed names attempt job kind)
-unfolding Holds
-signal_failed-holds names attempt job kind = bind-holds (number_of names job) (λ j. Some (call.SignalFailed (record { 0 = j }) (attempt j) kind)) (λ j. refl)
-
--- one that is looked up, and given a reservation
-given-holds : (names : List (List ℕ × Given)) (t : JobTemplate) (reserved : Option Ref) (f : JobTemplate → Option Call) → AreOthers t → ((u : JobTemplate) → AreOthers u → Holds (f u)) → Holds ((number_if names reserved >>= λ r. Some (template_in t r)) >>= f)
-unfolding Holds AreOthers
-given-holds names t reserved f all each =
-    elim (number_if names reserved) as (λ o. Holds ((o >>= λ r. Some (template_in t r)) >>= f)) [
-      | None ↦ refl
-      | Some r ↦ each (template_in t r) all
-    ]
-
-template-found : (jobs : List (List ℕ × JobTemplate)) (names : List (List ℕ × Given)) (template : List ℕ) (reserved : Option Ref) (f : JobTemplate → Option Call) → AllByRecursion (λ (q : List ℕ × JobTemplate). AreOthers q.1) jobs
-    → ((u : JobTemplate) → AreOthers u → Holds (f u)) → Holds ((lookup (bytes_eq template) jobs >>= λ t. number_if names reserved >>= λ r. Some (template_in t r)) >>= f)
-unfolding Holds AreOthers
-template-found [] names template reserved f all each = refl
-template-found ((k, t) ∷ jobs) names template reserved f all each =
-    elim (bytes_eq template k) as (λ b. Holds ((cond b (Some t) (lookup (bytes_eq template) jobs) >>= λ u. number_if names reserved >>= λ r. Some (template_in u r)) >>= f)) [
-      | true ↦ given-holds names t reserved f all.0 each
-      | false ↦ template-found jobs names template reserved f all.1 each
-    ]
+-- a template, given a reservation
+given-others : (u t : JobTemplate) (o : Option (Option ℕ)) → AreOthers u → (o >>= λ r. Some (template_in u r)) ≡ Some t → AreOthers t
+unfolding AreOthers
+given-others u t None all is = absurd (none-some t is)
+given-others u t (Some r) all is = subst (λ (x : JobTemplate). list_all is_other x.others ≡ true) (same_Some (template_in u r) t is) all
 
 -- a template that is named, with the reservation that the line names
-template-holds : (s : Script) (names : List (List ℕ × Given)) (template : List ℕ) (reserved : Option Ref) (f : JobTemplate → Option Call) → HasOthers s → ((t : JobTemplate) → AreOthers t → Holds (f t)) → Holds (template_of s names template reserved >>= f)
-unfolding Holds AreOthers
-template-holds s names template reserved f has each = template-found s.jobs names template reserved f has.jobs each
+template-others : (s : Script) (names : List (List ℕ × Given)) (template : List ℕ) (reserved : Option Ref) (t : JobTemplate) → HasOthers s → template_of s names template reserved ≡ Some t → AreOthers t
+template-others s names template reserved t has is =
+    (elim (lookup (bytes_eq template) s.jobs) as (λ o. lookup (bytes_eq template) s.jobs ≡ o → (o >>= λ u. number_if names reserved >>= λ r. Some (template_in u r)) ≡ Some t → AreOthers t) [
+      | None ↦ λ e h. absurd (none-some t h)
+      | Some u ↦ λ e h. given-others u t (number_if names reserved) (found AreOthers template s.jobs u has.jobs e) h
+    ]) refl is
 
-run-holds : (s : Script) (names : List (List ℕ × Given)) (session : Ref) (template : List ℕ) (reserved : Option Ref) → HasOthers s → Holds (ask_run s names session template reserved)
-unfolding Holds AreOthers
-run-holds s names session template reserved has =
-    bind-holds (number_of names session) (λ n. template_of s names template reserved >>= λ t. Some (call.RunJob (record { 0 = n }) t)) (λ n.
-    template-holds s names template reserved (λ t. Some (call.RunJob (record { 0 = n }) t)) has (λ t all. all))
+-- A line's own call: launcher or reaper make it, it registers a callback, and it waits, where that is said of the line; and no
+-- template has an attribute of another form under `other`, where the script's have none.
+abbrev pub IsOwn : Script → Line → Call → Type 0
+IsOwn s l c = (is_attendants c ≡ is_serial_line l) × (is_registers c ≡ is_register l) × (is_waiting c ≡ is_wait l) × (HasOthers s → has_others c ≡ true)
 
-bulk-holds : (s : Script) (names : List (List ℕ × Given)) (session : Ref) (template : List ℕ) (indices : Indices) (reserved : Option Ref) → HasOthers s → Holds (ask_bulk s names session template indices reserved)
-unfolding Holds AreOthers
-bulk-holds s names session template indices reserved has =
-    bind-holds (number_of names session) (λ n. template_of s names template reserved >>= λ t. Some (call.RunBulk (record { 0 = n }) t indices)) (λ n.
-    template-holds s names template reserved (λ t. Some (call.RunBulk (record { 0 = n }) t indices)) has (λ t all. all))
+-- what each line asks is its own
+pub asks-own : (s : Script) (names : List (List ℕ × Given)) (attempt : ℕ → ℕ) (begun : ℕ) (l : Line) → Asks (IsOwn s l) (asks s names attempt begun l)
+unfolding AreOthers AreBookedOthers
+asks-own s names attempt begun (line.Close session) = one _ (number_of names session) _ (λ n is. (refl, refl, refl, λ has. refl))
+asks-own s names attempt begun (line.Run name session template reserved) = two _ (number_of names session) (template_of s names template reserved) _ (λ n k is. (refl, refl, refl, λ has. template-others s names template reserved k has is))
+asks-own s names attempt begun (line.Bulk name session template begin end step bound reserved) = two _ (number_of names session) (template_of s names template reserved) _ (λ n k is. (refl, refl, refl, λ has. template-others s names template reserved k has is))
+asks-own s names attempt begun (line.Jobs session filter) = two _ (number_of names session) (filter_of names filter) _ (λ n k is. (refl, refl, refl, λ has. refl))
+asks-own s names attempt begun (line.Array session array) = two _ (number_of names session) (number_of names array) _ (λ n k is. (refl, refl, refl, λ has. refl))
+asks-own s names attempt begun (line.Suspend session job) = two _ (number_of names session) (number_of names job) _ (λ n k is. (refl, refl, refl, λ has. refl))
+asks-own s names attempt begun (line.Resume session job) = two _ (number_of names session) (number_of names job) _ (λ n k is. (refl, refl, refl, λ has. refl))
+asks-own s names attempt begun (line.Hold session job) = two _ (number_of names session) (number_of names job) _ (λ n k is. (refl, refl, refl, λ has. refl))
+asks-own s names attempt begun (line.Release session job) = two _ (number_of names session) (number_of names job) _ (λ n k is. (refl, refl, refl, λ has. refl))
+asks-own s names attempt begun (line.Terminate session job) = two _ (number_of names session) (number_of names job) _ (λ n k is. (refl, refl, refl, λ has. refl))
+asks-own s names attempt begun (line.SuspendArray session array) = two _ (number_of names session) (number_of names array) _ (λ n k is. (refl, refl, refl, λ has. refl))
+asks-own s names attempt begun (line.ResumeArray session array) = two _ (number_of names session) (number_of names array) _ (λ n k is. (refl, refl, refl, λ has. refl))
+asks-own s names attempt begun (line.HoldArray session array) = two _ (number_of names session) (number_of names array) _ (λ n k is. (refl, refl, refl, λ has. refl))
+asks-own s names attempt begun (line.ReleaseArray session array) = two _ (number_of names session) (number_of names array) _ (λ n k is. (refl, refl, refl, λ has. refl))
+asks-own s names attempt begun (line.TerminateArray session array) = two _ (number_of names session) (number_of names array) _ (λ n k is. (refl, refl, refl, λ has. refl))
+asks-own s names attempt begun (line.Reap session job) = two _ (number_of names session) (number_of names job) _ (λ n k is. (refl, refl, refl, λ has. refl))
+asks-own s names attempt begun (line.ReapArray session array) = two _ (number_of names session) (number_of names array) _ (λ n k is. (refl, refl, refl, λ has. refl))
+asks-own s names attempt begun (line.State session job) = two _ (number_of names session) (number_of names job) _ (λ n k is. (refl, refl, refl, λ has. refl))
+asks-own s names attempt begun (line.Info session job) = two _ (number_of names session) (number_of names job) _ (λ n k is. (refl, refl, refl, λ has. refl))
+asks-own s names attempt begun (line.WaitStarted session timeout jobs) = two _ (number_of names session) (numbers_of names jobs) _ (λ n k is. (refl, refl, refl, λ has. refl))
+asks-own s names attempt begun (line.WaitTerminated session timeout jobs) = two _ (number_of names session) (numbers_of names jobs) _ (λ n k is. (refl, refl, refl, λ has. refl))
+asks-own s names attempt begun (line.Reserve name session template) = two _ (number_of names session) (lookup (bytes_eq template) s.reservations) _ (λ n k is. (refl, refl, refl, λ has. found AreBookedOthers template s.reservations k has.reservations is))
+asks-own s names attempt begun (line.Reservation session reservation) = two _ (number_of names session) (number_of names reservation) _ (λ n k is. (refl, refl, refl, λ has. refl))
+asks-own s names attempt begun (line.Reservations session) = one _ (number_of names session) _ (λ n is. (refl, refl, refl, λ has. refl))
+asks-own s names attempt begun (line.Cancel session reservation) = two _ (number_of names session) (number_of names reservation) _ (λ n k is. (refl, refl, refl, λ has. refl))
+asks-own s names attempt begun (line.AllJobs session filter) = two _ (number_of names session) (filter_of names filter) _ (λ n k is. (refl, refl, refl, λ has. refl))
+asks-own s names attempt begun (line.AllReservations session) = one _ (number_of names session) _ (λ n is. (refl, refl, refl, λ has. refl))
+asks-own s names attempt begun (line.Queues session) = one _ (number_of names session) _ (λ n is. (refl, refl, refl, λ has. refl))
+asks-own s names attempt begun (line.Machines session) = one _ (number_of names session) _ (λ n is. (refl, refl, refl, λ has. refl))
+asks-own s names attempt begun (line.At moment) = λ c is. absurd (none-some c is)
+asks-own s names attempt begun (line.Started job) = one _ (number_of names job) _ (λ n is. (refl, refl, refl, λ has. refl))
+asks-own s names attempt begun (line.StartFailed job) = one _ (number_of names job) _ (λ n is. (refl, refl, refl, λ has. refl))
+asks-own s names attempt begun (line.Exit job code) = one _ (number_of names job) _ (λ n is. (refl, refl, refl, λ has. refl))
+asks-own s names attempt begun (line.ExitSignal job signal) = one _ (number_of names job) _ (λ n is. (refl, refl, refl, λ has. refl))
+asks-own s names attempt begun (line.ExitUnknown job) = one _ (number_of names job) _ (λ n is. (refl, refl, refl, λ has. refl))
+asks-own s names attempt begun (line.SignalDone job kind) = one _ (number_of names job) _ (λ n is. (refl, refl, refl, λ has. refl))
+asks-own s names attempt begun (line.SignalFailed job kind) = one _ (number_of names job) _ (λ n is. (refl, refl, refl, λ has. refl))
+asks-own s names attempt begun _ = this _ (refl, refl, refl, λ has. refl)
 
-reserve-holds : (s : Script) (names : List (List ℕ × Given)) (session : Ref) (template : List ℕ) → HasOthers s → Holds (ask_reserve s names session template)
-unfolding Holds AreBookedOthers
-reserve-holds s names session template has =
-    bind-holds (number_of names session) (λ n. lookup (bytes_eq template) s.reservations >>= λ t. Some (call.RequestReservation (record { 0 = n }) t)) (λ n.
-    find-holds AreBookedOthers template s.reservations (λ t. Some (call.RequestReservation (record { 0 = n }) t)) has.reservations (λ t all. all))
-
--- what a line asks may stand in a journal
-pub asks-holds : (s : Script) (names : List (List ℕ × Given)) (attempt : ℕ → ℕ) (begun : ℕ) (l : Line) → HasOthers s → Holds (asks s names attempt begun l)
-unfolding Holds
-asks-holds s names attempt begun (line.CreateJobs name session) has = refl
-asks-holds s names attempt begun (line.CreateReservations name session) has = refl
-asks-holds s names attempt begun (line.OpenJobs name session) has = refl
-asks-holds s names attempt begun (line.OpenReservations name session) has = refl
-asks-holds s names attempt begun (line.DestroyJobs session) has = refl
-asks-holds s names attempt begun (line.DestroyReservations session) has = refl
-asks-holds s names attempt begun line.NamesJobs has = refl
-asks-holds s names attempt begun line.NamesReservations has = refl
-asks-holds s names attempt begun (line.Monitor name) has = refl
-asks-holds s names attempt begun (line.Close session) has = close-holds names session
-asks-holds s names attempt begun (line.Run name session template reserved) has = run-holds s names session template reserved has
-asks-holds s names attempt begun (line.Bulk name session template begin end step bound reserved) has = bulk-holds s names session template (record { begin = begin; end = end; step = step; bound = bound }) reserved has
-asks-holds s names attempt begun (line.Jobs session filter) has = jobs-holds names session filter
-asks-holds s names attempt begun (line.Array session array) has = array-holds names session array
-asks-holds s names attempt begun (line.Suspend session job) has = control-holds names session job control.Suspend
-asks-holds s names attempt begun (line.Resume session job) has = control-holds names session job control.Resume
-asks-holds s names attempt begun (line.Hold session job) has = control-holds names session job control.Hold
-asks-holds s names attempt begun (line.Release session job) has = control-holds names session job control.Release
-asks-holds s names attempt begun (line.Terminate session job) has = control-holds names session job control.Terminate
-asks-holds s names attempt begun (line.SuspendArray session array) has = control_array-holds names session array control.Suspend
-asks-holds s names attempt begun (line.ResumeArray session array) has = control_array-holds names session array control.Resume
-asks-holds s names attempt begun (line.HoldArray session array) has = control_array-holds names session array control.Hold
-asks-holds s names attempt begun (line.ReleaseArray session array) has = control_array-holds names session array control.Release
-asks-holds s names attempt begun (line.TerminateArray session array) has = control_array-holds names session array control.Terminate
-asks-holds s names attempt begun (line.Reap session job) has = reap-holds names session job
-asks-holds s names attempt begun (line.ReapArray session array) has = reap_array-holds names session array
-asks-holds s names attempt begun (line.State session job) has = state-holds names session job
-asks-holds s names attempt begun (line.Info session job) has = info-holds names session job
-asks-holds s names attempt begun (line.WaitStarted session timeout jobs) has = wait-holds names begun reached.Started session timeout jobs
-asks-holds s names attempt begun (line.WaitTerminated session timeout jobs) has = wait-holds names begun reached.Terminated session timeout jobs
-asks-holds s names attempt begun (line.Reserve name session template) has = reserve-holds s names session template has
-asks-holds s names attempt begun (line.Reservation session reservation) has = reservation-holds names session reservation
-asks-holds s names attempt begun (line.Reservations session) has = reservations-holds names session
-asks-holds s names attempt begun (line.Cancel session reservation) has = cancel-holds names session reservation
-asks-holds s names attempt begun (line.AllJobs session filter) has = all_jobs-holds names session filter
-asks-holds s names attempt begun (line.AllReservations session) has = all_reservations-holds names session
-asks-holds s names attempt begun (line.Queues session) has = queues-holds names session
-asks-holds s names attempt begun (line.Machines session) has = machines-holds names session
-asks-holds s names attempt begun line.Register has = refl
-asks-holds s names attempt begun (line.At moment) has = refl
-asks-holds s names attempt begun line.Launch has = refl
-asks-holds s names attempt begun (line.Started job) has = started-holds names attempt job
-asks-holds s names attempt begun (line.StartFailed job) has = start_failed-holds names attempt job
-asks-holds s names attempt begun (line.Exit job code) has = exited-holds names attempt job (exit.Code code)
-asks-holds s names attempt begun (line.ExitSignal job signal) has = exited-holds names attempt job (exit.Signal signal)
-asks-holds s names attempt begun (line.ExitUnknown job) has = exit_unknown-holds names attempt job
-asks-holds s names attempt begun line.Signal has = refl
-asks-holds s names attempt begun (line.SignalDone job kind) has = signal_done-holds names attempt job kind
-asks-holds s names attempt begun (line.SignalFailed job kind) has = signal_failed-holds names attempt job kind
+-- so it may stand in a journal
+pub asks-holds : (s : Script) (names : List (List ℕ × Given)) (attempt : ℕ → ℕ) (begun : ℕ) (l : Line) → HasOthers s → Asks (λ c. has_others c ≡ true) (asks s names attempt begun l)
+asks-holds s names attempt begun l has = λ c is. (asks-own s names attempt begun l c is).3 has

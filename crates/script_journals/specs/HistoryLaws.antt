@@ -1,5 +1,5 @@
 -- The journal of a legal history whose calls may stand may be printed, and read again.
-use Rattle.std.proofs.Common.{◌≡◌, ℕ, ◌==◌, Bool, true, false, cond, inl, inr, List, [], ◌∷◌, take, Option, Some, refl, sym, ap, subst, ◌∙◌, arith}
+use Rattle.std.proofs.Common.{◌≡◌, ℕ, ◌==◌, Bool, true, false, cond, inl, inr, List, [], ◌∷◌, take, refl, sym, ap, subst, ◌∙◌, arith}
 use Rattle.std.specs.List.{AllByRecursion}
 use Rattle.std.proofs.lemmas.Bool.Decides.{nat_tests}
 use Rattle.drmaa_model.specs.declared.calls.Call.{Call}
@@ -18,22 +18,17 @@ use Rattle.script_asks.specs.declared.given.Given.{Given}
 use Rattle.script_asks.specs.Plays.{calls_of, no_attempt, IsAsked, Plays, PlaysPart}
 use Rattle.script_asks.specs.Replies.{names_after}
 use Rattle.script_journals.specs.AnsweredLaws.{answer-stands}
-use Rattle.script_journals.specs.AskedLaws.{HasOthers, Holds, asks-holds}
+use Rattle.script_journals.specs.AskedLaws.{HasOthers, asks-holds}
 use Rattle.script_journals.specs.Calls.{CallMayStand, is_attendants}
 use Rattle.script_journals.specs.KeptLaws.{kept-twice, kept-others}
 use Rattle.script_journals.specs.PlayedLaws.{spelled-printable, spelled-others}
 
 -- ---- what blocks ask
 
--- what is asked, where something is
-asked-holds : (o : Option Call) (c : Call) → Holds o → o ≡ Some c → has_others c ≡ true
-unfolding Holds
-asked-holds o c holds is = subst Holds is holds
-
 asked-stands : (s : Script) (names : List (List ℕ × Given)) (before : ℕ) (l : Line) (e : Entry) → HasOthers s → IsAsked s names before l e → CallMayStand e
 asked-stands s names before l e has is = record {
   call = ap kept is.same ∙ kept-twice is.call ∙ sym is.same;
-  others = ap has_others is.same ∙ kept-others is.call ∙ asked-holds _ is.call (asks-holds s names no_attempt is.begun l has) is.asked;
+  others = ap has_others is.same ∙ kept-others is.call ∙ asks-holds s names no_attempt is.begun l has is.call is.asked;
 }
 
 plays-stands : (s : Script) (names : List (List ℕ × Given)) (before : ℕ) (ls : List Line) (es : List Entry) → HasOthers s → Plays s names before ls es → AllByRecursion CallMayStand es
@@ -53,80 +48,15 @@ part-stands mode lines s names before block es is (n, plays) = block-stands mode
 -- ---- what the launcher and the reaper ask
 
 same-kept : (c : Call) → is_attendants c ≡ true → kept c ≡ c
-same-kept (call.CreateJobSession name) is = absurd (cc)
-same-kept (call.CreateReservationSession name) is = absurd (cc)
-same-kept (call.OpenJobSession name) is = absurd (cc)
-same-kept (call.OpenReservationSession name) is = absurd (cc)
-same-kept (call.DestroyJobSession name) is = absurd (cc)
-same-kept (call.DestroyReservationSession name) is = absurd (cc)
-same-kept call.JobSessionNames is = absurd (cc)
-same-kept call.ReservationSessionNames is = absurd (cc)
-same-kept call.OpenMonitoring is = absurd (cc)
-same-kept (call.CloseSession session) is = absurd (cc)
 same-kept (call.RunJob session t) is = absurd (cc)
 same-kept (call.RunBulk session t indices) is = absurd (cc)
-same-kept (call.GetJobs session f) is = absurd (cc)
-same-kept (call.GetJobArray session array) is = absurd (cc)
-same-kept (call.Control session meant what) is = absurd (cc)
-same-kept (call.Reap session meant) is = absurd (cc)
-same-kept (call.GetState session job) is = absurd (cc)
-same-kept (call.GetInfo session job) is = absurd (cc)
-same-kept (call.Wait session listed kind begins timeout) is = absurd (cc)
-same-kept (call.RequestReservation session t) is = absurd (cc)
-same-kept (call.GetReservation session number) is = absurd (cc)
-same-kept (call.GetReservations session) is = absurd (cc)
-same-kept (call.EndReservation session number) is = absurd (cc)
-same-kept (call.AllJobs session f) is = absurd (cc)
-same-kept (call.AllReservations session) is = absurd (cc)
-same-kept (call.AllQueues session) is = absurd (cc)
-same-kept (call.AllMachines session) is = absurd (cc)
-same-kept call.Register is = absurd (cc)
-same-kept call.TakeLaunch is = refl
-same-kept (call.Started job attempt) is = refl
-same-kept (call.StartFailed job attempt) is = refl
-same-kept (call.Exited job attempt exit) is = refl
-same-kept (call.ExitUnknown job attempt) is = refl
-same-kept call.TakeSignal is = refl
-same-kept (call.SignalDone job attempt kind) is = refl
-same-kept (call.SignalFailed job attempt kind) is = refl
+same-kept _ is = refl
 
 no-others : (c : Call) → is_attendants c ≡ true → has_others c ≡ true
-no-others (call.CreateJobSession name) is = absurd (cc)
-no-others (call.CreateReservationSession name) is = absurd (cc)
-no-others (call.OpenJobSession name) is = absurd (cc)
-no-others (call.OpenReservationSession name) is = absurd (cc)
-no-others (call.DestroyJobSession name) is = absurd (cc)
-no-others (call.DestroyReservationSession name) is = absurd (cc)
-no-others call.JobSessionNames is = absurd (cc)
-no-others call.ReservationSessionNames is = absurd (cc)
-no-others call.OpenMonitoring is = absurd (cc)
-no-others (call.CloseSession session) is = absurd (cc)
 no-others (call.RunJob session t) is = absurd (cc)
 no-others (call.RunBulk session t indices) is = absurd (cc)
-no-others (call.GetJobs session f) is = absurd (cc)
-no-others (call.GetJobArray session array) is = absurd (cc)
-no-others (call.Control session meant what) is = absurd (cc)
-no-others (call.Reap session meant) is = absurd (cc)
-no-others (call.GetState session job) is = absurd (cc)
-no-others (call.GetInfo session job) is = absurd (cc)
-no-others (call.Wait session listed kind begins timeout) is = absurd (cc)
 no-others (call.RequestReservation session t) is = absurd (cc)
-no-others (call.GetReservation session number) is = absurd (cc)
-no-others (call.GetReservations session) is = absurd (cc)
-no-others (call.EndReservation session number) is = absurd (cc)
-no-others (call.AllJobs session f) is = absurd (cc)
-no-others (call.AllReservations session) is = absurd (cc)
-no-others (call.AllQueues session) is = absurd (cc)
-no-others (call.AllMachines session) is = absurd (cc)
-no-others call.Register is = absurd (cc)
-no-others call.TakeLaunch is = refl
-no-others (call.Started job attempt) is = refl
-no-others (call.StartFailed job attempt) is = refl
-no-others (call.Exited job attempt exit) is = refl
-no-others (call.ExitUnknown job attempt) is = refl
-no-others call.TakeSignal is = refl
-no-others (call.SignalDone job attempt kind) is = refl
-no-others (call.SignalFailed job attempt kind) is = refl
+no-others _ is = refl
 
 pub attendants-stand : (e : Entry) → is_attendants e.call ≡ true → CallMayStand e
 attendants-stand e is = record { call = same-kept e.call is; others = no-others e.call is }

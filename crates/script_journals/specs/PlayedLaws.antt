@@ -30,7 +30,7 @@ use Rattle.script_asks.specs.Plays.{Playing, Crew, Turn, crew_of, turn_of, enter
 use Rattle.script_asks.specs.Plays.Turn.{sets, waits, a_client, the_launcher, the_reaper}
 use Rattle.script_asks.specs.Replies.{names_after, last_attempt}
 use Rattle.script_journals.specs.AnsweredLaws.{answer-stands}
-use Rattle.script_journals.specs.AskedLaws.{HasOthers, Holds, makes-others, asks-holds}
+use Rattle.script_journals.specs.AskedLaws.{HasOthers, makes-others, Asks, asks-holds}
 use Rattle.script_journals.specs.KeptLaws.{kept-twice, kept-others}
 
 -- ---- the play
@@ -69,12 +69,11 @@ later-stands p timeout all = all
 second-stands : (q : Playing) (caller : CallerId) (l : Line) (c : Call) → has_others c ≡ true → AllStand q → AllStand (second_look q caller l c)
 second-stands q caller l c has all = look-stands q caller l c q has all all
 
-chosen-stands : (p : Playing) (o : Option Call) (f : Call → Playing) → Holds o → AllStand p → ((c : Call) → has_others c ≡ true → AllStand (f c)) → AllStand (choose o f p)
-unfolding Holds
+chosen-stands : (p : Playing) (o : Option Call) (f : Call → Playing) → Asks (λ c. has_others c ≡ true) o → AllStand p → ((c : Call) → has_others c ≡ true → AllStand (f c)) → AllStand (choose o f p)
 chosen-stands p None f holds all each = all
-chosen-stands p (Some c) f holds all each = each c holds
+chosen-stands p (Some c) f holds all each = each c (holds c refl)
 
-asks_now-holds : (s : Script) (p : Playing) (l : Line) → HasOthers s → Holds (asks_now s p l)
+asks_now-holds : (s : Script) (p : Playing) (l : Line) → HasOthers s → Asks (λ c. has_others c ≡ true) (asks_now s p l)
 asks_now-holds s p l has = asks-holds s p.names (λ job. last_attempt job (map (λ e. e.reply) p.entries)) p.moment l has
 
 turn-stands : (s : Script) (crew : Crew) (p : Playing) (l : Line) (t : Turn) → HasOthers s → AllStand p → AllStand (play_turn s crew p l t)

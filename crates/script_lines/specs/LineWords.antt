@@ -1,7 +1,9 @@
 -- The words of client lines: our profile.
-use Rattle.std.specs.Prelude.{ℕ, List, codes}
+use Rattle.std.specs.Prelude.{◌≡◌, ℕ, List, length, codes}
+use Rattle.text_codec.specs.Formats.{first_spelled}
 use Rattle.script_lines.specs.declared.words.LineWord.{LineWord}
 use Rattle.script_lines.specs.declared.words.LineWord.TheVariants as word
+use Rattle.script_lines.specs.declared.words.TheConstants.{LINE_WORDS}
 
 abbrev pub line_word : LineWord → List ℕ
 line_word word.CreateJobs = codes "create-jobs"
@@ -53,3 +55,7 @@ line_word word.ExitUnknown = codes "exit-unknown"
 line_word word.Signal = codes "signal"
 line_word word.SignalDone = codes "signal-done"
 line_word word.SignalFailed = codes "signal-failed"
+
+-- Among these words each that has so many bytes is found as it is among all.
+unfoldable pub HasAllOfSize : ℕ → List LineWord → Type 0
+HasAllOfSize size among = (w : List ℕ) → length w ≡ size → first_spelled line_word among w ≡ first_spelled line_word LINE_WORDS w

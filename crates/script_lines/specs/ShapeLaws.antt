@@ -13,8 +13,8 @@ use Rattle.text_codec.specs.Quotes.{text}
 use Rattle.text_codec.specs.Words.{name}
 use Rattle.text_dates.specs.Said.{said}
 use Rattle.text_dates.specs.SaidLaws.{said_laws}
-use Rattle.text_words.specs.Words.{state_form, kind_form}
-use Rattle.text_words.specs.WordLaws.{state_laws, kind_laws}
+use Rattle.text_codec.specs.ValueWords.{state_form, kind_form}
+use Rattle.text_codec.specs.ValueWordLaws.{state_laws, kind_laws}
 use Rattle.script_lines.specs.Refs.{reference}
 use Rattle.script_lines.specs.RefLaws.{ref_laws}
 use Rattle.script_lines.specs.Lines.{line_barred}

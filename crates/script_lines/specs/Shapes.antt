@@ -10,7 +10,7 @@ use Rattle.text_codec.specs.Quotes.{text}
 use Rattle.text_codec.specs.Words.{name}
 use Rattle.text_dates.specs.declared.said.Said.{Said}
 use Rattle.text_dates.specs.Said.{said}
-use Rattle.text_words.specs.Words.{state_form, kind_form}
+use Rattle.text_codec.specs.ValueWords.{state_form, kind_form}
 use Rattle.script_lines.specs.declared.refs.Ref.{Ref}
 use Rattle.script_lines.specs.declared.lines.Filter.{Filter}
 use Rattle.script_lines.specs.Refs.{reference}

@@ -17,9 +17,9 @@ use Rattle.text_dates.specs.DateLaws.{dated_digits, is_moment}
 use Rattle.text_dates.specs.Said.{spell_said, Agrees, said}
 use Rattle.std.proofs.lemmas.Bool.Decides.{nat_tests}
 use Rattle.text_dates.specs.SaidLaws.{said_laws}
-use Rattle.text_words.specs.TemplateParts.{variable, resource_limit}
+use Rattle.text_codec.specs.TemplateParts.{variable, resource_limit}
 use Rattle.text_forms.specs.Templates.{other_form}
-use Rattle.text_words.specs.TemplatePartLaws.{variable_laws, resource_limit_laws}
+use Rattle.text_codec.specs.TemplatePartLaws.{variable_laws, resource_limit_laws}
 use Rattle.text_forms.specs.TemplateLaws.{other_laws}
 use Rattle.script_lines.specs.declared.fields.Beginning.{Beginning}
 use Rattle.script_lines.specs.declared.fields.Beginning.TheVariants.{Now, At}

@@ -10,7 +10,7 @@ use Rattle.text_codec.specs.Integers.{integer}
 use Rattle.text_codec.specs.Sums.{Spelled, alone, fielded, arm_alone, arm_fields, sum_of}
 use Rattle.text_dates.specs.declared.said.Said.{Said}
 use Rattle.text_dates.specs.Said.{said}
-use Rattle.text_words.specs.TemplateParts.{variable, resource_limit}
+use Rattle.text_codec.specs.TemplateParts.{variable, resource_limit}
 use Rattle.text_forms.specs.Templates.{other_form}
 use Rattle.script_lines.specs.declared.fields.Beginning.{Beginning}
 use Rattle.script_lines.specs.declared.fields.Beginning.TheVariants.{Now, At}

@@ -1,5 +1,5 @@
 //! Templates that are made field by field.
-ghost use Rattle.std.specs.Prelude.{◌≡◌, ◌++◌, ◌∷◌, [], IfOk, IsOk, OnOk};
+ghost use Rattle.std.specs.Prelude.{◌≡◌, IfOk, IsOk, OnOk};
 ghost use Rattle.script_lines.specs.Templates as templates;
 
 use crate::{Beginning, JobField, ReservationField};
@@ -64,24 +64,6 @@ pub fn new_reservation(alloc: Global) -> ReservationTemplate
     }
 }
 
-/// A list with one item more.
-pub fn with_last<T: Drop>(list: ListOf<T>, item: T) -> Result<ListOf<T>, AllocError>
-    ensures { IfOk result (λ longer. longer ≡ list ++ item ∷ []) }
-{
-    let mut items = list.into_vec();
-    items.push(item)?;
-    Ok(ListOf::from_vec(items))
-}
-
-/// Adds an item at the end of a list. After an `Err` the list may be empty.
-fn push_last<T: Drop>(alloc: Global, list: &mut ListOf<T>, item: T) -> Result<(), AllocError>
-    ensures { OnOk result (list.new ≡ list.old ++ item ∷ []) }
-{
-    let items = std::mem::replace(list, ListOf::new(alloc));
-    *list = with_last(items, item)?;
-    Ok(())
-}
-
 /// Whether what a line sets is set already. What may stand any number of times is never set.
 pub fn is_set(draft: &Draft, field: &JobField) -> bool
     ensures { result ≡ templates.is_set draft.now field.now }
@@ -119,16 +101,16 @@ fn changed<T: Drop>(value: T, done: Result<(), AllocError>) -> Result<T, AllocEr
 }
 
 /// What is made of a template by one line more.
-pub fn with_field(alloc: Global, draft: Draft, field: JobField) -> Result<Draft, AllocError>
+pub fn with_field(draft: Draft, field: JobField) -> Result<Draft, AllocError>
     ensures { IfOk result (λ d. d ≡ templates.with_field draft field) }
 {
     let mut draft = draft;
-    let done = set_field(alloc, &mut draft, field);
+    let done = set_field(&mut draft, field);
     changed(draft, done)
 }
 
 /// Sets what one line more says.
-fn set_field(alloc: Global, draft: &mut Draft, field: JobField) -> Result<(), AllocError>
+fn set_field(draft: &mut Draft, field: JobField) -> Result<(), AllocError>
     ensures { OnOk result (draft.new ≡ templates.with_field draft.old field) }
 {
     let template = &mut draft.template;
@@ -137,10 +119,10 @@ fn set_field(alloc: Global, draft: &mut Draft, field: JobField) -> Result<(), Al
             draft.has_command = true;
             template.remote_command = text;
         }
-        JobField::Arg(text) => push_last(alloc, &mut template.args, text)?,
+        JobField::Arg(text) => template.args.push(text)?,
         JobField::Hold => template.submit_as_hold = true,
         JobField::Rerunnable => template.rerunnable = true,
-        JobField::Env(variable) => push_last(alloc, &mut template.job_environment, variable)?,
+        JobField::Env(variable) => template.job_environment.push(variable)?,
         JobField::Directory(text) => template.working_directory = Some(text),
         JobField::Name(text) => template.job_name = Some(text),
         JobField::Input(text) => template.input_path = Some(text),
@@ -153,8 +135,8 @@ fn set_field(alloc: Global, draft: &mut Draft, field: JobField) -> Result<(), Al
         JobField::Priority(priority) => template.priority = Some(priority),
         JobField::Start(said) => template.start_time = Some(said.moment),
         JobField::Deadline(said) => template.deadline_time = Some(said.moment),
-        JobField::Limit(limit) => push_last(alloc, &mut template.resource_limits, limit)?,
-        JobField::Other(attribute) => push_last(alloc, &mut template.others, attribute)?,
+        JobField::Limit(limit) => template.resource_limits.push(limit)?,
+        JobField::Other(attribute) => template.others.push(attribute)?,
     }
     Ok(())
 }
@@ -186,20 +168,18 @@ fn start_of(beginning: Beginning) -> Start
 
 /// What is made of a reservation's template by one line more.
 pub fn with_reservation_field(
-    alloc: Global,
     template: ReservationTemplate,
     field: ReservationField,
 ) -> Result<ReservationTemplate, AllocError>
     ensures { IfOk result (λ t. t ≡ templates.with_reservation_field template field) }
 {
     let mut template = template;
-    let done = set_reservation_field(alloc, &mut template, field);
+    let done = set_reservation_field(&mut template, field);
     changed(template, done)
 }
 
 /// Sets what one line more says.
 fn set_reservation_field(
-    alloc: Global,
     template: &mut ReservationTemplate,
     field: ReservationField,
 ) -> Result<(), AllocError>
@@ -212,7 +192,7 @@ fn set_reservation_field(
         ReservationField::Duration(seconds) => template.duration = Some(seconds),
         ReservationField::MinSlots(slots) => template.min_slots = Some(slots),
         ReservationField::MaxSlots(slots) => template.max_slots = Some(slots),
-        ReservationField::Other(attribute) => push_last(alloc, &mut template.others, attribute)?,
+        ReservationField::Other(attribute) => template.others.push(attribute)?,
     }
     Ok(())
 }

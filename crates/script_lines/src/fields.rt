@@ -16,7 +16,7 @@ use job_template::{Pair, ResourceLimit};
 use std::alloc::Global;
 use text_codec::{Cursor, Form, Unread};
 use text_dates::Said;
-use text_forms::{ReadForm, read_other};
+use text_forms::read_other;
 
 /// When a reservation is to start.
 #[derive(Clone, Copy, Debug, PartialEq, Eq)]
@@ -221,7 +221,7 @@ fn reservation_word_of(word: &[u8]) -> Option<ReservationFieldWord>
 
 /// Reads a part of a template behind a space, and no more.
 #[tactic(auto, unfolding(text_codec::specs::Fields::always, text_codec::specs::Fields::no_more))]
-fn part_behind<A: ReadForm>(cursor: &mut Cursor) -> Result<(A, ()), Unread>
+fn part_behind<A: Form>(cursor: &mut Cursor) -> Result<(A, ()), Unread>
     ensures { Answers (always (codes " ") A.form no_more).body.read cursor.old result cursor.new }
 {
     cursor.expect(b" ")?;

@@ -42,7 +42,7 @@ fn sought_behind(cursor: &mut Cursor) -> Result<Sought, Unread>
 fn standing_behind(cursor: &mut Cursor) -> Result<Standing, Unread>
     ensures { Answers shapes.standing_fields.body.read cursor.old result cursor.new }
 {
-    let state = text_words::read_set(cursor, b" state=")?;
+    let state = read_set(cursor, b" state=")?;
     let slots = read_set(cursor, b" slots=")?;
     let queue = read_set(cursor, b" queue=")?;
     let sought = sought_behind(cursor)?;

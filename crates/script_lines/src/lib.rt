@@ -19,8 +19,7 @@ mod words;
 
 pub use apart::Apart;
 pub use draft::{
-    Draft, is_reservation_set, is_set, new_reservation, with_field, with_last,
-    with_reservation_field,
+    Draft, is_reservation_set, is_set, new_reservation, with_field, with_reservation_field,
 };
 pub use fields::{
     Beginning, JOB_FIELD_WORDS, JobField, JobFieldWord, RESERVATION_FIELD_WORDS, ReservationField,

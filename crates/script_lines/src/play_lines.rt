@@ -9,8 +9,7 @@ use crate::Line;
 use crate::shapes::item;
 use crate::word_groups::{EndedWord, SignalledWord};
 use drmaa_types::SignalKind;
-use text_codec::{Cursor, Unread};
-use text_words::ReadForm;
+use text_codec::{Cursor, Form, Unread};
 
 /// Reads a moment.
 #[tactic(auto, unfolding(crate::specs::Shapes::said_fields, text_codec::specs::Fields::always, text_codec::specs::Fields::no_more))]

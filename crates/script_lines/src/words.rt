@@ -168,12 +168,87 @@ pub fn spell_line_word(word: LineWord) -> &'static str
     }
 }
 
-/// The word that is spelled so.
-pub fn line_word_of(word: &[u8]) -> Option<LineWord>
-    ensures { result ≡ first_spelled words.line_word LINE_WORDS word.now }
+/// A few of all words, among which each word of so many bytes is found as it is among all.
+fn words_of_size(size: usize) -> &'static [LineWord]
+    ensures { words.HasAllOfSize size result.now }
 {
-    LINE_WORDS
+    match size {
+        0..=3 => &[LineWord::Run, LineWord::At],
+        4 => &[
+            LineWord::Bulk,
+            LineWord::Jobs,
+            LineWord::Hold,
+            LineWord::Reap,
+            LineWord::Info,
+            LineWord::Exit,
+        ],
+        5 => &[LineWord::Close, LineWord::Array, LineWord::State],
+        6 => &[
+            LineWord::Resume,
+            LineWord::Cancel,
+            LineWord::Queues,
+            LineWord::Launch,
+            LineWord::Signal,
+        ],
+        7 => &[
+            LineWord::Monitor,
+            LineWord::Suspend,
+            LineWord::Release,
+            LineWord::Reserve,
+            LineWord::Started,
+        ],
+        8 => &[LineWord::AllJobs, LineWord::Machines, LineWord::Register],
+        9..=10 => &[
+            LineWord::OpenJobs,
+            LineWord::NamesJobs,
+            LineWord::Terminate,
+            LineWord::HoldArray,
+            LineWord::ReapArray,
+        ],
+        11 => &[
+            LineWord::CreateJobs,
+            LineWord::Reservation,
+            LineWord::ExitSignal,
+            LineWord::SignalDone,
+        ],
+        12 => &[
+            LineWord::DestroyJobs,
+            LineWord::ResumeArray,
+            LineWord::WaitStarted,
+            LineWord::Reservations,
+            LineWord::StartFailed,
+            LineWord::ExitUnknown,
+        ],
+        13..=15 => &[
+            LineWord::SuspendArray,
+            LineWord::ReleaseArray,
+            LineWord::TerminateArray,
+            LineWord::WaitTerminated,
+            LineWord::SignalFailed,
+        ],
+        _ => &[
+            LineWord::CreateReservations,
+            LineWord::OpenReservations,
+            LineWord::DestroyReservations,
+            LineWord::NamesReservations,
+            LineWord::AllReservations,
+        ],
+    }
+}
+
+/// The first of these words that is spelled so.
+fn first_among(among: &[LineWord], word: &[u8]) -> Option<LineWord>
+    ensures { result ≡ first_spelled words.line_word among.now word.now }
+{
+    among
         .iter()
         .copied()
         .find(|line| spell_line_word(*line).as_bytes() == word)
+}
+
+/// The word that is spelled so. Only words of about its size are compared with it.
+pub fn line_word_of(word: &[u8]) -> Option<LineWord>
+    ensures { result ≡ first_spelled words.line_word LINE_WORDS word.now }
+{
+    first_among(words_of_size(word.len()), word)
 }

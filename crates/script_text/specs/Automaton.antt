@@ -7,7 +7,7 @@ use Rattle.job_template.specs.declared.templates.ReservationTemplate.{Reservatio
 use Rattle.text_codec.specs.Formats.{◌>>=◌, choose, strip}
 use Rattle.text_codec.specs.Formats as form
 use Rattle.text_codec.specs.Words.{name}
-use Rattle.text_words.specs.Queues.{queue}
+use Rattle.text_codec.specs.Queues.{queue}
 use Rattle.text_lines.specs.Automata.{Stepping}
 use Rattle.script_lines.specs.declared.lines.Line.{Line}
 use Rattle.script_lines.specs.declared.fields.JobField.{JobField}

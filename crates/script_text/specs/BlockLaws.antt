@@ -14,8 +14,8 @@ use Rattle.text_codec.specs.Words.{name}
 use Rattle.text_codec.specs.WordLaws.{name_laws}
 use Rattle.text_codec.specs.StepLaws.{both, by_test, bind, chosen, strip_found}
 use Rattle.text_codec.specs.FormatLaws as whole
-use Rattle.text_words.specs.Queues.{queue}
-use Rattle.text_words.specs.QueueLaws.{queue_laws}
+use Rattle.text_codec.specs.Queues.{queue}
+use Rattle.text_codec.specs.QueueLaws.{queue_laws}
 use Rattle.script_lines.specs.declared.lines.Line.{Line}
 use Rattle.script_lines.specs.declared.fields.JobField.{JobField}
 use Rattle.script_lines.specs.declared.fields.ReservationField.{ReservationField}

@@ -5,7 +5,7 @@ use Rattle.drmaa_types.specs.declared.queues.QueueSpec.{QueueSpec}
 use Rattle.drmaa_model.specs.declared.configs.Config.{Config}
 use Rattle.text_codec.specs.Formats.{Format, behind, number, pair, one_of, checked}
 use Rattle.text_codec.specs.Quotes.{text}
-use Rattle.text_words.specs.Queues.{queue}
+use Rattle.text_codec.specs.Queues.{queue}
 use Rattle.script_text.specs.declared.header.TheConstants.{SUSPENDS}
 
 -- whether jobs can be suspended

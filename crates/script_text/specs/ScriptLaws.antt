@@ -12,7 +12,7 @@ use Rattle.text_codec.specs.Quotes.{text}
 use Rattle.text_codec.specs.Fields.{always, no_more}
 use Rattle.text_codec.specs.Sums.{sum_of}
 use Rattle.text_codec.specs.StepLaws.{by_test}
-use Rattle.text_words.specs.Queues.{queue}
+use Rattle.text_codec.specs.Queues.{queue}
 use Rattle.text_lines.specs.Lines.{kept, GoesOn}
 use Rattle.text_lines.specs.Automata.{Runs, Reads, GoesBy, from, runs-append}
 use Rattle.script_lines.specs.declared.lines.Line.{Line}

@@ -6,7 +6,7 @@ use Rattle.drmaa_types.specs.Queues.{are_queues}
 use Rattle.job_template.specs.declared.templates.JobTemplate.{JobTemplate}
 use Rattle.job_template.specs.declared.templates.ReservationTemplate.{ReservationTemplate}
 use Rattle.text_codec.specs.Words.{name}
-use Rattle.text_words.specs.Queues.{queue}
+use Rattle.text_codec.specs.Queues.{queue}
 use Rattle.script_lines.specs.declared.lines.Line.{Line}
 use Rattle.script_lines.specs.declared.fields.JobField.{JobField}
 use Rattle.script_lines.specs.declared.fields.ReservationField.{ReservationField}

@@ -9,8 +9,7 @@ ghost use Rattle.script_text.specs.declared.header.TheConstants.{SUSPENDS};
 use drmaa_model::Config;
 use drmaa_types::{ListOf, QueueSpec, Text};
 use std::alloc::Global;
-use text_codec::{Cursor, Unread};
-use text_words::ReadForm;
+use text_codec::{Cursor, Form, Unread};
 
 /// Slots, a name, and whether jobs can be suspended.
 pub(crate) type Machine = (u32, (Text, bool));

@@ -17,8 +17,7 @@ use drmaa_types::{Boxed, ListOf, QueueSpec, Shared, are_queues};
 use job_template::{JobTemplate, ReservationTemplate};
 use script_lines::{
     Draft, JobField, Line, Name, ReservationField, is_reservation_set, is_set, new_reservation,
-    read_job_field, read_line, read_reservation_field, with_field, with_last,
-    with_reservation_field,
+    read_job_field, read_line, read_reservation_field, with_field, with_reservation_field,
 };
 use std::alloc::{AllocError, Global};
 use std::marker::Model;
@@ -114,12 +113,8 @@ fn with_queue(
     ensures { Says (Some (scripts.with_queue script queue)) result }
 {
     let mut script = script.into_inner();
-    let queues = std::mem::replace(&mut script.config.queues, ListOf::new(alloc));
-    match with_last(queues, queue) {
-        Ok(queues) => {
-            script.config.queues = queues;
-            Ok(Boxed::new(alloc, script)?)
-        }
+    match script.config.queues.push(queue) {
+        Ok(()) => Ok(Boxed::new(alloc, script)?),
         Err(fault) => {
             drop(script);
             Err(fault.into())
@@ -322,7 +317,7 @@ fn draft_with(
 ) -> Result<Boxed<Draft>, AllocError>
     ensures { IfOk result (λ d. d ≡ with_field draft field) }
 {
-    let draft = with_field(alloc, draft.into_inner(), field)?;
+    let draft = with_field(draft.into_inner(), field)?;
     Boxed::new(alloc, draft)
 }
 
@@ -415,7 +410,7 @@ fn reservation_with(
 ) -> Result<Boxed<ReservationTemplate>, AllocError>
     ensures { IfOk result (λ t. t ≡ with_reservation_field template field) }
 {
-    let template = with_reservation_field(alloc, template.into_inner(), field)?;
+    let template = with_reservation_field(template.into_inner(), field)?;
     Boxed::new(alloc, template)
 }
 
@@ -505,12 +500,8 @@ fn with_block(
         script.setup = Some(block);
         return Ok(Boxed::new(alloc, script)?);
     }
-    let clients = std::mem::replace(&mut script.clients, ListOf::new(alloc));
-    match with_last(clients, block) {
-        Ok(clients) => {
-            script.clients = clients;
-            Ok(Boxed::new(alloc, script)?)
-        }
+    match script.clients.push(block) {
+        Ok(()) => Ok(Boxed::new(alloc, script)?),
         Err(fault) => {
             drop(script);
             Err(fault.into())

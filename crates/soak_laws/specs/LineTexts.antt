@@ -13,7 +13,7 @@ use Rattle.text_codec.specs.StepLaws.{by_test}
 use Rattle.text_codec.specs.Words.{capitals, name}
 use Rattle.text_dates.specs.declared.said.Said.{Said}
 use Rattle.text_dates.specs.Said.{said}
-use Rattle.text_words.specs.TemplateParts.{resource_limit}
+use Rattle.text_codec.specs.TemplateParts.{resource_limit}
 use Rattle.script_lines.specs.declared.fields.Beginning.TheVariants.{At}
 use Rattle.script_lines.specs.declared.fields.JobField.{JobField}
 use Rattle.script_lines.specs.declared.fields.JobField.TheVariants as job

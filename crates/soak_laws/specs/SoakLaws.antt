@@ -17,7 +17,7 @@ use Rattle.text_dates.specs.Said.{said}
 use Rattle.text_lines.specs.LineLaws.{ended_text}
 use Rattle.text_lines.specs.Lines.{IsTextOf}
 use Rattle.text_lines.specs.Skipping.{SpellsKept}
-use Rattle.text_words.specs.TemplateParts.{resource_limit}
+use Rattle.text_codec.specs.TemplateParts.{resource_limit}
 use Rattle.script_lines.specs.Shapes.{said_fields, text_fields}
 use Rattle.script_lines.specs.TemplateFields.{beginning, beginning_fields, count_fields, duration_fields, integer_fields, limit_fields}
 use Rattle.script_lines.specs.Templates.{IsJobField, IsReservationField}

@@ -19,3 +19,15 @@ pub mod WordLaws
 pub mod IntegerLaws
 pub mod ExactLaws
 pub mod SumLaws
+pub mod ValueWords
+pub mod ValueWordLaws
+pub mod CallWords
+pub mod CallWordLaws
+pub mod Numbers
+pub mod NumberLaws
+pub mod TemplateParts
+pub mod TemplatePartLaws
+pub mod Queues
+pub mod QueueLaws
+pub mod Infos
+pub mod InfoLaws

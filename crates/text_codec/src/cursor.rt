@@ -148,7 +148,7 @@ fn text_split(alloc: Global, bytes: &[u8]) -> Result<Option<(Text, &[u8])>, Allo
 }
 
 /// Adds an item at the end.
-pub(crate) fn push_last<T: Drop>(items: &mut Vec<T>, item: T) -> Result<(), AllocError>
+pub fn push_last<T: Drop>(items: &mut Vec<T>, item: T) -> Result<(), AllocError>
     ensures { OnOk result (items.new.items ≡ items.old.items ++ item ∷ []) }
 {
     items.push(item)?;

@@ -1,8 +1,9 @@
 //! Whole numbers: read and printed.
-ghost use Rattle.std.specs.Prelude.{◌≡◌, ◌++◌, ◌^◌, ℕ, List, OnOk, nat_le, Option, Some, None, if◌then◌else◌};
+ghost use Rattle.std.specs.Prelude.{◌≡◌, ◌++◌, ◌^◌, ℕ, List, IfErr, OnOk, nat_le, Option, Some, None, if◌then◌else◌};
 ghost use Rattle.text_codec.specs.Integers as integers;
 ghost use Rattle.text_codec.specs.IntegerLaws as laws;
 ghost use Rattle.text_codec.specs.Formats.{Answers};
+ghost use Rattle.text_codec.specs.declared.unread.Unread.{Unread};
 
 use crate::cursor::{behind_key, number_of};
 use crate::printing::push_number;
@@ -36,7 +37,10 @@ impl Form for i32 {
     ghost laws = { laws.integer_laws_32 };
 
     #[tactic(auto, unfolding(crate::specs::Integers::integer))]
-    fn read(cursor: &mut Cursor) -> Result<i32, Unread> {
+    fn read(cursor: &mut Cursor) -> Result<i32, Unread>
+        ensures reads { Answers (integers.integer (2 ^ 31)).read cursor.old result cursor.new }
+        ensures memory { IfErr result (λ e. e ≡ Unread.Unspelled) }
+    {
         match integer_of(cursor.word()) {
             Some(n) => Ok(n),
             None => Err(Unread::Unspelled),

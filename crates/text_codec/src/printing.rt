@@ -32,6 +32,15 @@ pub fn push_each<T: Print>(out: &mut Vec<u8>, key: &[u8], values: &[T]) -> Resul
     Ok(())
 }
 
+/// Prints a value behind a key.
+pub fn push_behind<T: Print>(out: &mut Vec<u8>, key: &[u8], value: &T) -> Result<(), AllocError>
+    ensures text { OnOk result (out.new.items ≡ out.old.items ++ (key.now ++ T.form.spell value.now)) }
+    ensures valid { OnOk result (T.form.valid value.now) }
+{
+    out.extend_from_slice(key)?;
+    value.push(out)
+}
+
 /// Prints a value behind a key, where there is one.
 pub fn push_set<T: Print>(
     out: &mut Vec<u8>,

@@ -1,11 +1,14 @@
 //! A text in its quotes: read and printed.
-ghost use Rattle.std.specs.Prelude.{◌≡◌, ℕ, List, ◌∷◌, ◌++◌, ◌<◌, IfOk, IfSome, IsSome, IsSomeAnd, IsUtf8, OnOk};
+ghost use Rattle.std.specs.Prelude.{◌≡◌, ℕ, List, ◌∷◌, ◌++◌, ◌<◌, IfOk, IfSome, IsSome, IsSomeAnd, IsUtf8, OnOk, string_bytes};
 ghost use Rattle.std.specs.List.{flat_map};
 ghost use Rattle.text_codec.specs.Lexical.{escaped, quoted, hex_digit};
 
 use crate::escapes::{after, is_control_byte, unit_at};
 use drmaa_types::Text;
 use std::alloc::{AllocError, Global};
+
+/// Room for a text of usual length in its quotes, in bytes.
+const ROOM: usize = 32;
 
 /// The bytes that are spelled up to the closing quote, and what follows it.
 fn units(alloc: Global, bytes: &[u8]) -> Result<Option<(Vec<u8>, &[u8])>, AllocError>
@@ -101,4 +104,20 @@ pub(crate) fn push_quoted(out: &mut Vec<u8>, text: &Text) -> Result<(), AllocErr
     out.extend_from_slice(b"\"")?;
     push_units(out, bytes)?;
     out.extend_from_slice(b"\"")
+}
+
+/// A text in its quotes.
+///
+/// # Errors
+///
+/// Want of memory.
+pub fn quoted(alloc: Global, text: &Text) -> Result<String, AllocError>
+    ensures { IfOk result (λ word. string_bytes word ≡ quoted text.now) }
+{
+    let mut out = Vec::with_capacity(alloc, ROOM)?;
+    push_quoted(&mut out, text)?;
+    let Ok(word) = String::from_utf8(out) else {
+        unreachable!();
+    };
+    Ok(word)
 }

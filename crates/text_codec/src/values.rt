@@ -1,8 +1,10 @@
 //! The forms of numbers, moments and texts.
-ghost use Rattle.std.specs.Prelude.{◌≡◌, ◌++◌, ◌^◌, ℕ, List, OnOk};
+ghost use Rattle.std.specs.Prelude.{◌≡◌, ◌++◌, ◌^◌, ℕ, List, IfErr, OnOk};
+ghost use Rattle.text_codec.specs.Formats.{Answers};
 ghost use Rattle.text_codec.specs.Formats as form;
 ghost use Rattle.text_codec.specs.Quotes as quotes;
 ghost use Rattle.text_codec.specs.BaseLaws as laws;
+ghost use Rattle.text_codec.specs.declared.unread.Unread.{Unread};
 
 use crate::printing::push_number;
 use crate::quotes::push_quoted;
@@ -34,7 +36,10 @@ impl Form for Moment {
 
     ghost laws = { laws.moment_laws };
 
-    fn read(cursor: &mut Cursor) -> Result<Moment, Unread> {
+    fn read(cursor: &mut Cursor) -> Result<Moment, Unread>
+        ensures reads { Answers form.moment.read cursor.old result cursor.new }
+        ensures memory { IfErr result (λ e. e ≡ Unread.Unspelled) }
+    {
         cursor.moment()
     }
 }
@@ -54,7 +59,10 @@ impl Form for u64 {
 
     ghost laws = { laws.number_laws_64 };
 
-    fn read(cursor: &mut Cursor) -> Result<u64, Unread> {
+    fn read(cursor: &mut Cursor) -> Result<u64, Unread>
+        ensures reads { Answers (form.number (2 ^ 64)).read cursor.old result cursor.new }
+        ensures memory { IfErr result (λ e. e ≡ Unread.Unspelled) }
+    {
         cursor.u64()
     }
 }
@@ -73,7 +81,10 @@ impl Form for u32 {
 
     ghost laws = { laws.number_laws_32 };
 
-    fn read(cursor: &mut Cursor) -> Result<u32, Unread> {
+    fn read(cursor: &mut Cursor) -> Result<u32, Unread>
+        ensures reads { Answers (form.number (2 ^ 32)).read cursor.old result cursor.new }
+        ensures memory { IfErr result (λ e. e ≡ Unread.Unspelled) }
+    {
         cursor.u32()
     }
 }
@@ -92,7 +103,10 @@ impl Form for u8 {
 
     ghost laws = { laws.number_laws_8 };
 
-    fn read(cursor: &mut Cursor) -> Result<u8, Unread> {
+    fn read(cursor: &mut Cursor) -> Result<u8, Unread>
+        ensures reads { Answers (form.number (2 ^ 8)).read cursor.old result cursor.new }
+        ensures memory { IfErr result (λ e. e ≡ Unread.Unspelled) }
+    {
         cursor.u8()
     }
 }

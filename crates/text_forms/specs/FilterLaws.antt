@@ -5,10 +5,10 @@ use Rattle.text_codec.specs.Fields.{AreFields, field, no_more}
 use Rattle.text_codec.specs.FieldLaws.{no_more_laws, field_laws}
 use Rattle.text_codec.specs.BaseLaws.{text_laws, moment_laws, number_laws_64, number_laws_32, number_laws_8}
 use Rattle.text_codec.specs.Quotes.{text}
-use Rattle.text_words.specs.Numbers.{job_id}
-use Rattle.text_words.specs.NumberLaws.{job_id_laws}
-use Rattle.text_words.specs.Words.{state_form}
-use Rattle.text_words.specs.WordLaws.{state_laws}
+use Rattle.text_codec.specs.Numbers.{job_id}
+use Rattle.text_codec.specs.NumberLaws.{job_id_laws}
+use Rattle.text_codec.specs.ValueWords.{state_form}
+use Rattle.text_codec.specs.ValueWordLaws.{state_laws}
 use Rattle.text_forms.specs.Filters.{sought_fields, filter_fields}
 
 pub sought_laws : AreFields sought_fields

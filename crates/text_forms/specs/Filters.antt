@@ -6,8 +6,8 @@ use Rattle.drmaa_types.specs.declared.filters.JobFilter.{JobFilter}
 use Rattle.text_codec.specs.Formats.{number, moment}
 use Rattle.text_codec.specs.Fields.{Fields, field, no_more}
 use Rattle.text_codec.specs.Quotes.{text}
-use Rattle.text_words.specs.Numbers.{job_id}
-use Rattle.text_words.specs.Words.{state_form}
+use Rattle.text_codec.specs.Numbers.{job_id}
+use Rattle.text_codec.specs.ValueWords.{state_form}
 
 -- the items of a filter, in two groups, the last one first
 abbrev pub Sought : Type 0

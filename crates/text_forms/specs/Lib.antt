@@ -1,13 +1,3 @@
-pub use Rattle.text_words.specs.Words
-pub use Rattle.text_words.specs.WordLaws
-pub use Rattle.text_words.specs.CallWords
-pub use Rattle.text_words.specs.CallWordLaws
-pub use Rattle.text_words.specs.Numbers
-pub use Rattle.text_words.specs.NumberLaws
-pub use Rattle.text_words.specs.TemplateParts
-pub use Rattle.text_words.specs.TemplatePartLaws
-pub use Rattle.text_words.specs.Infos
-pub use Rattle.text_words.specs.InfoLaws
 pub mod Refusals
 pub mod RefusalLaws
 pub mod Templates

@@ -10,8 +10,8 @@ use Rattle.text_codec.specs.SumLaws.{alone_found, keyed_found, alone_stands, key
 use Rattle.text_forms.specs.declared.refusals.RefusalWord.{RefusalWord}
 use Rattle.text_forms.specs.declared.refusals.RefusalWord.TheVariants as why
 use Rattle.text_forms.specs.declared.refusals.TheConstants.{REFUSAL_WORDS}
-use Rattle.text_words.specs.Words.{which_form, state_form, limit_form, attribute_form}
-use Rattle.text_words.specs.WordLaws.{which_laws, state_laws, limit_laws, attribute_laws}
+use Rattle.text_codec.specs.ValueWords.{which_form, state_form, limit_form, attribute_form}
+use Rattle.text_codec.specs.ValueWordLaws.{which_laws, state_laws, limit_laws, attribute_laws}
 use Rattle.text_forms.specs.Refusals.{refusal_word, overfull, refusal_form, refusal_arms, refusal_sum, refusals}
 
 -- each number of a refusal stands in the table, and is no other's

@@ -8,7 +8,7 @@ use Rattle.text_codec.specs.Sums.{Spelled, alone, keyed, arm_alone, arm, sum_of}
 use Rattle.text_forms.specs.declared.refusals.RefusalWord.{RefusalWord}
 use Rattle.text_forms.specs.declared.refusals.RefusalWord.TheVariants as why
 use Rattle.text_forms.specs.declared.refusals.TheConstants.{REFUSAL_WORDS}
-use Rattle.text_words.specs.Words.{which_form, state_form, limit_form, attribute_form, is_told}
+use Rattle.text_codec.specs.ValueWords.{which_form, state_form, limit_form, attribute_form, is_told}
 
 -- a refusal is spelled as its number
 abbrev pub refusal_word : RefusalWord → List ℕ

@@ -11,12 +11,12 @@ use Rattle.text_codec.specs.BaseLaws.{text_laws, moment_laws, number_laws_64, nu
 use Rattle.text_codec.specs.Integers.{integer}
 use Rattle.text_codec.specs.IntegerLaws.{integer_laws_32}
 use Rattle.text_codec.specs.Quotes.{text}
-use Rattle.text_words.specs.Numbers.{reservation_id}
-use Rattle.text_words.specs.NumberLaws.{reservation_id_laws}
-use Rattle.text_words.specs.Words.{attribute_form}
-use Rattle.text_words.specs.WordLaws.{attribute_laws}
-use Rattle.text_words.specs.TemplateParts.{variable, resource_limit, start}
-use Rattle.text_words.specs.TemplatePartLaws.{variable_laws, resource_limit_laws, start_laws}
+use Rattle.text_codec.specs.Numbers.{reservation_id}
+use Rattle.text_codec.specs.NumberLaws.{reservation_id_laws}
+use Rattle.text_codec.specs.ValueWords.{attribute_form}
+use Rattle.text_codec.specs.ValueWordLaws.{attribute_laws}
+use Rattle.text_codec.specs.TemplateParts.{variable, resource_limit, start}
+use Rattle.text_codec.specs.TemplatePartLaws.{variable_laws, resource_limit_laws, start_laws}
 use Rattle.text_forms.specs.Templates.{is_other, other_form, late_fields, placed_fields, path_fields, early_fields, late_parts, placed_parts, path_parts, early_parts, make_template, any_template, template, count_fields, frame_fields, frame_parts, make_frame, any_frame, frame}
 
 pub other_laws : IsFormat other_form

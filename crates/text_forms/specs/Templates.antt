@@ -14,9 +14,9 @@ use Rattle.text_codec.specs.Fields.{Fields, field, flag, repeated, no_more, in_b
 use Rattle.text_codec.specs.Braces.{braces}
 use Rattle.text_codec.specs.Integers.{integer}
 use Rattle.text_codec.specs.Quotes.{text}
-use Rattle.text_words.specs.Numbers.{reservation_id}
-use Rattle.text_words.specs.Words.{attribute_form}
-use Rattle.text_words.specs.TemplateParts.{variable, resource_limit, start}
+use Rattle.text_codec.specs.Numbers.{reservation_id}
+use Rattle.text_codec.specs.ValueWords.{attribute_form}
+use Rattle.text_codec.specs.TemplateParts.{variable, resource_limit, start}
 
 -- the attributes that a template has under `other`: all but queueName and the limits
 abbrev pub is_other : Attribute → Bool

@@ -6,8 +6,7 @@ ghost use Rattle.text_forms.specs.Filters as filters;
 
 use drmaa_types::{JobFilter, JobId, JobState, Moment, Text};
 use std::alloc::AllocError;
-use text_codec::{Cursor, Unread};
-use text_words::{push_set, read_set};
+use text_codec::{Cursor, Unread, push_set, read_set};
 
 /// The last items of a filter.
 type Sought = (

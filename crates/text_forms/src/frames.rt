@@ -6,8 +6,7 @@ ghost use Rattle.text_forms.specs.Templates as templates;
 use crate::job_templates::are_others;
 use drmaa_types::{AttributeList, Moment, Text};
 use job_template::{ReservationTemplate, Start};
-use text_codec::{Cursor, Unread};
-use text_words::{read_all, read_set};
+use text_codec::{Cursor, Unread, read_all, read_set};
 
 /// The last fields: how many slots, and attributes that are not supported.
 type Counted = (Option<u32>, (Option<u32>, (AttributeList, ())));

@@ -7,8 +7,7 @@ ghost use Rattle.text_forms.specs.Templates as templates;
 
 use drmaa_types::{Attribute, AttributeList, Moment, ReservationId, Text, TextList};
 use job_template::{JobTemplate, LimitList, PairList};
-use text_codec::{Cursor, Unread};
-use text_words::{ReadForm, read_all, read_set};
+use text_codec::{Cursor, Form, Unread, read_all, read_set};
 
 /// The last fields: priority, start, deadline, limits, and attributes that are not supported.
 type Late = (

@@ -3,14 +3,13 @@ ghost use Rattle.std.specs.Prelude.{◌≡◌, ◌++◌, Some, true, IfErr, OnOk
 ghost use Rattle.text_codec.specs.declared.unread.Unread.{Unread};
 ghost use Rattle.text_forms.specs.declared.refusals.RefusalWord.{RefusalWord};
 ghost use Rattle.text_codec.specs.Formats.{Answers, first_spelled};
-ghost use Rattle.text_words.specs.Words.{limit_form, is_told};
+ghost use Rattle.text_codec.specs.ValueWords.{limit_form, is_told};
 ghost use Rattle.text_forms.specs.Refusals as refusals;
 ghost use Rattle.text_forms.specs.declared.refusals.RefusalWord.TheVariants as why;
 
 use drmaa_types::{Attribute, JobState, Limit, Moment, Refusal, Which};
 use std::alloc::AllocError;
-use text_codec::{Cursor, Unread};
-use text_words::{PrintForm, ReadForm, spell_limit};
+use text_codec::{Cursor, Form, Print, Unread, spell_limit};
 
 /// The refusals that stand in journals.
 #[derive(Clone, Copy, Debug, PartialEq, Eq)]
@@ -158,7 +157,7 @@ fn push_overfull(out: &mut Vec<u8>, at: Option<Moment>) -> Result<(), AllocError
 }
 
 /// Prints the name of a limit.
-#[tactic(auto, unfolding(text_words::specs::Words::limit_form), using(text_words::specs::WordLaws::limit_stands))]
+#[tactic(auto, unfolding(text_codec::specs::ValueWords::limit_form), using(text_codec::specs::ValueWordLaws::limit_stands))]
 fn push_limit(out: &mut Vec<u8>, limit: Limit) -> Result<(), AllocError>
     ensures text { OnOk result (out.new.items ≡ out.old.items ++ limit_form.spell limit) }
     ensures valid { is_told limit ≡ true → OnOk result (limit_form.valid limit) }

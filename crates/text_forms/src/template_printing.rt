@@ -6,13 +6,14 @@ ghost use Rattle.drmaa_model.specs.KeptCalls.{kept_limit, kept_template, is_word
 ghost use Rattle.text_codec.specs.Formats.{spell_each};
 ghost use Rattle.text_codec.specs.Words.{capitals};
 ghost use Rattle.text_forms.specs.Templates as templates;
-ghost use Rattle.text_words.specs.TemplateParts.{resource_limit};
+ghost use Rattle.text_codec.specs.TemplateParts.{resource_limit};
 
 use drmaa_types::Text;
 use job_template::{JobTemplate, ReservationTemplate, ResourceLimit};
 use std::alloc::AllocError;
-use text_codec::{is_capitals, push_braces, push_mark, push_number, push_word};
-use text_words::{PrintForm, push_each, push_set};
+use text_codec::{
+    Print, is_capitals, push_braces, push_each, push_mark, push_number, push_set, push_word,
+};
 
 /// Prints a limit's name, or `OTHER`.
 #[tactic(auto, unfolding(text_codec::specs::Words::capitals))]
@@ -28,7 +29,7 @@ fn push_limit_name(out: &mut Vec<u8>, limit: &ResourceLimit) -> Result<(), Alloc
 }
 
 /// Prints a limit.
-#[tactic(auto, unfolding(text_words::specs::TemplateParts::resource_limit, text_codec::specs::Formats::mapped, text_codec::specs::Formats::pair, text_codec::specs::Formats::number))]
+#[tactic(auto, unfolding(text_codec::specs::TemplateParts::resource_limit, text_codec::specs::Formats::mapped, text_codec::specs::Formats::pair, text_codec::specs::Formats::number))]
 fn push_limit(out: &mut Vec<u8>, limit: &ResourceLimit) -> Result<(), AllocError>
     ensures text { OnOk result (out.new.items ≡ out.old.items ++ resource_limit.spell (kept_limit limit.now)) }
     ensures valid { OnOk result (resource_limit.valid (kept_limit limit.now)) }

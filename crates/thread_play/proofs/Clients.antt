@@ -1,7 +1,8 @@
 -- Clients that are hired, play their blocks, and come back.
 use Rattle.std.proofs.Common.{◌≡◌, ℕ, zero, suc, ◌+◌, ◌<◌, ◌⊎◌, inl, inr, ⊎_elim, List, [], ◌∷◌, ◌++◌, map, set, replicate, length, slice_index_or, refl, sym, ap, ◌∙◌, subst, append_assoc, append-nil, length-append, arith, Option, Some, None}
 use Rattle.std.specs.Prelude.{All, Result, Ok, Err}
-use Rattle.std.proofs.lemmas.List.Elements.{All-nil}
+use Rattle.std.proofs.lemmas.List.{length-replicate}
+use Rattle.std.proofs.lemmas.List.Elements.{All-nil, All-tail}
 use Rattle.drmaa_types.specs.Readings.{Readings}
 use Rattle.drmaa_model.specs.declared.configs.Config.{Config}
 use Rattle.drmaa_model.specs.declared.entries.Entry.{Entry}
@@ -14,7 +15,7 @@ use Rattle.block_play.specs.declared.stops.Stopped.{Stopped}
 use Rattle.block_play.specs.declared.stops.Stopped.TheVariants as stopped
 use Rattle.thread_play.specs.declared.workers.Worker.{Worker}
 use Rattle.thread_play.specs.Stages.{IsHired, Hired, Dismissed, worse, worst, with_back}
-use Rattle.thread_play.proofs.Lists.{at-more, replicate-more, length-replicated, all-tail, set-between}
+use Rattle.thread_play.proofs.Lists.{at-more, replicate-more, set-between}
 
 abbrev pub Lists : Type 0
 Lists = List (Option (List Entry))
@@ -40,7 +41,7 @@ module _ {C : Type 0} (given : C → Readings) (shared : Named Config) where
 
   -- how many numbers were given out
   pub hired-count : (o p : Seat) (ws : List (Worker C)) → Hired given shared o p ws → length (retired_of p) ≡ length (retired_of o) + length ws
-  hired-count o p ws h = ap length h.retired ∙ length-append (retired_of o) (replicate (length ws) None) ∙ ap (λ n. length (retired_of o) + n) (length-replicated (length ws) None)
+  hired-count o p ws h = ap length h.retired ∙ length-append (retired_of o) (replicate (length ws) None) ∙ ap (λ n. length (retired_of o) + n) (length-replicate (length ws) None)
 
   pub hired-free : (o p : Seat) (ws : List (Worker C)) → Hired given shared o p ws → All (λ (w : Worker C). IsFree shared w.client) ws
   hired-free o p ws h i d below = (h.each i d below).client.free
@@ -109,7 +110,7 @@ module _ {C : Type 0} (shared : Named Config) where
     launcher = still-told shared old mid new so.launcher free number begins own legal;
     mine = mine ∙ so.mine;
     told = told-more mid new done w begins here so.told;
-    free = all-tail (λ (w : Worker C). IsFree shared w.client) w rest so.free;
+    free = All-tail (λ (w : Worker C). IsFree shared w.client) w rest so.free;
     ended_is = ap (λ (e : Option Stopped). worst e rest) is ∙ so.ended_is;
   }
 

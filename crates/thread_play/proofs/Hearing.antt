@@ -1,38 +1,35 @@
 -- What the hub's callbacks hear of a run.
-use Rattle.std.proofs.Common.{◌≡◌, inl, inr, ℕ, zero, suc, ◌+◌, ◌≤◌, true, false, List, [], ◌∷◌, ◌++◌, take, length, Option, Some, None, refl, sym, ap, ◌∙◌, subst, arith}
+use Rattle.std.proofs.Common.{◌≡◌, inl, inr, ℕ, zero, suc, ◌+◌, ◌≤◌, true, List, [], ◌∷◌, take, length, Option, Some, None, sym, ap, ◌∙◌, subst, arith}
 use Rattle.std.proofs.Common.{get_or}
+use Rattle.std.proofs.Math.Seq.{take-append_seam}
 use Rattle.std.specs.List.{slice_get, AllByRecursion}
 use Rattle.std.proofs.lemmas.Option.{slice_get-get_or}
 use Rattle.child_spawner.specs.declared.fates.Asked.{Asked}
 use Rattle.child_spawner.specs.declared.fates.Fate.{Fate}
 use Rattle.drmaa_types.specs.Readings.{Readings}
-use Rattle.drmaa_model.specs.declared.calls.Call.{Call}
-use Rattle.drmaa_model.specs.declared.calls.Call.TheVariants as call
 use Rattle.drmaa_model.specs.declared.configs.Config.{Config}
 use Rattle.drmaa_model.specs.declared.entries.Entry.{Entry}
 use Rattle.turn_lock.specs.Tokens.{Named}
 use Rattle.call_history.specs.Callers.{calls_of}
-use Rattle.call_history.specs.Clients.{Seat}
-use Rattle.notify_hub.specs.Hubs.{Following, IsNoteOf, MayBe, noted}
+use Rattle.notify_hub.specs.Hubs.{Following, MayBe, noted}
 use Rattle.notify_hub.specs.PlacedLaws.{all-placed}
 use Rattle.notify_hub.specs.Places.{Follows, HasPlace, HavePlaces, changes_of}
 use Rattle.script_lines.specs.declared.lines.Line.{Line}
 use Rattle.script_text.specs.declared.scripts.Script.{Script}
 use Rattle.script_asks.specs.declared.given.Given.{Given}
 use Rattle.script_asks.specs.Plays.{Plays, PlaysPart}
-use Rattle.script_journals.specs.Calls.{is_attendants, is_registers, IsNoRegister}
-use Rattle.thread_play.specs.Hubs.{FollowsAll, HearRun}
+use Rattle.script_journals.specs.Calls.{is_registers, IsNoRegister}
+use Rattle.beside_clients.specs.Passes.{FollowsAll}
+use Rattle.beside_clients.proofs.Callers.{all-of-callers}
+use Rattle.beside_clients.proofs.Outside.{may-note}
+use Rattle.thread_play.specs.Hubs.{HearRun}
 use Rattle.thread_play.specs.Runs.{names_given, launcher_of, reaper_of, HasRun, PlaysUpTo, EndsBy, in_setup, behind_setup}
-use Rattle.thread_play.proofs.Callers.{by-caller, all-of-callers, IsAttendants, launcher-attends, reaper-attends}
+use Rattle.thread_play.proofs.Callers.{by-caller, IsAttendants, launcher-attends, reaper-attends}
 
 -- what a client's block asks, whole or in part, registers nothing
 pub record NoneRegisters (s : Script) : Type 0 where
   pub whole : (names : List (List ℕ × Given)) (before n : ℕ) (block : List Line) (es : List Entry) → slice_get s.clients n ≡ Some block → Plays s names before block es → AllByRecursion IsNoRegister es
   pub part : (names : List (List ℕ × Given)) (before n : ℕ) (block : List Line) (es : List Entry) → slice_get s.clients n ≡ Some block → PlaysPart s names before block es → AllByRecursion IsNoRegister es
-
-take-first : (front back : List Line) → take (length front) (front ++ back) ≡ front
-take-first [] back = refl
-take-first (l ∷ front) back = ap (λ (ls : List Line). l ∷ ls) (take-first front back)
 
 up-to-none : {C : Type 0} (given : C → Readings) (clocks : List C) (s : Script) (names : List (List ℕ × Given)) (n : ℕ) (block : List Line) (caller : ℕ) (history : List Entry) → NoneRegisters s → slice_get s.clients n ≡ Some block
     → PlaysUpTo given clocks s names block caller history → AllByRecursion IsNoRegister (calls_of history caller)
@@ -40,59 +37,16 @@ up-to-none given clocks s names n block caller history none at (inl p) = none.wh
 up-to-none given clocks s names n block caller history none at (inr (size, cut)) =
     none.part names 0 n block (calls_of history caller) at (
       length cut.front,
-      subst (λ (ls : List Line). Plays s names 0 ls (calls_of history caller)) (sym (ap (λ (ls : List Line). take (length cut.front) ls) cut.lines ∙ take-first cut.front (cut.line ∷ cut.back))) cut.played,
+      subst (λ (ls : List Line). Plays s names 0 ls (calls_of history caller)) (sym (ap (λ (ls : List Line). take (length cut.front) ls) cut.lines ∙ take-append_seam cut.front (cut.line ∷ cut.back))) cut.played,
     )
 
 -- the calls of launcher and reaper register nothing
-attendant-none : (c : Call) → is_attendants c ≡ true → is_registers c ≡ false
-attendant-none (call.CreateJobSession name) is = absurd (cc)
-attendant-none (call.CreateReservationSession name) is = absurd (cc)
-attendant-none (call.OpenJobSession name) is = absurd (cc)
-attendant-none (call.OpenReservationSession name) is = absurd (cc)
-attendant-none (call.DestroyJobSession name) is = absurd (cc)
-attendant-none (call.DestroyReservationSession name) is = absurd (cc)
-attendant-none call.JobSessionNames is = absurd (cc)
-attendant-none call.ReservationSessionNames is = absurd (cc)
-attendant-none call.OpenMonitoring is = absurd (cc)
-attendant-none (call.CloseSession session) is = absurd (cc)
-attendant-none (call.RunJob session t) is = absurd (cc)
-attendant-none (call.RunBulk session t indices) is = absurd (cc)
-attendant-none (call.GetJobs session f) is = absurd (cc)
-attendant-none (call.GetJobArray session array) is = absurd (cc)
-attendant-none (call.Control session meant what) is = absurd (cc)
-attendant-none (call.Reap session meant) is = absurd (cc)
-attendant-none (call.GetState session job) is = absurd (cc)
-attendant-none (call.GetInfo session job) is = absurd (cc)
-attendant-none (call.Wait session listed kind begins timeout) is = absurd (cc)
-attendant-none (call.RequestReservation session t) is = absurd (cc)
-attendant-none (call.GetReservation session number) is = absurd (cc)
-attendant-none (call.GetReservations session) is = absurd (cc)
-attendant-none (call.EndReservation session number) is = absurd (cc)
-attendant-none (call.AllJobs session f) is = absurd (cc)
-attendant-none (call.AllReservations session) is = absurd (cc)
-attendant-none (call.AllQueues session) is = absurd (cc)
-attendant-none (call.AllMachines session) is = absurd (cc)
-attendant-none call.Register is = absurd (cc)
-attendant-none call.TakeLaunch is = refl
-attendant-none (call.Started job attempt) is = refl
-attendant-none (call.StartFailed job attempt) is = refl
-attendant-none (call.Exited job attempt exit) is = refl
-attendant-none (call.ExitUnknown job attempt) is = refl
-attendant-none call.TakeSignal is = refl
-attendant-none (call.SignalDone job attempt kind) is = refl
-attendant-none (call.SignalFailed job attempt kind) is = refl
-
 attended-none : (es : List Entry) → AllByRecursion IsAttendants es → AllByRecursion IsNoRegister es
 attended-none [] all = tt
-attended-none (e ∷ es) all = (attendant-none e.call all.0, attended-none es all.1)
+attended-none (e ∷ es) all = (all.0.no_register, attended-none es all.1)
 
 none-none : (es : List Entry) → es ≡ [] → AllByRecursion IsNoRegister es
 none-none es none = subst (AllByRecursion IsNoRegister) (sym none) tt
-
--- a machine's note tells its configuration
-may-note : (shared : Named Config) (note : Option Seat) → IsNoteOf shared note → MayBe shared.fixed note
-may-note shared None own = tt
-may-note shared (Some seat) own = own.fixed_is
 
 module _ {C : Type 0} (given : C → Readings) (s : Script) (history : List Entry) (asked asked2 : Option (List Asked)) (fate : ℕ → Fate) (clocks : List C) (none : NoneRegisters s) where
   client-none : (full : Option ℕ) → EndsBy given s history asked asked2 fate clocks full → (i : ℕ) (block : List Line) → slice_get s.clients i ≡ Some block → AllByRecursion IsNoRegister (calls_of history (i + 1))

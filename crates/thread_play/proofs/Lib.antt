@@ -1,5 +1,4 @@
 pub mod Lists
-pub mod Beginnings
 pub mod Blocks
 pub mod Clients
 pub mod Callers
@@ -8,5 +7,4 @@ pub mod Endings
 pub mod Making
 pub mod Whole
 pub mod Printable
-pub mod Keeping
 pub mod Hearing

@@ -1,7 +1,8 @@
 -- From the parts of a run to what all leave.
 use Rattle.std.proofs.Common.{◌≡◌, ◌≢◌, inl, inr, ℕ, ◌+◌, ◌<◌, List, [], ◌∷◌, ◌++◌, map, set, replicate, length, slice_index_or, Option, Some, None, refl, sym, ap, ◌∙◌, subst, append_assoc, length-append, arith}
-use Rattle.std.specs.Prelude.{Result, Ok, Err}
+use Rattle.std.specs.Prelude.{Result, Ok, Err, IsOk}
 use Rattle.std.specs.List.{slice_get}
+use Rattle.std.proofs.lemmas.List.{length-map}
 use Rattle.child_spawner.specs.declared.fates.Asked.{Asked}
 use Rattle.child_spawner.specs.declared.fates.Fate.{Fate}
 use Rattle.child_spawner.specs.Children.{Told}
@@ -21,19 +22,21 @@ use Rattle.script_asks.specs.declared.given.Given.{Given}
 use Rattle.attendant.specs.declared.pairs.Pair.{Pair}
 use Rattle.attendant.specs.declared.reaper.Held.{Held}
 use Rattle.attendant.specs.declared.reaper.Hand.{Hand}
-use Rattle.attendant.specs.Acts.{acts_of, own_acts, Act}
+use Rattle.attendant.specs.Acts.{own_acts}
 use Rattle.attendant.specs.PairLaws.{post-itself}
 use Rattle.attendant.specs.Pairs.{launcher_at, reaping_at, HasAttended}
 use Rattle.attendant.specs.Posts.{IsStillAt}
-use Rattle.attendant.specs.Outside.{Tends, Keeps, AgreesOf}
+use Rattle.attendant.specs.Outside.{Tends, AgreesOf}
+use Rattle.beside_clients.specs.Passes.{FollowsAll}
+use Rattle.beside_clients.proofs.Tending.{Nothing, HaveTended, have-tended}
 use Rattle.block_play.specs.declared.stops.Stopped.{Stopped}
 use Rattle.block_play.specs.declared.stops.Stopped.TheVariants as stopped
 use Rattle.thread_play.specs.declared.workers.Worker.{Worker}
-use Rattle.thread_play.specs.Stages.{Hired, HavePlayed, Dismissed, EndsAs, worse, worst, with_back}
-use Rattle.thread_play.specs.Hubs.{FollowsAll, IsReturned}
+use Rattle.thread_play.specs.Stages.{Hired, HavePlayed, Dismissed, EndsAs, stop_at, worse, worst, with_back}
+use Rattle.thread_play.specs.Hubs.{IsReturned}
 use Rattle.thread_play.specs.Pairs.{HasEnded, AreReleased}
 use Rattle.thread_play.specs.Others.{IsEnded, HasGoneOn, by_attendant, by_client, Ends, Others, OthersHeard}
-use Rattle.thread_play.proofs.Lists.{set-between, length-mapped, some-item}
+use Rattle.thread_play.proofs.Lists.{set-between, some-item}
 use Rattle.thread_play.proofs.Clients.{Lists, own_lists, hired-count, with_back-all, worst-none, worst-full}
 use Rattle.thread_play.proofs.Callers.{launcher-at-once, reaper-at-once}
 use Rattle.thread_play.proofs.Posts.{still-timed, none-timed, told-on}
@@ -48,17 +51,6 @@ pub record IsOpened (shared : Named Config) (o p : Seat) (client : Seat) : Type 
   pub begins : seen_of client ≡ seen_of o
   pub mine : mine_of client ≡ []
   pub own : KnowsItsOwn client
-
--- before the first round all is kept
-pub record Nothing {T : Type 0} (told : T → Option Told) (at : ℕ → Option (Held T)) : Type 0 where
-  pub untold : (fate : ℕ → Fate) → Keeps told None fate [] [] at None
-  pub keeps : (fate : ℕ → Fate) → Keeps told (Some []) fate [] [] at None
-  pub agrees : (fate : ℕ → Fate) → AgreesOf (Some []) fate [] []
-
--- the stop that a size stands for
-abbrev pub stop_at : Option ℕ → Option Stopped
-stop_at None = None
-stop_at (Some size) = Some (stopped.Full size)
 
 begins-same : (a b c : List Entry) → BeginsWith a b → b ≡ c → BeginsWith a c
 begins-same a b c h is = subst (BeginsWith a) is h
@@ -102,56 +94,20 @@ module _ {C T : Type 0} (given : C → Readings) (least : C → ℕ) (told : T �
 
   -- ---- what launcher and reaper keep
 
-  launcher-acts : own_acts pc.launcher ≡ own_acts pb.launcher
-  launcher-acts = ap (λ (es : List Entry). acts_of es) d.mine
-
-  reaping-acts : own_acts pc.reaping ≡ own_acts pb.reaping
-  reaping-acts = ap (λ (x : Seat). own_acts x) same_r
-
-  launcher-none : own_acts pa.launcher ≡ []
-  launcher-none = ap (λ (es : List Entry). acts_of es) ol.mine
-
-  reaping-none : own_acts pa.reaping ≡ []
-  reaping-none = ap (λ (es : List Entry). acts_of es) or.mine
-
-  -- from no entries to those that the two began with
-  at-start : (P : List Act → List Act → Option Hand → Type 0) → P [] [] None → P (own_acts pa.launcher) (own_acts pa.reaping) hand0
-  at-start P p = subst (λ (l : List Act). P l (own_acts pa.reaping) hand0) (sym launcher-none) (subst (λ (l : List Act). P [] l hand0) (sym reaping-none) (subst (λ (h : Option Hand). P [] [] h) (sym no_hand) p))
-
-  -- from what the two had to what they go on with
-  at-end : (P : List Act → List Act → Type 0) → P (own_acts pb.launcher) (own_acts pb.reaping) → P (own_acts pc.launcher) (own_acts pc.reaping)
-  at-end P p = subst (λ (l : List Act). P l (own_acts pc.reaping)) (sym launcher-acts) (subst (λ (l : List Act). P (own_acts pb.launcher) l) (sym reaping-acts) p)
-
-  tends-a : Tends (own_acts pa.launcher) (own_acts pa.reaping) at0 hand0
-  tends-a = at-start (λ l m h. Tends l m at0 h) (start.untold fate).tends
+  kept : HaveTended told asked asked1 fate1 (own_acts pa.launcher) (own_acts pa.reaping) (own_acts pc.launcher) (own_acts pc.reaping) at0 at1 hand0 hand1 (IsOk r)
+  kept = have-tended told pa.launcher pb.launcher pc.launcher pa.reaping pb.reaping pc.reaping asked asked1 fate fate1 at0 at1 hand0 hand1 ol.mine or.mine start no_hand a.attending d.mine same_r
 
   tends-b : Tends (own_acts pb.launcher) (own_acts pb.reaping) at1 hand1
-  tends-b = a.attending.tends tends-a
-
-  tends-c : Tends (own_acts pc.launcher) (own_acts pc.reaping) at1 hand1
-  tends-c = at-end (λ l m. Tends l m at1 hand1) tends-b
+  tends-b = a.attending.tends kept.first
 
   tends-d : Tends (own_acts pd.launcher) (own_acts pd.reaping) at2 hand2
-  tends-d = e.attending.tends tends-c
-
-  keeps-a : asked ≡ Some [] → Keeps told asked fate (own_acts pa.launcher) (own_acts pa.reaping) at0 hand0
-  keeps-a none = subst (λ (q : Option (List Asked)). Keeps told q fate (own_acts pa.launcher) (own_acts pa.reaping) at0 hand0) (sym none) (at-start (λ l m h. Keeps told (Some []) fate l m at0 h) (start.keeps fate))
-
-  keeps-c : asked ≡ Some [] → Keeps told asked1 fate1 (own_acts pc.launcher) (own_acts pc.reaping) at1 hand1
-  keeps-c none = at-end (λ l m. Keeps told asked1 fate1 l m at1 hand1) (a.attending.keeps (keeps-a none))
-
-  keeps-d : asked ≡ Some [] → Keeps told asked2 fate2 (own_acts pd.launcher) (own_acts pd.reaping) at2 hand2
-  keeps-d none = e.attending.keeps (keeps-c none)
-
-  agrees-a : asked ≡ Some [] → AgreesOf asked fate (own_acts pa.launcher) (own_acts pa.reaping)
-  agrees-a none = subst (λ (q : Option (List Asked)). AgreesOf q fate (own_acts pa.launcher) (own_acts pa.reaping)) (sym none) (at-start (λ l m h. AgreesOf (Some []) fate l m) (start.agrees fate))
+  tends-d = e.attending.tends kept.tends
 
   well : after ≡ None → (worse None end ≡ None) × ((i : ℕ) (v : Worker C) → i < length vs → (slice_index_or vs i v).ended ≡ Ok tt)
   well none = worst-none (worse None end) vs (sym worst_is ∙ (e.whole none).0)
 
   agrees-d : after ≡ None → asked ≡ Some [] → AgreesOf asked2 fate2 (own_acts pd.launcher) (own_acts pd.reaping)
-  agrees-d none q =
-      e.attending.agrees none (keeps-c q) (at-end (λ l m. AgreesOf asked1 fate1 l m) (a.attending.agrees (whole-ok given least told shared r end ends_so (well none).0) (keeps-a q) (agrees-a q)))
+  agrees-d none q = e.attending.agrees none (kept.keeps q) (kept.agrees (whole-ok given least told shared r end ends_so (well none).0) q)
 
   -- ---- the clients
 
@@ -285,7 +241,7 @@ module _ {C T : Type 0} (given : C → Readings) (least : C → ℕ) (told : T �
   -- ---- the lists of those that are back
 
   front-size : length (retired_of o ++ own_lists vs) ≡ length s.clients + 1
-  front-size = let a = length-append (retired_of o) (own_lists vs) in let b = length-mapped (λ (w : Worker C). Some (mine_of w.client)) vs in let c = vs-count in let f = first in omega arith
+  front-size = let a = length-append (retired_of o) (own_lists vs) in let b = length-map vs (λ (w : Worker C). Some (mine_of w.client)) in let c = vs-count in let f = first in omega arith
 
   lists-both : retired_of p4 ≡ (retired_of o ++ own_lists vs) ++ Some (mine_of pd.launcher) ∷ Some (mine_of pd.reaping) ∷ None ∷ []
   lists-both =
@@ -348,10 +304,10 @@ module _ {C T : Type 0} (given : C → Readings) (least : C → ℕ) (told : T �
   ends-by (Some size) is = elim (e.full size is) [
     | inl before ↦ elim ((worst-full (worse None end) vs size (sym worst_is ∙ before)).cause) [
       | inl attendants ↦ by_attendant (launcher_at given least shared pa) (launcher_at given least shared pb) (reaping_at given least shared pa) (reaping_at given least shared pb) launcher-gone reaping-gone
-          (held-tended _ _ _ _ _ _ tends-a (full-held given least told shared pa pb _ r end size ends_so attendants a.held_up))
+          (held-tended _ _ _ _ _ _ kept.first (full-held given least told shared pa pb _ r end size ends_so attendants a.held_up))
       | inr met ↦ by_client met.place met.item met.within met.met
     ]
-    | inr then ↦ by_attendant (launcher_at given least shared pc) (launcher_at given least shared pd) (reaping_at given least shared pc) (reaping_at given least shared pd) launcher-ended reaping-ended (held-tended _ _ _ _ _ _ tends-c then.1)
+    | inr then ↦ by_attendant (launcher_at given least shared pc) (launcher_at given least shared pd) (reaping_at given least shared pc) (reaping_at given least shared pd) launcher-ended reaping-ended (held-tended _ _ _ _ _ _ kept.tends then.1)
   ]
 
   pub others-made : (full : Option ℕ) → after ≡ stop_at full → Others given told s names shared o p5 asked asked2 fate2 clocks0 clocks3 full
@@ -382,7 +338,7 @@ module _ {C T : Type 0} (given : C → Readings) (least : C → ℕ) (told : T �
     at = at2;
     hand = hand2;
     tends = tends-d;
-    keeps = keeps-d;
+    keeps = λ none. e.attending.keeps (kept.keeps none);
     agrees = λ none. agrees-d (is ∙ ap stop_at none);
     ends = ends-by full is;
   }

@@ -23,7 +23,7 @@ AskedStands s = (names : List (List ℕ × Given)) (before : ℕ) (block : List 
 
 attended : ((e : Entry) → is_attendants e.call ≡ true → CallMayStand e) → (es : List Entry) → AllByRecursion IsAttendants es → AllByRecursion CallMayStand es
 attended each [] all = tt
-attended each (e ∷ es) all = (each e all.0, attended each es all.1)
+attended each (e ∷ es) all = (each e all.0.attends, attended each es all.1)
 
 up-to-stands : {C : Type 0} (given : C → Readings) (clocks : List C) (s : Script) (names : List (List ℕ × Given)) (block : List Line) (caller : ℕ) (history : List Entry) → AskedStands s → PlaysUpTo given clocks s names block caller history → AllByRecursion CallMayStand (calls_of history caller)
 up-to-stands given clocks s names block caller history stands (inl p) = stands names 0 block (calls_of history caller) p

@@ -3,6 +3,7 @@ use Rattle.std.proofs.Common.{◌≡◌, ◌≢◌, ◌⊎◌, ⊎_elim, inl, in
 use Rattle.std.specs.Prelude.{IfSome, Result, Ok, Err}
 use Rattle.std.specs.List.{slice_get, AllByRecursion}
 use Rattle.std.proofs.lemmas.Bool.{cases_eq}
+use Rattle.std.proofs.lemmas.List.{get_or_append_left, get_or-map, length-map}
 use Rattle.std.proofs.lemmas.Option.{slice_get_within, get_or_from_slice_get, slice_get-get_or}
 use Rattle.child_spawner.specs.declared.fates.Asked.{Asked}
 use Rattle.child_spawner.specs.declared.fates.Fate.{Fate}
@@ -43,34 +44,29 @@ use Rattle.script_asks.specs.declared.given.Given.{Given}
 use Rattle.script_asks.specs.Plays.{Plays, names_by, setup_names}
 use Rattle.attendant.specs.declared.reaper.Held.{Held}
 use Rattle.attendant.specs.declared.reaper.Hand.{Hand}
-use Rattle.attendant.specs.Acts.{acts_of, own_acts, Each, is_launched}
+use Rattle.attendant.specs.Acts.{acts_of, Each, is_launched}
 use Rattle.attendant.specs.Posts.{Post, IsStillAt, FailsWithin}
 use Rattle.attendant.specs.Runs.{is_ended, owed}
-use Rattle.attendant.specs.Outside.{Keeps, Tells, AgreesOf, IsHeldUp, out_of_memory, full_at_launch, full_at_order, full_at_answer, EndsSettled, IsLaunchersEntry, IsReapersEntry}
+use Rattle.attendant.specs.Outside.{Keeps, AgreesOf, IsHeldUp, out_of_memory, full_at_launch, full_at_order, full_at_answer, EndsSettled, IsLaunchersEntry, IsReapersEntry}
 use Rattle.attendant.specs.Whole.{AgreesWithOutside, AreAlone}
 use Rattle.block_play.specs.declared.stops.Stopped.{Stopped}
 use Rattle.block_play.specs.declared.stops.Stopped.TheVariants as stopped
 use Rattle.block_play.specs.Played.{IsFullFor, last_moment}
 use Rattle.script_journals.specs.Calls.{IsClientsEntry}
+use Rattle.beside_clients.specs.Passes.{FollowsAll}
+use Rattle.beside_clients.proofs.Beginnings.{calls-append, calls-begin, begins-shorter, alone, nothing-after}
+use Rattle.beside_clients.proofs.Outside.{IsClosed, asked-of, outside-of}
 use Rattle.thread_play.specs.declared.firsts.First.{First}
 use Rattle.thread_play.specs.declared.workers.Worker.{Worker}
-use Rattle.thread_play.specs.Hubs.{FollowsAll, HearRun}
+use Rattle.thread_play.specs.Hubs.{HearRun}
 use Rattle.thread_play.specs.Stages.{StopsAt, PlaysOn, IsFirst}
 use Rattle.thread_play.specs.Others.{HasGoneOn, IsFullAtEnd, by_attendant, by_client, Ends, Others}
-use Rattle.thread_play.specs.Runs.{launcher_of, reaper_of, hub_of, names_given, IsRun, PlaysAll, IsSettledAt, IsCutShort, PlaysUpTo, HaveReading, MeetsSize, IsMet, by_block, by_launch, by_order, by_answer, AreAsked, in_setup, behind_setup, EndsBy, HasRun}
-use Rattle.thread_play.proofs.Lists.{at-between, at-front, length-mapped, map-at, some-item}
-use Rattle.thread_play.proofs.Beginnings.{calls-append, calls-begin, begins-shorter, alone, nothing-after}
+use Rattle.thread_play.specs.Runs.{launcher_of, reaper_of, hub_of, names_given, IsRun, PlaysAll, IsSettledAt, IsCutShort, PlaysUpTo, HaveReading, MeetsSize, IsMet, by_block, by_launch, by_order, by_answer, in_setup, behind_setup, EndsBy, HasRun}
+use Rattle.thread_play.proofs.Lists.{at-between, some-item}
 use Rattle.thread_play.proofs.Clients.{Lists, own_lists}
-use Rattle.thread_play.proofs.Callers.{by-caller, are-alone, IsAtOnce, launcher-at-once, reaper-at-once}
+use Rattle.thread_play.proofs.Callers.{by-caller, clients-aside, IsAtOnce, launcher-at-once, reaper-at-once}
 use Rattle.thread_play.proofs.Hearing.{NoneRegisters, hear-run}
 use Rattle.thread_play.proofs.Posts.{read-between}
-
--- what the machine that is had back says of its history
-pub record IsClosed (config : Config) (o : Seat) (history : List Entry) : Type 0 where
-  pub legal : IsLegal config history
-  pub seen : BeginsWith history (seen_of o)
-  pub lists : (number : ℕ) (own : List Entry) → slice_index_or (retired_of o) number None ≡ Some own → calls_of history number ≡ own
-  pub strangers : (number : ℕ) → length (retired_of o) ≤ number → calls_of history number ≡ []
 
 -- what is true of every legal history
 pub record Laws (s : Script) : Type 0 where
@@ -253,7 +249,7 @@ module _ {C T : Type 0} (given : C → Readings) (told : T → Option Told) (s :
     (first : IsFirst given s shared o f) (names_are : names ≡ setup_names s first.own) (played : Plays s [] 0 (lines_of s.setup) first.own)
     (asked asked2 : Option (List Asked)) (fate : ℕ → Fate) (clocks : List C) (full : Option ℕ) (x : Others given told s names shared o p asked asked2 fate (f.clock ∷ []) clocks full) where
   front-size : length (Some first.own ∷ own_lists x.ws) ≡ length s.clients + 1
-  front-size = let a = length-mapped (λ (w : Worker C). Some (mine_of w.client)) x.ws in let b = x.count in omega arith
+  front-size = let a = length-map x.ws (λ (w : Worker C). Some (mine_of w.client)) in let b = x.count in omega arith
 
   shape : retired_of p ≡ (Some first.own ∷ own_lists x.ws) ++ Some (mine_of x.launcher.client) ∷ Some (mine_of x.reaping) ∷ Some (mine_of x.pass) ∷ []
   shape = x.retired ∙ ap (λ (l : Lists). l ++ (own_lists x.ws ++ Some (mine_of x.launcher.client) ∷ Some (mine_of x.reaping) ∷ Some (mine_of x.pass) ∷ [])) first.retired
@@ -270,12 +266,12 @@ module _ {C T : Type 0} (given : C → Readings) (told : T → Option Told) (s :
     of-client : (i : ℕ) (d : Worker C) → i < length x.ws → calls_of history (i + 1) ≡ mine_of (slice_index_or x.ws i d).client
     of-client i d below =
         let next : i + 1 ≡ suc i = omega arith in
-        let size = length-mapped (λ (w : Worker C). Some (mine_of w.client)) x.ws in
+        let size = length-map x.ws (λ (w : Worker C). Some (mine_of w.client)) in
         closed.lists (i + 1) (mine_of (slice_index_or x.ws i d).client)
         (ap (λ (l : Lists). slice_index_or l (i + 1) None) shape
         ∙ (ap (λ (k : ℕ). slice_index_or ((Some first.own ∷ own_lists x.ws) ++ Some (mine_of x.launcher.client) ∷ Some (mine_of x.reaping) ∷ Some (mine_of x.pass) ∷ []) k None) next
-        ∙ (at-front (own_lists x.ws) (Some (mine_of x.launcher.client) ∷ Some (mine_of x.reaping) ∷ Some (mine_of x.pass) ∷ []) None i (omega arith)
-        ∙ map-at (λ (w : Worker C). Some (mine_of w.client)) x.ws i d None below)))
+        ∙ (get_or_append_left (own_lists x.ws) (Some (mine_of x.launcher.client) ∷ Some (mine_of x.reaping) ∷ Some (mine_of x.pass) ∷ []) None i (omega arith)
+        ∙ get_or-map (λ (w : Worker C). Some (mine_of w.client)) x.ws i d None below)))
 
     of-launcher : calls_of history (length s.clients + 1) ≡ mine_of x.launcher.client
     of-launcher = closed.lists (length s.clients + 1) (mine_of x.launcher.client)
@@ -378,7 +374,7 @@ module _ {C T : Type 0} (given : C → Readings) (told : T → Option Told) (s :
     clocks-size =
         let a = ap length x.clocks_are in
         let b = length-append (map (λ (w : Worker C). w.clock) x.ws) (x.launcher_clock ∷ x.reaping_clock ∷ x.pass_clock ∷ []) in
-        let c = length-mapped (λ (w : Worker C). w.clock) x.ws in
+        let c = length-map x.ws (λ (w : Worker C). w.clock) in
         let d = x.count in omega arith
 
     -- a clock at a place, as a list that is indexed has it
@@ -387,13 +383,13 @@ module _ {C T : Type 0} (given : C → Readings) (told : T → Option Told) (s :
 
     launcher-place : (c : C) → slice_get clocks (length s.clients + 1) ≡ Some c → x.launcher_clock ≡ c
     launcher-place c at =
-        let size = length-mapped (λ (w : Worker C). w.clock) x.ws in
+        let size = length-map x.ws (λ (w : Worker C). w.clock) in
         let count = x.count in
         sym (at-between (f.clock ∷ map (λ (w : Worker C). w.clock) x.ws) x.launcher_clock c (x.reaping_clock ∷ x.pass_clock ∷ []) (length s.clients + 1) (omega arith)) ∙ at-place (length s.clients + 1) c at
 
     reaper-place : (c : C) → slice_get clocks (length s.clients + 2) ≡ Some c → x.reaping_clock ≡ c
     reaper-place c at =
-        let size = length-mapped (λ (w : Worker C). w.clock) x.ws in
+        let size = length-map x.ws (λ (w : Worker C). w.clock) in
         let count = x.count in
         let longer = length-append (f.clock ∷ map (λ (w : Worker C). w.clock) x.ws) (x.launcher_clock ∷ []) in
         sym (ap (λ (l : List C). slice_index_or l (length s.clients + 2) c) (sym (append_assoc (f.clock ∷ map (λ (w : Worker C). w.clock) x.ws) (x.launcher_clock ∷ []) (x.reaping_clock ∷ x.pass_clock ∷ [])))
@@ -401,7 +397,7 @@ module _ {C T : Type 0} (given : C → Readings) (told : T → Option Told) (s :
 
     hub-place : (c : C) → slice_get clocks (length s.clients + 3) ≡ Some c → x.pass_clock ≡ c
     hub-place c at =
-        let size = length-mapped (λ (w : Worker C). w.clock) x.ws in
+        let size = length-map x.ws (λ (w : Worker C). w.clock) in
         let count = x.count in
         let longer = length-append (f.clock ∷ map (λ (w : Worker C). w.clock) x.ws) (x.launcher_clock ∷ x.reaping_clock ∷ []) in
         sym (ap (λ (l : List C). slice_index_or l (length s.clients + 3) c) (sym (append_assoc (f.clock ∷ map (λ (w : Worker C). w.clock) x.ws) (x.launcher_clock ∷ x.reaping_clock ∷ []) (x.pass_clock ∷ [])))
@@ -410,10 +406,10 @@ module _ {C T : Type 0} (given : C → Readings) (told : T → Option Told) (s :
     client-place : (i : ℕ) (d : Worker C) → i < length x.ws → (c : C) → slice_get clocks (i + 1) ≡ Some c → (slice_index_or x.ws i d).clock ≡ c
     client-place i d below c at =
         let next : i + 1 ≡ suc i = omega arith in
-        let size = length-mapped (λ (w : Worker C). w.clock) x.ws in
+        let size = length-map x.ws (λ (w : Worker C). w.clock) in
         sym (ap (λ (k : ℕ). slice_index_or (f.clock ∷ (map (λ (w : Worker C). w.clock) x.ws ++ x.launcher_clock ∷ x.reaping_clock ∷ x.pass_clock ∷ [])) k c) next
-        ∙ (at-front (map (λ (w : Worker C). w.clock) x.ws) (x.launcher_clock ∷ x.reaping_clock ∷ x.pass_clock ∷ []) c i (omega arith)
-        ∙ map-at (λ (w : Worker C). w.clock) x.ws i d c below)) ∙ at-place (i + 1) c at
+        ∙ (get_or_append_left (map (λ (w : Worker C). w.clock) x.ws) (x.launcher_clock ∷ x.reaping_clock ∷ x.pass_clock ∷ []) c i (omega arith)
+        ∙ get_or-map (λ (w : Worker C). w.clock) x.ws i d c below)) ∙ at-place (i + 1) c at
 
     -- the clock of a client stands at its number
     client-clock : (i : ℕ) (d : Worker C) → i < length x.ws → slice_get clocks (i + 1) ≡ Some (slice_index_or x.ws i d).clock
@@ -478,35 +474,13 @@ module _ {C T : Type 0} (given : C → Readings) (told : T → Option Told) (s :
     -- ---- the outside
 
     alone-all : PlaysAll s history → AreAlone (length s.clients + 1) (length s.clients + 2) (acts_of history)
-    alone-all all = are-alone (length s.clients) history
+    alone-all all = clients-aside (length s.clients) history
         (by-caller (λ k. k < length s.clients + 1 → AllByRecursion IsClientsEntry (calls_of history k)) (length s.clients)
         (λ h. laws.whole [] 0 (lines_of s.setup) (calls_of history 0) (inl refl) all.setup)
         (λ i below h. let block = slice_index_or s.clients i [] in let at = slice_get-get_or s.clients i [] below in
         laws.whole (names_given s history) 0 block (calls_of history (i + 1)) (inr (i, at)) (all.clients i block at))
         (λ h. absurd (omega arith)) (λ h. absurd (omega arith)) (λ k above h. absurd (omega arith)))
         launches reports of-others
-
-    agreed : ((starts : List Asked) (es : List Entry) (at : ℕ → Option (Held T)) (hand : Option Hand) → AreAlone (length s.clients + 1) (length s.clients + 2) (acts_of es)
-        → Keeps told (Some starts) fate (acts_of (calls_of es (length s.clients + 1))) (acts_of (calls_of es (length s.clients + 2))) at hand
-        → AgreesOf (Some starts) fate (acts_of (calls_of es (length s.clients + 1))) (acts_of (calls_of es (length s.clients + 2))) → AgreesWithOutside starts fate (acts_of es))
-        → AreAlone (length s.clients + 1) (length s.clients + 2) (acts_of history) → (then : Option (List Asked))
-        → Keeps told then fate (own_acts x.launcher.client) (own_acts x.reaping) x.at x.hand → AgreesOf then fate (own_acts x.launcher.client) (own_acts x.reaping)
-        → IfSome then (λ starts. AgreesWithOutside starts fate (acts_of history))
-    agreed law lone None k a = tt
-    agreed law lone (Some starts) k a =
-        law starts history x.at x.hand lone
-        (subst (λ (es : List Entry). Keeps told (Some starts) fate (acts_of es) (acts_of (calls_of history (length s.clients + 2))) x.at x.hand) (sym of-launcher)
-        (subst (λ (es : List Entry). Keeps told (Some starts) fate (own_acts x.launcher.client) (acts_of es) x.at x.hand) (sym of-reaper) k))
-        (subst (λ (es : List Entry). AgreesOf (Some starts) fate (acts_of es) (acts_of (calls_of history (length s.clients + 2)))) (sym of-launcher)
-        (subst (λ (es : List Entry). AgreesOf (Some starts) fate (own_acts x.launcher.client) (acts_of es)) (sym of-reaper) a))
-
-    -- the launches are what was asked, however the run ended
-    asked-then : (then : Option (List Asked)) → Keeps told then fate (own_acts x.launcher.client) (own_acts x.reaping) x.at x.hand
-        → IfSome then (λ starts. AreAsked (acts_of (calls_of history (launcher_of s))) starts)
-    asked-then None k = tt
-    asked-then (Some starts) k =
-        let t : Tells told starts fate (own_acts x.launcher.client) (own_acts x.reaping) x.at x.hand = k.tells in
-        subst (λ (es : List Entry). AreAsked (acts_of es) starts) (sym of-launcher) t.asked
 
     -- ---- the ends
 
@@ -560,9 +534,10 @@ module _ {C T : Type 0} (given : C → Readings) (told : T → Option Told) (s :
           callers = callers-are;
           quiet = rest.quiet;
           rest = λ c at. subst (λ (y : C). IfSome (given y).told (IsSettledAt s.config history)) (launcher-place c at) (subst (λ (g : Readings). IfSome g.told (IsSettledAt s.config history)) (sym x.launcher_given) rest.last);
-          outside = λ none. agreed law (alone-all all) asked2 (x.keeps none) (x.agrees is none);
+          outside = λ none. outside-of told fate history (launcher_of s) (reaper_of s) x.launcher.client x.reaping x.at x.hand of-launcher of-reaper (λ starts. law starts history x.at x.hand) (alone-all all) asked2 (x.keeps none) (x.agrees is none);
         }
-    ends-of law (Some size) is e = behind_setup setup-played up-to-all (met-by size e) (λ none. asked-then asked2 (x.keeps none)) callers-are
+    ends-of law (Some size) is e = behind_setup setup-played up-to-all (met-by size e)
+        (λ none. asked-of told fate history (launcher_of s) (reaper_of s) x.launcher.client x.reaping x.at x.hand of-launcher of-reaper asked2 (x.keeps none)) callers-are
 
     pub has-run : ((starts : List Asked) (es : List Entry) (at : ℕ → Option (Held T)) (hand : Option Hand) → AreAlone (length s.clients + 1) (length s.clients + 2) (acts_of es)
         → Keeps told (Some starts) fate (acts_of (calls_of es (length s.clients + 1))) (acts_of (calls_of es (length s.clients + 2))) at hand

@@ -1,5 +1,5 @@
 -- What a run of a script for threads is, by its history alone: our profile.
-use Rattle.std.specs.Prelude.{◌≡◌, ◌⊎◌, ℕ, ◌+◌, ◌<◌, Bool, true, List, [], ◌∷◌, ◌++◌, length, map, Option, Some, None, IfSome}
+use Rattle.std.specs.Prelude.{◌≡◌, ◌⊎◌, ℕ, ◌+◌, ◌<◌, Bool, true, List, [], ◌∷◌, ◌++◌, length, Option, Some, None, IfSome}
 use Rattle.std.specs.List.{slice_get}
 use Rattle.child_spawner.specs.declared.fates.Asked.{Asked}
 use Rattle.child_spawner.specs.declared.fates.Fate.{Fate}
@@ -28,11 +28,12 @@ use Rattle.script_text.specs.Follows.{lines_of}
 use Rattle.script_text.specs.Scripts.{Spells}
 use Rattle.script_asks.specs.declared.given.Given.{Given}
 use Rattle.script_asks.specs.Plays.{Plays, names_by, setup_names}
-use Rattle.attendant.specs.Acts.{Act, acts_of, Each, is_launched}
+use Rattle.attendant.specs.Acts.{acts_of, Each, is_launched}
 use Rattle.attendant.specs.Outside.{IsLaunchersEntry, IsReapersEntry}
 use Rattle.attendant.specs.Rounds.{asked_signal}
-use Rattle.attendant.specs.Runs.{is_ended, owed, requests_in}
+use Rattle.attendant.specs.Runs.{is_ended, owed}
 use Rattle.attendant.specs.Whole.{AgreesWithOutside}
+use Rattle.beside_clients.specs.Starts.{AreAsked}
 use Rattle.block_play.specs.Played.{IsFullFor, last_moment}
 
 -- some lines are this script's, for threads
@@ -140,10 +141,6 @@ pub data IsMet {C : Type 0} (given : C → Readings) (clocks : List C) (s : Scri
   by_order : MeetsSize given clocks s.config history (reaper_of s) call.TakeSignal size → IsMet given clocks s history size
   by_answer : (signal : Signal) (answer : Bool) → (m : MeetsSize given clocks s.config history (reaper_of s) (asked_signal answer signal) size)
       → owed (acts_of (calls_of m.seen (reaper_of s))) ≡ Some signal → IsMet given clocks s history size
-
--- the launches of these entries, in order, are the job, attempt and words of each start that was asked of a spawner
-abbrev pub AreAsked : List Act → List Asked → Type 0
-AreAsked es starts = requests_in es ≡ map (λ (a : Asked). record { job = a.job; attempt = a.attempt; words = a.words }) starts
 
 -- The run was stopped since the journal would have had this size: within setup, and then nobody else made a call, and nothing was asked
 -- of the spawner; or behind it, and then each launch was asked of the spawner and nothing else, where it tells and nothing had been

@@ -143,3 +143,8 @@ EndsAs (Ok a) (Err end) = ⊥
 EndsAs (Err why) (Ok b) = ⊥
 EndsAs (Err why) (Err stopped.Memory) = Unit {0}
 EndsAs (Err why) (Err (stopped.Full size)) = why ≡ OutOfResource (limit.Journal size)
+
+-- the stop that a size stands for
+abbrev pub stop_at : Option ℕ → Option Stopped
+stop_at None = None
+stop_at (Some size) = Some (stopped.Full size)

@@ -5,12 +5,12 @@ ghost use Rattle.turn_lock.specs.Tokens.{IsFree};
 ghost use Rattle.call_history.specs.Clients.{mine_of};
 ghost use Rattle.attendant.specs.Pairs.{ArePlaced, HasAttended};
 ghost use Rattle.notify_hub.specs.Hubs.{IsNoteOf};
-ghost use Rattle.thread_play.specs.Hubs.{GoesOn, KeepsTime};
+ghost use Rattle.beside_clients.specs.Passes.{GoesOn, KeepsTime};
 ghost use Rattle.thread_play.specs.Stages.{IsReady, HasPlayed, HavePlayed};
 
-use crate::passes::{Pass, follow};
 use crate::workers::{Worker, play_own};
 use attendant::{Attended, Done, Pair, Reaper, attend_there};
+use beside_clients::{Seated, follow};
 use block_play::Names;
 use call_history::{Bell, SharedMachine};
 use child_spawner::Spawner;
@@ -62,7 +62,7 @@ fn play_all<R: Threads + Wait + Pause + Sync, C: Clock + Send + Drop, B: Callbac
     done: &Done,
     workers: &mut Vec<Worker<C>>,
     hub: &mut Hub<B>,
-    pass: &mut Pass<C>,
+    pass: &mut Seated<C>,
 ) -> Result<(), AllocError>
     requires workers { All (IsReady shared.now script.now) workers.old.items }
     requires client { IsFree shared.now pass.old.client }
@@ -105,7 +105,7 @@ fn join_all<
     reaper: &mut Reaper<S::One>,
     workers: &mut Vec<Worker<C>>,
     hub: &mut Hub<B>,
-    pass: &mut Pass<C>,
+    pass: &mut Seated<C>,
 ) -> (Option<Attended<C>>, Result<(), AllocError>)
     requires pair { IfSome pair.old (ArePlaced shared.now) }
     requires workers { All (IsReady shared.now script.now) workers.old.items }
@@ -157,7 +157,7 @@ pub(crate) fn play_beside<
     reaper: &mut Reaper<S::One>,
     workers: &mut Vec<Worker<C>>,
     hub: &mut Hub<B>,
-    pass: &mut Pass<C>,
+    pass: &mut Seated<C>,
 ) -> (Attended<C>, Result<(), AllocError>)
     requires pair { ArePlaced shared.now pair }
     requires workers { All (IsReady shared.now script.now) workers.old.items }

@@ -1,12 +1,15 @@
 //! How a run ends.
-ghost use Rattle.std.specs.Prelude.{◌≡◌, ◌≤◌, ◌+◌, ◌++◌, All, map, vec_len, vec_capacity};
+ghost use Rattle.std.specs.Prelude.{◌≡◌, ◌≤◌, ◌+◌, ◌++◌, ◌∷◌, [], All, IfOk, map, vec_len, vec_capacity};
 ghost use Rattle.turn_lock.specs.Tokens.{BelongsTo, IsFree};
-ghost use Rattle.thread_play.specs.Stages.{Dismissed, EndsAs, worse, worst};
+ghost use Rattle.thread_play.specs.Hubs.{IsReturned};
+ghost use Rattle.thread_play.specs.Stages.{Dismissed, EndsAs, stop_at, worse, worst};
 
 use crate::workers::Worker;
+use beside_clients::Seated;
 use block_play::Stopped;
 use call_history::{Client, MachineOpener, SharedMachine};
 use drmaa_types::{Limit, Refusal};
+use std::alloc::AllocError;
 
 /// Why a run is stopped, of two causes: want of memory, and else the first.
 pub(crate) fn worse(kept: Option<Stopped>, ended: Result<(), Stopped>) -> Option<Stopped>
@@ -28,6 +31,21 @@ pub(crate) fn stopped_by(ended: Result<(), Refusal>) -> Result<(), Stopped>
         Ok(()) => Ok(()),
         Err(Refusal::OutOfResource(Limit::Journal { size })) => Err(Stopped::Full { size }),
         Err(_) => Err(Stopped::Memory),
+    }
+}
+
+/// The size that the journal would have had, where a run was stopped by it.
+///
+/// # Errors
+///
+/// Want of memory, where that stopped the run.
+pub(crate) fn full_of(ended: Option<Stopped>) -> Result<Option<u64>, AllocError>
+    ensures { IfOk result (λ size. ended ≡ stop_at size) }
+{
+    match ended {
+        None => Ok(None),
+        Some(Stopped::Full { size }) => Ok(Some(size)),
+        Some(Stopped::Memory) => Err(AllocError),
     }
 }
 
@@ -65,4 +83,22 @@ pub(crate) fn dismiss<C: Drop>(
         ended = worse(ended, end);
     }
     ended
+}
+
+/// Takes the hub's client back, and its clock.
+pub(crate) fn end_pass<C: Drop>(
+    shared: &SharedMachine,
+    opener: &mut MachineOpener,
+    pass: Seated<C>,
+    clocks: &mut Vec<C>,
+)
+    requires opener { BelongsTo shared.now opener.old }
+    requires client { IsFree shared.now pass.client }
+    requires room { vec_len clocks.old + 1 ≤ vec_capacity clocks.old }
+    ensures back { IsReturned shared.now opener.old opener.new pass.client }
+    ensures clocks { clocks.new.items ≡ clocks.old.items ++ pass.clock ∷ [] }
+{
+    let Seated { client, clock } = pass;
+    shared.retire(opener, client);
+    clocks.push_reserved(clock);
 }

@@ -4,7 +4,7 @@ ghost use Rattle.turn_lock.specs.Tokens.{BelongsTo};
 ghost use Rattle.call_history.specs.Clients.{retired_of};
 ghost use Rattle.thread_play.specs.Stages.{IsFirstHeard};
 
-use crate::passes::{Pass, pump_once};
+use beside_clients::{Seated, pump_once};
 use block_play::{Names, Stopped, play_setup};
 use call_history::{Bell, Desk, MachineOpener, SharedMachine};
 use drmaa_types::{CallerId, Clocks};
@@ -49,12 +49,12 @@ pub(crate) fn play_first<R: Wait + Pause, K: Clocks, B: Callback>(
     };
     let played = play_setup(rt, alloc, script, &mut desk, hub);
     let Desk { client, clock, .. } = desk;
-    let mut pass = Pass {
+    let mut pass = Seated {
         client,
         clock: clocks.clock(CallerId(script.clients.as_slice().len() as u32 + 3)),
     };
     pump_once(rt, shared, hub, &mut pass);
-    let Pass { client, .. } = pass;
+    let Seated { client, .. } = pass;
     shared.retire(opener, client);
     First { clock, played }
 }

@@ -5,7 +5,6 @@ mod crews;
 mod ends;
 mod firsts;
 mod laws;
-mod passes;
 mod runs;
 mod workers;
 

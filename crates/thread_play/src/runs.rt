@@ -7,17 +7,18 @@ ghost use Rattle.call_history.specs.Clients.{seen_of, retired_of};
 ghost use Rattle.attendant.specs.Pairs.{ArePlaced};
 ghost use Rattle.notify_hub.specs.Ears.{HaveHeard};
 ghost use Rattle.notify_hub.specs.Hubs.{IsNoteOf};
-ghost use Rattle.thread_play.specs.Hubs.{HearRun, KeepsCallbacks};
+ghost use Rattle.beside_clients.specs.Passes.{KeepsCallbacks};
+ghost use Rattle.thread_play.specs.Hubs.{HearRun};
 ghost use Rattle.thread_play.specs.Runs.{IsForThreads, HasRun};
 ghost use Rattle.thread_play.specs.Pairs.{HasEnded, AreReleased};
 ghost use Rattle.thread_play.specs.Others.{OthersHeard};
 
 use crate::crews::play_beside;
-use crate::ends::{dismiss, stopped_by, worse};
+use crate::ends::{dismiss, end_pass, full_of, stopped_by, worse};
 use crate::firsts::{First, play_first};
-use crate::passes::{Pass, end_pass, pump_last};
 use crate::workers::hire;
 use attendant::{Attended, Pair, Reaper, nothing_is_kept, settle, the_outside_agrees};
+use beside_clients::{Seated, pump_last};
 use block_play::{Names, Stopped};
 use call_history::{Bell, Machine, MachineOpener, SharedMachine};
 use child_spawner::Spawner;
@@ -135,7 +136,7 @@ fn play_others<R: Threads + Wait + Pause + Sync, K: Clocks, S: Spawner + Send, B
         reaping: shared.open_client(opener),
         reaping_clock: clocks.clock(CallerId(number + 1)),
     };
-    let mut pass = Pass {
+    let mut pass = Seated {
         client: shared.open_client(opener),
         clock: clocks.clock(CallerId(number + 2)),
     };
@@ -171,11 +172,7 @@ fn play_others<R: Threads + Wait + Pause + Sync, K: Clocks, S: Spawner + Send, B
     release(shared, opener, pair, given);
     end_pass(shared, opener, pass, given);
     nothing_is_kept::<S::One>();
-    match ended {
-        None => Ok(None),
-        Some(Stopped::Full { size }) => Ok(Some(size)),
-        Some(Stopped::Memory) => Err(AllocError),
-    }
+    full_of(ended)
 }
 
 /// Plays a script: its setup block first; then its clients' blocks, each in a thread of its own, beside launcher and reaper in one,

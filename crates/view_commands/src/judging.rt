@@ -4,16 +4,15 @@ ghost use Rattle.drmaa_model.specs.History.{Ledger};
 ghost use Rattle.journal_text.specs.Journals.{IsWritable};
 ghost use Rattle.journal_commands.specs.Commands.{OfLegal, RefusesFault, Judged, ledger_of};
 ghost use Rattle.journal_commands.specs.Outcomes.{Makes, end_of};
-ghost use Rattle.journal_commands.specs.Replays.{IsReplayOf};
 ghost use Rattle.view_commands.specs.Views as views;
 ghost use Rattle.view_commands.specs.Views.{Shows, IsJudged};
 
 use crate::views::View;
 use drmaa_machine::Machine;
 use drmaa_types::Text;
-use journal_check::{Replayed, replay_history};
-use journal_commands::{Made, Output};
-use journal_text::{Journal, a_writable_journal_keeps_its_calls};
+use journal_check::Replayed;
+use journal_commands::{Made, Output, replayed_journal};
+use journal_text::Journal;
 use run_chart::chart;
 use run_views::{Verdict, print_jobs, print_log, runs_of, verdict_of};
 use std::alloc::{AllocError, Global};
@@ -31,15 +30,6 @@ struct Seen {
 pub(crate) struct Judgement {
     pub(crate) made: Made,
     pub(crate) verdict: Verdict,
-}
-
-/// Replays a journal.
-fn replayed_journal(alloc: Global, journal: Journal) -> Replayed
-    requires { IsWritable journal.config journal.entries }
-    ensures { IsReplayOf journal result }
-{
-    a_writable_journal_keeps_its_calls();
-    replay_history(alloc, journal.config, journal.entries)
 }
 
 /// A text with another one behind it.

@@ -1,28 +1,12 @@
 //! The text of reasons.
-ghost use Rattle.std.specs.Prelude.{◌≡◌, ◌++◌, IfOk, OnOk, string_bytes};
-ghost use Rattle.text_codec.specs.Lexical.{quoted};
+ghost use Rattle.std.specs.Prelude.{◌≡◌, ◌++◌, OnOk, string_bytes};
 ghost use Rattle.wait_reasons.specs.Texts as texts;
 
 use crate::reasons::Reason;
-use drmaa_types::{JobState, Moment, QueueList, ReservationId, Text, queue_at};
+use drmaa_types::{JobState, Moment, QueueList, ReservationId, queue_at};
 use itoa::Buffer;
 use std::alloc::{AllocError, Global};
-use text_words::PrintForm;
-
-/// Room for a name of usual length, in bytes.
-const ROOM: usize = 32;
-
-/// A text in quotes.
-fn quoted(alloc: Global, text: &Text) -> Result<String, AllocError>
-    ensures { IfOk result (λ s. string_bytes s ≡ quoted text.now) }
-{
-    let mut out = Vec::with_capacity(alloc, ROOM)?;
-    text.push(&mut out)?;
-    let Ok(text) = String::from_utf8(out) else {
-        unreachable!();
-    };
-    Ok(text)
-}
+use text_codec::quoted;
 
 /// Writes a number between words.
 #[tactic(auto, unfolding(crate::specs::Texts::one_number))]

@@ -54,18 +54,6 @@ fn push_job(
     }
 }
 
-/// Writes the lines of all jobs that wait.
-fn printed(alloc: Global, machine: &Machine) -> Result<String, AllocError>
-    ensures { IfOk result (λ text. string_bytes text ≡ texts.why_text (now_of machine.now.ledger).plan) }
-{
-    let mut out = String::new(alloc);
-    let mut known = Known::new();
-    for row in machine.rows() {
-        push_job(&mut out, alloc, machine, row, &mut known)?;
-    }
-    Ok(out)
-}
-
 /// The text that tells why each job that waits is not launched, for the machine as it is: a line for each, by number, with its
 /// reasons or `ready`.
 ///
@@ -75,6 +63,10 @@ fn printed(alloc: Global, machine: &Machine) -> Result<String, AllocError>
 pub fn print_why(alloc: Global, machine: &Machine) -> Result<Text, AllocError>
     ensures { IfOk result (λ text. text ≡ texts.why_text (now_of machine.now.ledger).plan) }
 {
-    let text = printed(alloc, machine)?;
-    Ok(Text::from_string(text))
+    let mut out = String::new(alloc);
+    let mut known = Known::new();
+    for row in machine.rows() {
+        push_job(&mut out, alloc, machine, row, &mut known)?;
+    }
+    Ok(Text::from_string(out))
 }

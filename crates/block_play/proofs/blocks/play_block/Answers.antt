@@ -4,7 +4,8 @@ use Rattle.script_lines.specs.declared.lines.Line.{Line}
 use Rattle.script_lines.specs.declared.lines.Line.TheVariants.{Register as sample}
 use Rattle.call_history.specs.Clients.{mine_of}
 use Rattle.block_play.specs.Played.{PlayedLines}
-use Rattle.block_play.proofs.Stretches.{still-both, played-more, stops-lines, split_at}
+use Rattle.wait_calls.proofs.Seats.{still-both}
+use Rattle.block_play.proofs.Stretches.{played-more, stops-lines, split_at}
 use Rattle.block_play.proofs.blocks.play_block.Goals as goal
 
 pub returns-in-Err : goal.returns-in-Err

@@ -8,7 +8,8 @@ use Rattle.turn_lock.specs.Tokens.{Named}
 use Rattle.notify_hub.specs.HubLaws.{registers-both}
 use Rattle.notify_hub.specs.Hubs.{RegistersOn}
 use Rattle.block_play.specs.Played.{PlayedLines}
-use Rattle.block_play.proofs.Stretches.{still-both, played-more, stops-lines, split_at}
+use Rattle.wait_calls.proofs.Seats.{still-both}
+use Rattle.block_play.proofs.Stretches.{played-more, stops-lines, split_at}
 use Rattle.block_play.proofs.blocks.play_first_lines.Goals as goal
 
 pub returns-in-Err : goal.returns-in-Err

@@ -3,7 +3,8 @@ use Rattle.script_asks.specs.Asks.{number_of, numbers_of}
 use Rattle.call_history.specs.Clients.{mine_of}
 use Rattle.block_play.specs.Waits.{wait_line}
 use Rattle.block_play.proofs.Awaited.{unnamed, unlisted, reached-played, refused-played, refused-stops}
-use Rattle.block_play.proofs.Made.{still-there, still-stays, stopped-still, played-nothing}
+use Rattle.wait_calls.proofs.Seats.{still-same, still-stays}
+use Rattle.block_play.proofs.Made.{stopped-still, played-nothing}
 use Rattle.block_play.proofs.waits.play_wait.Goals as goal
 
 pub returns-in_default : goal.returns-in_default
@@ -12,7 +13,7 @@ returns-in_default g c =
     let names = c.args.names.now in
     let desk = c.args.desk.now in
     record {
-      desk = still-there desk.shared.now desk.client c.requires;
+      desk = still-same desk.shared.now desk.client c.requires;
       timed = λ caller t. t;
       ok = λ before early. played-nothing s names (wait_line c.args.kind c.args.session.now c.args.timeout c.args.jobs.now) before (mine_of desk.client) _ early
           (unnamed s names c.args.kind c.args.session.now c.args.timeout c.args.jobs.now (ap (λ n. number_of n c.args.session.now) (sym c.given.ensures) ∙ sym c.in_default.ensures));
@@ -23,7 +24,7 @@ pub returns-in_default-numbers_of : goal.returns-in_default-numbers_of
 returns-in_default-numbers_of g c =
     let desk = c.args.desk.now in
     record {
-      desk = still-there desk.shared.now desk.client c.requires;
+      desk = still-same desk.shared.now desk.client c.requires;
       timed = λ caller t. t;
       ok = tt;
       err = λ before early. stopped-still c.args.script.now c.args.names.now (wait_line c.args.kind c.args.session.now c.args.timeout c.args.jobs.now) before desk.shared.now.fixed desk.client _;
@@ -35,7 +36,7 @@ returns-in_default-jobs g c =
     let names = c.args.names.now in
     let desk = c.args.desk.now in
     record {
-      desk = still-there desk.shared.now desk.client c.requires;
+      desk = still-same desk.shared.now desk.client c.requires;
       timed = λ caller t. t;
       ok = λ before early. played-nothing s names (wait_line c.args.kind c.args.session.now c.args.timeout c.args.jobs.now) before (mine_of desk.client) _ early
           (unlisted s names c.args.kind c.args.session.now c.args.timeout c.args.jobs.now c.in-Some.session

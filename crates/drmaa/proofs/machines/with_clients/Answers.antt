@@ -3,7 +3,8 @@ use Rattle.drmaa_model.specs.declared.configs.Config.{Config}
 use Rattle.call_history.specs.declared.desks.Desk.{Desk}
 use Rattle.drmaa.specs.Closed.{IsHistory, IsAtRest, AllAskAsClients, HaveHeardAll}
 use Rattle.drmaa.specs.Works.{AreLent, HaveMade}
-use Rattle.drmaa.proofs.Whole.{Laws, IsClosed, is-history, have-made, at-rest, are-asked, outside-agrees, have-heard}
+use Rattle.beside_clients.proofs.Outside.{IsClosed}
+use Rattle.drmaa.proofs.Whole.{Laws, is-history, have-made, at-rest, are-asked, outside-agrees, have-heard}
 use Rattle.drmaa.proofs.machines.with_clients.Goals as goal
 
 pub run_crew-requires-clause-callable : goal.run_crew-requires-clause-callable

@@ -1,5 +1,5 @@
 use Rattle.std.proofs.Common.{◌≡◌, ℕ, zero, suc, ◌<◌, List, ◌∙◌, sym, ap, subst, length, arith, slice_index_or}
-use Rattle.std.specs.Prelude.{Result, Ok, Err, IfOk}
+use Rattle.std.proofs.lemmas.Result.{IfOk-weaker}
 use Rattle.drmaa_model.specs.declared.entries.Entry.{Entry}
 use Rattle.turn_lock.specs.Tokens.{Named}
 use Rattle.drmaa_model.specs.declared.configs.Config.{Config}
@@ -9,11 +9,6 @@ use Rattle.call_history.specs.Clients.{Seat, mine_of, number_of}
 use Rattle.drmaa.specs.Closed.{AsksAsClient, AllAskAsClients}
 use Rattle.drmaa.specs.Works.{caller_at, IsUnread, HasMade}
 use Rattle.drmaa.proofs.machines.with_machine.Goals as goal
-
--- what follows for each answer
-ok-on : {A E : Type 0} (P Q : A → Type 0) → ((a : A) → P a → Q a) → (r : Result A E) → IfOk r P → IfOk r Q
-ok-on P Q on (Ok a) p = on a p
-ok-on P Q on (Err e) p = tt
 
 -- the only client of a work is 0
 first-number : (n place : ℕ) → place < 1 → n ≡ caller_at place → n ≡ 0
@@ -34,7 +29,7 @@ pub with_clients-requires-clause-leaves : goal.with_clients-requires-clause-leav
 with_clients-requires-clause-leaves g c κs bound shared x r y lent post = post.0
 
 pub returns-clause-work : goal.returns-clause-work
-returns-clause-work g c = ok-on _ _ (λ ended d.
+returns-clause-work g c = IfOk-weaker c.with_clients.result _ _ (λ ended d.
     let w = d.3.1 in
     let lent = d.4 in
     let x = w.0.now in
@@ -50,7 +45,7 @@ returns-clause-work g c = ok-on _ _ (λ ended d.
       subst (λ (k : Desk g.row.K-One.Denot). IsUnread g.K.One.Clock.given 0 k.clock) (sym (w.4 x)) first.clock,
       ap (λ (k : Desk g.row.K-One.Denot). mine_of k.client) (w.5 y) ∙ first-made ended.machine.ledger.history (slice_index_or d.2.now 0 y).client (d.6 0 y below),
     ))
-    c.with_clients.result c.with_clients.ensures.work
+    c.with_clients.ensures.work
 
 pub returns-clause-outside : goal.returns-clause-outside
-returns-clause-outside g c = ok-on _ _ (λ ended h none ok aside. h none ok (one-asks ended.machine.ledger.history aside)) c.with_clients.result c.with_clients.ensures.outside
+returns-clause-outside g c = IfOk-weaker c.with_clients.result _ _ (λ ended h none ok aside. h none ok (one-asks ended.machine.ledger.history aside)) c.with_clients.ensures.outside

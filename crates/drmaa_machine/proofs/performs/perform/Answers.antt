@@ -61,17 +61,17 @@ pub returns-in-CloseSession-clause-sparing : goal.returns-in-CloseSession-clause
 returns-in-CloseSession-clause-sparing c = plain _ _ _ _ _ _ c.in-CloseSession.is refl refl c.close.ensures.spare
 
 pub returns-in-RunJob-clause-comes : goal.returns-in-RunJob-clause-comes
-returns-in-RunJob-clause-comes c = as-asked _ _ _ _ _ _ (c.in-RunJob.is ∙ ap (λ t. call.RunJob c.in-RunJob.session t) (sym c.get.ensures)) c.run_job.ensures.comes
+returns-in-RunJob-clause-comes c = as-asked _ _ _ _ _ _ (c.in-RunJob.is ∙ ap (λ t. call.RunJob c.in-RunJob.session t) (sym c.get.ensures)) c.submit.ensures.comes
 
 pub returns-in-RunJob-clause-sparing : goal.returns-in-RunJob-clause-sparing
-returns-in-RunJob-clause-sparing c = unsparing _ _ _ _ _ _ c.in-RunJob.is refl refl refl c.run_job.ensures.unspent
+returns-in-RunJob-clause-sparing c = unsparing _ _ _ _ _ _ c.in-RunJob.is refl refl refl c.submit.ensures.unspent
 
 pub returns-in-RunBulk-clause-comes : goal.returns-in-RunBulk-clause-comes
 returns-in-RunBulk-clause-comes c =
-    as-asked _ _ _ _ _ _ (c.in-RunBulk.is ∙ ap (λ t. call.RunBulk c.in-RunBulk.session t c.in-RunBulk.indices) (sym c.get-in-RunBulk.ensures)) c.run_bulk.ensures.comes
+    as-asked _ _ _ _ _ _ (c.in-RunBulk.is ∙ ap (λ t. call.RunBulk c.in-RunBulk.session t c.in-RunBulk.indices) (sym c.get-in-RunBulk.ensures)) c.submit-in-RunBulk.ensures.comes
 
 pub returns-in-RunBulk-clause-sparing : goal.returns-in-RunBulk-clause-sparing
-returns-in-RunBulk-clause-sparing c = unsparing _ _ _ _ _ _ c.in-RunBulk.is refl refl refl c.run_bulk.ensures.unspent
+returns-in-RunBulk-clause-sparing c = unsparing _ _ _ _ _ _ c.in-RunBulk.is refl refl refl c.submit-in-RunBulk.ensures.unspent
 
 pub returns-in-GetJobs-clause-sparing : goal.returns-in-GetJobs-clause-sparing
 returns-in-GetJobs-clause-sparing c = plain _ _ _ _ _ _ c.in-GetJobs.is refl refl c.read-in-GetJobs.ensures.spare

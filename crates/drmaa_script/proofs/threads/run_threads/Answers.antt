@@ -9,14 +9,11 @@ use Rattle.script_commands.specs.Outcomes.{SpellsScript, IsScriptText}
 use Rattle.drmaa_script.specs.Runs.{RunIsWhole, IsRunEnd}
 use Rattle.script_commands.specs.Registers.{registers_of}
 use Rattle.script_commands.proofs.Kept.{kept_same}
-use Rattle.journal_commands.specs.StatusLaws.{unread_words, unread_reads, unread_written, unread_writes, unread_refused}
+use Rattle.journal_commands.specs.StatusLaws.{unread_words, unread_reads, unread_written, unread_writes, unread_refused, err_is}
 use Rattle.script_commands.proofs.Played.{unread_possible}
 use Rattle.drmaa_script.proofs.Ran.{unread_run, ran_ends, ran_no_fault, ran_whose, ran_callers, none_whose, unread_callers}
-use Rattle.script_commands.proofs.Somes.{some_both, some_all}
+use Rattle.journal_commands.proofs.Somes.{some_both, some_all}
 use Rattle.drmaa_script.proofs.threads.run_threads.Goals as goal
-
-err_is : (a b : Status) → a ≡ b → ◌≡◌ {A = Result Script Status} (Err a) (Err b)
-err_is a b e = ap (λ (x : Status). let r : Result Script Status = Err x in r) e
 
 pub returns-in-Ok-clause-ends : goal.returns-in-Ok-clause-ends
 returns-in-Ok-clause-ends g c =

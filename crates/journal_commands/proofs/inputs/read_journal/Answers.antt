@@ -1,12 +1,7 @@
-use Rattle.std.proofs.Common.{◌≡◌, List, ℕ, Bool, ◌≤◌, length, sym, subst, arith}
+use Rattle.std.proofs.Common.{◌≤◌, length, arith}
 use Rattle.std.proofs.lemmas.Option.{IfSome_then}
-use Rattle.byte_streams.specs.Streams.{ReadsUpTo}
-use Rattle.text_lines.specs.Lines.{IsFront}
-use Rattle.journal_commands.specs.FrontLaws.{front_of, own_front, read_as, short_as, refused_at, read_out}
+use Rattle.journal_commands.specs.FrontLaws.{front_as, own_front, read_as, short_as, refused_at, read_out}
 use Rattle.journal_commands.proofs.inputs.read_journal.Goals as goal
-
-front : (bytes read all : List ℕ) (whole : Bool) → read ≡ bytes → ReadsUpTo 268_435_456 all bytes whole → IsFront 268_435_456 all read whole
-front bytes read all whole e r = subst (λ b. IsFront 268_435_456 all b whole) (sym e) (front_of 268_435_456 all bytes whole r)
 
 pub returns-in-Ok-read_first_journal-clause-writable : goal.returns-in-Ok-read_first_journal-clause-writable
 returns-in-Ok-read_first_journal-clause-writable g c =
@@ -20,22 +15,22 @@ returns-in-Ok-read_first_journal-clause-writable g c =
 pub returns-in-Ok-read_first_journal-clause-found : goal.returns-in-Ok-read_first_journal-clause-found
 returns-in-Ok-read_first_journal-clause-found g c =
     IfSome_then (g.R.Source.left c.args.source.now) c.in-Ok.ensures.read (λ all r.
-    c.in-Ok-read_first_journal.ensures.found all (front c.in-Ok.input.bytes.items c.as_slice.result.now all c.in-Ok.input.whole c.as_slice.ensures.value r))
+    c.in-Ok-read_first_journal.ensures.found all (front_as 268_435_456 c.in-Ok.input.bytes.items c.as_slice.result.now all c.in-Ok.input.whole c.as_slice.ensures.value r))
 
 pub returns-in-Ok-read_first_journal-clause-only : goal.returns-in-Ok-read_first_journal-clause-only
 returns-in-Ok-read_first_journal-clause-only g c =
     IfSome_then (g.R.Source.left c.args.source.now) c.in-Ok.ensures.read (λ all r text t.
-    read_as c.in-Ok-read_first_journal.journal text (c.in-Ok-read_first_journal.ensures.only all text (front c.in-Ok.input.bytes.items c.as_slice.result.now all c.in-Ok.input.whole c.as_slice.ensures.value r) t))
+    read_as c.in-Ok-read_first_journal.journal text (c.in-Ok-read_first_journal.ensures.only all text (front_as 268_435_456 c.in-Ok.input.bytes.items c.as_slice.result.now all c.in-Ok.input.whole c.as_slice.ensures.value r) t))
 
 pub returns-clause-only : goal.returns-clause-only
 returns-clause-only g c =
     IfSome_then (g.R.Source.left c.args.source.now) c.in-Ok.ensures.read (λ all r text t.
-    short_as c.in-Err-read_first_journal.fault text c.status_of.result c.status_of.ensures (c.in-Err-read_first_journal.ensures.only all text (front c.in-Ok.input.bytes.items c.as_slice.result.now all c.in-Ok.input.whole c.as_slice.ensures.value r) t))
+    short_as c.in-Err-read_first_journal.fault text c.status_of.result c.status_of.ensures (c.in-Err-read_first_journal.ensures.only all text (front_as 268_435_456 c.in-Ok.input.bytes.items c.as_slice.result.now all c.in-Ok.input.whole c.as_slice.ensures.value r) t))
 
 pub returns-clause-line : goal.returns-clause-line
 returns-clause-line g c = λ n e.
     IfSome_then (g.R.Source.left c.args.source.now) c.in-Ok.ensures.read (λ all r.
-    c.in-Err-read_first_journal.ensures.line all n (front c.in-Ok.input.bytes.items c.as_slice.result.now all c.in-Ok.input.whole c.as_slice.ensures.value r) (refused_at c.in-Err-read_first_journal.fault c.status_of.result n c.status_of.ensures e))
+    c.in-Err-read_first_journal.ensures.line all n (front_as 268_435_456 c.in-Ok.input.bytes.items c.as_slice.result.now all c.in-Ok.input.whole c.as_slice.ensures.value r) (refused_at c.in-Err-read_first_journal.fault c.status_of.result n c.status_of.ensures e))
 
 pub returns-clause-read_out : goal.returns-clause-read_out
 returns-clause-read_out g c = λ n e.

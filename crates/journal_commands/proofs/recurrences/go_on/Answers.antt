@@ -3,12 +3,12 @@ use Rattle.drmaa_model.specs.declared.faults.NoEntry.{NoEntry}
 use Rattle.drmaa_model.specs.declared.replies.Reply.{Reply}
 use Rattle.journal_commands.specs.Recurring.{GoesOn}
 use Rattle.journal_commands.proofs.Going.{asked_on, not_opened, too_large}
-use Rattle.journal_commands.proofs.Somes.{ok_of}
+use Rattle.std.proofs.lemmas.Result.{IfOk-weaker}
 use Rattle.journal_commands.proofs.recurrences.go_on.Goals as goal
 
 pub returns-in-Some-clause-goes : goal.returns-in-Some-clause-goes
 returns-in-Some-clause-goes c =
-    ok_of c.full_after.result _ (λ (full : Option ℕ). GoesOn c.args.words c.args.machine.now.ledger full c.request_all.new.machine.ledger) (λ full is.
+    IfOk-weaker c.full_after.result _ (λ (full : Option ℕ). GoesOn c.args.words c.args.machine.now.ledger full c.request_all.new.machine.ledger) (λ full is.
     asked_on c.args.words c.args.machine.now.ledger c.apply.new.self.ledger c.request_all.new.machine.ledger c.moment-at.result c.in-Ok.reply c.in-Some.session c.recurring_of-recurring.result c.request_all.result full
     c.moment-at.ensures c.recurring_of-recurring.ensures c.in-Some.ensures.found c.in-Ok.ensures.entry c.request_all.ensures.answer is) c.full_after.ensures
 

@@ -1,11 +1,33 @@
-use Rattle.std.proofs.Common.{sym}
+use Rattle.std.proofs.Common.{sym, ap, arith}
 use Rattle.drmaa_model.specs.declared.calls.Call.TheVariants as call
-use Rattle.machine_readings.specs.Stores.{world_at}
-use Rattle.machine_calls.proofs.Firsts.{reap-first}
+use Rattle.machine_readings.specs.Stores.{world_at, world_of}
+use Rattle.machine_calls.proofs.Firsts.{reap-first, reap-through}
+use Rattle.std.specs.Prelude.{◌+◌}
+use Rattle.drmaa_model.specs.Controlling.{reap}
+use Rattle.drmaa_model.specs.Effects.{unit}
+use Rattle.scheduler_core.specs.View.{View}
+use Rattle.machine_calls.proofs.Outcomes.{reap-outcome}
+use Rattle.machine_calls.proofs.Placed.{comes-after, due-after, place-after}
+use Rattle.machine_calls.proofs.Spares.{operation-spare}
 use Rattle.machine_calls.proofs.operations.reap.Goals as goal
 
 pub returns-in-Some-clause-comes : goal.returns-in-Some-clause-comes
 returns-in-Some-clause-comes c = c.refuse.ensures.comes (call.Reap c.args.session c.args.target) (reap-first c.args.session c.args.target (world_at c.args.at c.args.store.now) c.in-Some.why (sym (c.in-Some.ensures {u = tt})))
 
-pub reap_own-requires-clause-own : goal.reap_own-requires-clause-own
-reap_own-requires-clause-own c = sym (c.in-None.ensures {u = tt})
+pub returns-in-None-clause-comes : goal.returns-in-None-clause-comes
+returns-in-None-clause-comes c =
+    comes-after unit (reap c.args.target) c.args.store.now c.limit_for-limit.new.store c.args.at (call.Reap c.args.session c.args.target) (reap-through c.args.session c.args.target c.args.at (world_at c.args.at c.args.store.now) (sym (c.in-None.ensures {u = tt}))) c.limit_for-limit.result c.reap-done.new.self.plan c.reap-done.result c.conclude.result (world_of c.conclude.new.store)
+    c.limit_for-limit.ensures.world c.limit_for-limit.ensures.placed c.reap-done.ensures.meets c.conclude.ensures.concludes (λ sized e. c.reap-done.ensures.memory e)
+
+pub returns-in-None-clause-place : goal.returns-in-None-clause-place
+returns-in-None-clause-place c =
+    place-after unit (reap c.args.target) c.args.store.now c.limit_for-limit.new.store c.args.at (call.Reap c.args.session c.args.target) (reap-through c.args.session c.args.target c.args.at (world_at c.args.at c.args.store.now) (sym (c.in-None.ensures {u = tt}))) c.limit_for-limit.result c.reap-done.new.self.plan c.reap-done.result c.conclude.result (world_of c.conclude.new.store)
+    c.limit_for-limit.ensures.world c.limit_for-limit.ensures.placed c.reap-done.ensures.meets c.conclude.ensures.concludes c.conclude.new.store c.limit_for-limit.ensures.place (reap-outcome c.args.target (c.args.store.now.entries + 1)) c.requires.kept.consistent.fit
+    c.conclude.ensures.keeps.len c.conclude.ensures.keeps.more (ap (λ (v : View). v.plan) c.conclude.ensures.core)
+
+pub returns-in-None-clause-spare : goal.returns-in-None-clause-spare
+returns-in-None-clause-spare c =
+    (let due = due-after unit (reap c.args.target) c.args.store.now c.limit_for-limit.new.store c.args.at (call.Reap c.args.session c.args.target) (reap-through c.args.session c.args.target c.args.at (world_at c.args.at c.args.store.now) (sym (c.in-None.ensures {u = tt}))) c.limit_for-limit.result c.reap-done.new.self.plan c.reap-done.result c.conclude.result (world_of c.conclude.new.store)
+    c.limit_for-limit.ensures.world c.limit_for-limit.ensures.placed c.reap-done.ensures.meets c.conclude.ensures.concludes (reap-outcome c.args.target (c.args.store.now.entries + 1)) c.requires.kept.consistent.fit in
+    let same = c.reap-done.ensures.spare in
+    operation-spare c.args.store.now c.limit_for-limit.new.store c.conclude.new.store c.reap-done.new.self c.limit_for-limit.ensures.keeps c.limit_for-limit.ensures.core c.conclude.ensures.core c.conclude.ensures.keeps.len c.conclude.ensures.keeps.more due (omega (arith, same)))

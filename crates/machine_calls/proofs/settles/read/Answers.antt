@@ -1,10 +1,14 @@
-use Rattle.std.proofs.Common.{refl}
+use Rattle.std.proofs.Common.{refl, arith}
 use Rattle.machine_readings.specs.Stores.{world_of}
-use Rattle.machine_calls.proofs.Sizes.{planned, full-of, reading-plain}
+use Rattle.machine_calls.proofs.Sizes.{planned, hindered, reading-plain}
 use Rattle.machine_calls.proofs.settles.read.Goals as goal
+
+pub returns-in-Ok-clause-comes : goal.returns-in-Ok-clause-comes
+returns-in-Ok-clause-comes c = c.settle.ensures.comes c.args.call.now (c.in-Ok.ensures {u = tt}).reply
 
 pub returns-in-Err-clause-comes : goal.returns-in-Err-clause-comes
 returns-in-Err-clause-comes c =
     (let w = world_of c.args.store.now in
     let asked = c.args.call.now in
-    full-of w w c.args.at asked c.in-Err.full (planned w c.args.at asked c.requires.kept.consistent (reading-plain asked c.requires.reading)) (c.in-Err.ensures {u = tt}).err (c.in-Err.ensures {u = tt}).above refl)
+    let size = c.size_with.ensures in
+    hindered w w c.args.at asked c.size_with.result c.hindrance.result (planned w c.args.at asked c.requires.kept.consistent (reading-plain asked c.requires.reading)) (omega (arith, size)) c.hindrance.ensures.full c.hindrance.ensures.short refl)

@@ -10,34 +10,34 @@ pub returns-in-Ok-clause-order : goal.returns-in-Ok-clause-order
 returns-in-Ok-clause-order c =
     let xs = c.args.spans.now.items in
     let i = c.in-Ok.place in
-    subst (λ (s : Span). IsRising span_number (set xs i s)) (sym c.widened.ensures) (widen-rising c.args.array c.args.job xs i c.index.result.now c.requires (c.in-Ok.ensures {u = tt}).found c.index.ensures)
+    subst (λ (s : Span). IsRising span_number (set xs i s)) (sym c.widened.ensures) (widen-rising c.args.group c.args.job xs i c.index.result.now c.requires (c.in-Ok.ensures {u = tt}).found c.index.ensures)
 
 pub returns-in-Ok-clause-keeps : goal.returns-in-Ok-clause-keeps
 returns-in-Ok-clause-keeps c = λ other number there.
     (let xs = c.args.spans.now.items in
     let i = c.in-Ok.place in
-    subst (λ (s : Span). IsInSpan other number (set xs i s)) (sym c.widened.ensures) (widen-keeps c.args.array c.args.job xs i c.index.result.now c.requires (c.in-Ok.ensures {u = tt}).found c.index.ensures other number there))
+    subst (λ (s : Span). IsInSpan other number (set xs i s)) (sym c.widened.ensures) (widen-keeps c.args.group c.args.job xs i c.index.result.now c.requires (c.in-Ok.ensures {u = tt}).found c.index.ensures other number there))
 
 pub returns-in-Ok-clause-member : goal.returns-in-Ok-clause-member
 returns-in-Ok-clause-member c = λ e.
     (let xs = c.args.spans.now.items in
     let i = c.in-Ok.place in
-    subst (λ (s : Span). IsInSpan c.args.array c.args.job (set xs i s)) (sym c.widened.ensures) (widen-has c.args.array c.args.job xs i c.index.result.now c.requires (c.in-Ok.ensures {u = tt}).found c.index.ensures))
+    subst (λ (s : Span). IsInSpan c.args.group c.args.job (set xs i s)) (sym c.widened.ensures) (widen-has c.args.group c.args.job xs i c.index.result.now c.requires (c.in-Ok.ensures {u = tt}).found c.index.ensures))
 
 pub returns-in-Err-clause-order : goal.returns-in-Err-clause-order
 returns-in-Err-clause-order c =
     let xs = c.args.spans.now.items in
     let place = c.in-Err.ensures {u = tt} in
-    subst (IsRising span_number) (sym c.insert.ensures.items) (insert-order c.args.array c.args.job xs c.in-Err.place c.span_at.result c.span_at.ensures place.absent c.requires place.below place.above (is_ok c.insert.result))
+    subst (IsRising span_number) (sym c.insert.ensures.items) (insert-order c.args.group c.args.job xs c.in-Err.place c.span_at.result c.span_at.ensures place.absent c.requires place.below place.above (is_ok c.insert.result))
 
 pub returns-in-Err-clause-keeps : goal.returns-in-Err-clause-keeps
 returns-in-Err-clause-keeps c = λ other number there.
     (let xs = c.args.spans.now.items in
     let place = c.in-Err.ensures {u = tt} in
-    subst (IsInSpan other number) (sym c.insert.ensures.items) (insert-keeps c.args.array c.args.job xs c.in-Err.place c.span_at.result c.span_at.ensures place.absent other number there (is_ok c.insert.result)))
+    subst (IsInSpan other number) (sym c.insert.ensures.items) (insert-keeps c.args.group c.args.job xs c.in-Err.place c.span_at.result c.span_at.ensures place.absent other number there (is_ok c.insert.result)))
 
 pub returns-in-Err-clause-member : goal.returns-in-Err-clause-member
 returns-in-Err-clause-member c = λ e.
     (let xs = c.args.spans.now.items in
     let place = c.in-Err.ensures {u = tt} in
-    subst (IsInSpan c.args.array c.args.job) (sym c.insert.ensures.items) (insert-has c.args.array c.args.job xs c.in-Err.place c.span_at.result c.span_at.ensures place.absent (is_ok c.insert.result) (sym c.is_ok.ensures.value ∙ e)))
+    subst (IsInSpan c.args.group c.args.job) (sym c.insert.ensures.items) (insert-has c.args.group c.args.job xs c.in-Err.place c.span_at.result c.span_at.ensures place.absent (is_ok c.insert.result) (sym c.is_ok.ensures.value ∙ e)))

@@ -1,19 +1,16 @@
-use Rattle.std.proofs.Common.{◌≡◌, ◌⊎◌, length, Result, Err, inl, inr, ap, subst}
+use Rattle.std.proofs.Common.{◌≡◌, ◌⊎◌, length, Result, Err, inl, inr, subst}
 use Rattle.std.proofs.lemmas.Option.{IfSome_then}
 use Rattle.continued_text.specs.Texts.{Spells, IsContinued, byte_limit}
 use Rattle.continued_text.specs.declared.texts.Continued.{Continued}
 use Rattle.text_lines.specs.Lines.{IsFirstBad}
 use Rattle.journal_commands.specs.declared.status.Status.{Status}
 use Rattle.journal_commands.specs.declared.status.Status.TheVariants.{Text, ReadFault, Memory}
-use Rattle.journal_commands.specs.StatusLaws.{unread_words, unread_reads, unread_written, unread_writes, unread_refused}
+use Rattle.journal_commands.specs.StatusLaws.{unread_words, unread_reads, unread_written, unread_writes, unread_refused, err_is}
 use Rattle.script_commands.specs.Continuing.{ContinueEnds, ContinueIsWhole, Continues}
 use Rattle.script_commands.proofs.Kept.{kept_same}
-use Rattle.script_commands.proofs.Somes.{some_both, some_all}
+use Rattle.journal_commands.proofs.Somes.{some_both, some_all}
 use Rattle.script_commands.proofs.Went.{text_ends, ends_no_fault, unread_continues}
 use Rattle.script_commands.proofs.continues.run_continue.Goals as goal
-
-err_is : (a b : Status) → a ≡ b → ◌≡◌ {A = Result Continued Status} (Err a) (Err b)
-err_is a b e = ap (λ (x : Status). let r : Result Continued Status = Err x in r) e
 
 pub returns-in-Ok-clause-ends : goal.returns-in-Ok-clause-ends
 returns-in-Ok-clause-ends g c =

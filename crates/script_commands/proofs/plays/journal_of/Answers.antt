@@ -4,7 +4,7 @@ use Rattle.drmaa_model.specs.declared.configs.Config.{Config}
 use Rattle.drmaa_model.specs.declared.entries.Entry.{Entry}
 use Rattle.journal_text.specs.Journals.{IsWritable, journal_text}
 use Rattle.journal_text.specs.Printing.{IsPrintable}
-use Rattle.script_commands.proofs.Somes.{ok_both, on_both}
+use Rattle.journal_commands.proofs.Somes.{ok_both, on_both}
 use Rattle.script_commands.proofs.plays.journal_of.Goals as goal
 
 -- what holds of a machine and its history holds of what is printed

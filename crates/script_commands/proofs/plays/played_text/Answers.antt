@@ -11,7 +11,7 @@ use Rattle.script_commands.specs.declared.plays.PlayText.{PlayText}
 use Rattle.script_commands.specs.Outcomes.{HasJournal}
 use Rattle.script_commands.specs.Plays.{play_behind, ledger_text, own_text, own_behind, text_behind, IsWrittenBy}
 use Rattle.script_commands.proofs.Played.{text_is}
-use Rattle.script_commands.proofs.Somes.{ok_of}
+use Rattle.std.proofs.lemmas.Result.{IfOk-weaker}
 use Rattle.script_commands.proofs.plays.played_text.Goals as goal
 
 on_err : {A E : Type 0} (r : Result A E) (P : Type 0) → P → OnErr r P
@@ -32,12 +32,12 @@ returns-clause-text g c =
     let after = c.in_ok-played.played.machine.ledger in
     let full = c.in_ok-played.played.full in
     let same = text_is c.args.output after before s full c.in_ok-played.ensures.ledger c.in_ok-played.ensures.world c.in_ok-played.ensures.full in
-    ok_of c.text_of.result (λ (t : PlayText). t.bytes ≡ choose full (λ (size : ℕ). ledger_text after) (own_text c.args.output after)) (λ (t : PlayText). t.bytes ≡ text_behind (own_behind c.args.output before s) before s)
+    IfOk-weaker c.text_of.result (λ (t : PlayText). t.bytes ≡ choose full (λ (size : ℕ). ledger_text after) (own_text c.args.output after)) (λ (t : PlayText). t.bytes ≡ text_behind (own_behind c.args.output before s) before s)
     (λ t e. e ∙ same) c.text_of.ensures.text
 
 pub returns-clause-full : goal.returns-clause-full
 returns-clause-full g c =
-    ok_of c.text_of.result (λ (t : PlayText). t.full ≡ c.in_ok-played.played.full) (λ (t : PlayText). t.full ≡ (play_behind c.args.machine.ledger c.args.script.now).full)
+    IfOk-weaker c.text_of.result (λ (t : PlayText). t.full ≡ c.in_ok-played.played.full) (λ (t : PlayText). t.full ≡ (play_behind c.args.machine.ledger c.args.script.now).full)
     (λ t e. e ∙ c.in_ok-played.ensures.full) c.text_of.ensures.full
 
 pub returns-clause-writable : goal.returns-clause-writable

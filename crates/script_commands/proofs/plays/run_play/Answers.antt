@@ -1,4 +1,4 @@
-use Rattle.std.proofs.Common.{◌≡◌, length, Result, Err, ◌⊎◌, inl, inr, refl, ap, subst}
+use Rattle.std.proofs.Common.{◌≡◌, length, Result, Err, ◌⊎◌, inl, inr, refl, subst}
 use Rattle.std.proofs.lemmas.Option.{IfSome_then}
 use Rattle.script_asks.specs.Plays.{serial_play}
 use Rattle.script_play.specs.Callbacks.{HearHistory, HearFront}
@@ -11,13 +11,10 @@ use Rattle.script_commands.specs.Outcomes.{SpellsScript, IsScriptText, IsWritten
 use Rattle.script_commands.specs.Plays.{new_machine}
 use Rattle.script_commands.specs.Registers.{end_of}
 use Rattle.script_commands.proofs.Kept.{kept_same, same_front}
-use Rattle.journal_commands.specs.StatusLaws.{unread_words, unread_reads, unread_written, unread_writes, unread_refused}
+use Rattle.journal_commands.specs.StatusLaws.{unread_words, unread_reads, unread_written, unread_writes, unread_refused, err_is}
 use Rattle.script_commands.proofs.Played.{played_ends, read_no_fault, unread_ends, unread_play, unread_played, unread_possible}
-use Rattle.script_commands.proofs.Somes.{some_both, some_all}
+use Rattle.journal_commands.proofs.Somes.{some_both, some_all}
 use Rattle.script_commands.proofs.plays.run_play.Goals as goal
-
-err_is : (a b : Status) → a ≡ b → ◌≡◌ {A = Result Script Status} (Err a) (Err b)
-err_is a b e = ap (λ (x : Status). let r : Result Script Status = Err x in r) e
 
 pub returns-in-Ok-clause-whole : goal.returns-in-Ok-clause-whole
 returns-in-Ok-clause-whole g c = λ calm quiet.

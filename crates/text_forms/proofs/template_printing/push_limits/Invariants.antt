@@ -2,7 +2,7 @@ use Rattle.std.proofs.Common.{◌≡◌, ◌++◌, drop, map}
 use Rattle.std.specs.List.{AllByRecursion}
 use Rattle.drmaa_model.specs.KeptCalls.{kept_limit}
 use Rattle.text_codec.specs.Formats.{spell_each}
-use Rattle.text_words.specs.TemplateParts.{resource_limit}
+use Rattle.text_codec.specs.TemplateParts.{resource_limit}
 use Rattle.text_forms.proofs.template_printing.push_limits.Given as goal
 
 -- what was printed, with what will be, is all of it; and where the limits left are in their ranges, all are

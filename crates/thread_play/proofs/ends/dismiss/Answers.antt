@@ -1,4 +1,5 @@
-use Rattle.std.proofs.Common.{rules, ◌≡◌, ◌∙◌, ap, sym, subst, set, refl, Some, arith, length, ◌++◌, ◌∷◌, [], List, map, append_assoc, append-nil}
+use Rattle.std.proofs.Common.{rules, ◌≡◌, ◌∙◌, ap, sym, subst, set, Some, arith, length, ◌++◌, ◌∷◌, [], List, map, append_assoc, append-nil}
+use Rattle.std.proofs.lemmas.List.{nil_from_length}
 use Rattle.std.specs.Vec.Iter.{into_iter_items, into_iter_len}
 use Rattle.call_history.specs.Clients.{Seat, retired_of, number_of, mine_of}
 use Rattle.thread_play.specs.declared.workers.Worker.{Worker}
@@ -47,12 +48,8 @@ loop-worker-preserved g c =
       search rules,
     )
 
-none-left : {X : Type 0} (xs : List X) → length xs ≡ 0 → xs ≡ []
-none-left [] h = refl
-none-left (x ∷ xs) h = absurd (omega arith)
-
 pub returns-clause-clocks : goal.returns-clause-clocks
 returns-clause-clocks g c =
     let i = c.loop-worker.invariant in
-    let none : into_iter_items c.loop-worker.worker-iterator ≡ [] = none-left (into_iter_items c.loop-worker.worker-iterator) (i.2 ∙ c.in-None.ensures.steps.0) in
+    let none : into_iter_items c.loop-worker.worker-iterator ≡ [] = nil_from_length (into_iter_items c.loop-worker.worker-iterator) (i.2 ∙ c.in-None.ensures.steps.0) in
     sym (append-nil c.loop-worker.clocks.items) ∙ (ap (λ (l : List (Worker g.row.C.Denot)). c.loop-worker.clocks.items ++ map (λ (w : Worker g.row.C.Denot). w.clock) l) (sym none) ∙ i.4)

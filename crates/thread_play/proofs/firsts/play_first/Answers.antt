@@ -9,9 +9,9 @@ use Rattle.notify_hub.specs.Hubs.{IsNoteOf}
 use Rattle.notify_hub.specs.Places.{HavePlaces}
 use Rattle.script_text.specs.Follows.{lines_of}
 use Rattle.script_asks.specs.Plays.{setup_names}
-use Rattle.thread_play.specs.Hubs.{FollowsAll}
+use Rattle.beside_clients.specs.Passes.{FollowsAll}
 use Rattle.thread_play.specs.Stages.{PlaysOn}
-use Rattle.thread_play.proofs.Beginnings.{alone, none-before}
+use Rattle.beside_clients.proofs.Beginnings.{alone, none-before}
 use Rattle.thread_play.proofs.Blocks.{plays-on, names-of}
 use Rattle.thread_play.proofs.Posts.{none-timed}
 use Rattle.thread_play.proofs.firsts.play_first.Goals as goal

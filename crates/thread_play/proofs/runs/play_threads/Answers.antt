@@ -11,7 +11,8 @@ use Rattle.thread_play.specs.Stages.{PlaysOn}
 use Rattle.thread_play.specs.Others.{Others, OthersHeard}
 use Rattle.thread_play.specs.Runs.{HasRun}
 use Rattle.thread_play.proofs.Hearing.{NoneRegisters}
-use Rattle.thread_play.proofs.Whole.{Laws, IsClosed, none-left, has-run, stopped-first, heard-run, stopped-heard}
+use Rattle.beside_clients.proofs.Outside.{IsClosed}
+use Rattle.thread_play.proofs.Whole.{Laws, none-left, has-run, stopped-first, heard-run, stopped-heard}
 use Rattle.thread_play.proofs.runs.play_threads.Goals as goal
 
 pub new-requires-clause-least_slots : goal.new-requires-clause-least_slots

@@ -1,4 +1,4 @@
-use Rattle.std.proofs.Common.{◌≡◌, ◌⊎◌, Result, Err, inl, inr, ap, subst}
+use Rattle.std.proofs.Common.{◌≡◌, ◌⊎◌, Result, Err, inl, inr, subst}
 use Rattle.std.proofs.lemmas.Option.{IfSome_then}
 use Rattle.journal_text.specs.Journals as journals
 use Rattle.journal_text.specs.declared.journals.Journal.{Journal}
@@ -6,7 +6,7 @@ use Rattle.text_lines.specs.Lines.{IsFirstBad}
 use Rattle.journal_commands.specs.declared.status.Status.{Status}
 use Rattle.journal_commands.specs.declared.status.Status.TheVariants.{Text, ReadFault, Memory}
 use Rattle.journal_commands.specs.Outcomes.{JournalIsWhole}
-use Rattle.journal_commands.specs.StatusLaws.{unread_words, unread_reads, unread_written, unread_writes, unread_refused}
+use Rattle.journal_commands.specs.StatusLaws.{unread_words, unread_reads, unread_written, unread_writes, unread_refused, err_is}
 use Rattle.journal_commands.specs.Texts.{IsJournalText}
 use Rattle.journal_commands.specs.Commands.{OfLegal, RefusesFault, Judged, ledger_of}
 use Rattle.journal_commands.specs.Statuses.{IsUnread}
@@ -15,9 +15,6 @@ use Rattle.view_commands.proofs.Judged.{verdict_told}
 use Rattle.journal_commands.proofs.Ends.{made_ends, made_no_fault, decided, unread_journal}
 use Rattle.journal_commands.proofs.Somes.{some_both, some_all}
 use Rattle.view_commands.proofs.running.run_view.Goals as goal
-
-err_is : (a b : Status) → a ≡ b → ◌≡◌ {A = Result Journal Status} (Err a) (Err b)
-err_is a b e = ap (λ (x : Status). let r : Result Journal Status = Err x in r) e
 
 pub returns-in-Ok-clause-ends : goal.returns-in-Ok-clause-ends
 returns-in-Ok-clause-ends g c =

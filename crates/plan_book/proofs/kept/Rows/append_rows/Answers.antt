@@ -45,6 +45,6 @@ invariant_of-self c =
       text = same-room (kept_text xs + kept_text more) (kept_text c.append_rows.new.self.items) c.room_with-self-inside.result
           (ap kept_text c.append_rows.ensures ∙ sum_by-append (λ (row : Row). text_length row.template) xs more) (c.room_with-self-inside.ensures (kept_text xs) c.self.invariant.text);
       members = subst (λ (rows : List Row). AreSpanned rows c.put_rows.new.self) (sym c.append_rows.ensures)
-          (spanned-append xs more c.self.inside.spans c.put_rows.new.self c.self.invariant.members c.put_rows.ensures.order c.put_rows.ensures.keeps
+          (spanned-append xs more c.self.inside.spans c.put_rows.new.self c.self.invariant.members c.put_rows.ensures.order c.put_rows.ensures.arrays c.put_rows.ensures.homes
           (subst (AllByRecursion (IsSpanned c.put_rows.new.self)) c.deref-2.ensures.value c.put_rows.ensures.members));
     }

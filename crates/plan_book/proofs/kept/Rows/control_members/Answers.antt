@@ -7,7 +7,6 @@ use Rattle.drmaa_model.specs.declared.calls.Target.{Target}
 use Rattle.drmaa_model.specs.declared.calls.Target.TheVariants as target
 use Rattle.drmaa_model.specs.declared.rows.Row.{Row}
 use Rattle.drmaa_model.specs.Controlling.{control_step}
-use Rattle.drmaa_model.specs.ControlLaws.{control-job, control-wants}
 use Rattle.drmaa_model.specs.Submitting.{kept_text}
 use Rattle.plan_book.specs.declared.sums.Sums.{Sums}
 use Rattle.plan_book.specs.Meant.{NoneMeant}
@@ -17,7 +16,7 @@ use Rattle.plan_book.specs.Spans.{AreSpanned}
 use Rattle.plan_book.specs.Sums.{AreSums, AreAmong, AreFew, with_others, without_others}
 use Rattle.plan_book.proofs.OpenLaws.{settled-step, greatest-step}
 use Rattle.plan_book.proofs.PartLaws.{step-parts, part-among, part-exchanged, few-without}
-use Rattle.plan_book.proofs.SpanLaws.{spanned-map}
+use Rattle.plan_book.proofs.SpanLaws.{spanned-step}
 use Rattle.plan_book.proofs.SumLaws.{sums-few}
 use Rattle.plan_book.proofs.TextLaws.{same-room, text-step}
 use Rattle.plan_book.proofs.kept.Rows.control_members.Goals as goal
@@ -116,7 +115,7 @@ invariant_of-self c =
       settled = subst (AreSettled c.settled_from-self-inside.result) c.rows-3.ensures c.settled_from-self-inside.ensures.settled;
       greatest = subst (λ (rows : List Row). IsPriorityBound rows c.self.inside.greatest) (sym is) (greatest-step c.args.moment t c.args.what xs c.self.inside.greatest c.self.invariant.greatest);
       text = same-room (kept_text xs) (kept_text new) c.self.inside.room (ap kept_text is ∙ text-step c.args.moment t c.args.what xs) c.self.invariant.text;
-      members = subst (λ (rows : List Row). AreSpanned rows c.self.inside.spans) (sym is) (spanned-map step (control-job c.args.moment t c.args.what) (control-wants c.args.moment t c.args.what) xs c.self.inside.spans c.self.invariant.members);
+      members = subst (λ (rows : List Row). AreSpanned rows c.self.inside.spans) (sym is) (spanned-step c.args.moment t c.args.what xs c.self.inside.spans c.self.invariant.members);
     }
 
 pub returns : goal.returns

@@ -7,7 +7,7 @@ use Rattle.plan_book.specs.Settled.{AreSettled}
 use Rattle.plan_book.specs.Spans.{AreSpanned}
 use Rattle.plan_book.specs.Sums.{AreSums}
 use Rattle.plan_book.proofs.OpenLaws.{settled-map, greatest-map}
-use Rattle.plan_book.proofs.SpanLaws.{spanned-map}
+use Rattle.plan_book.proofs.SpanLaws.{spanned-left}
 use Rattle.plan_book.proofs.SumLaws.{sums-map}
 use Rattle.plan_book.proofs.TextLaws.{same-room, text-map}
 use Rattle.plan_book.proofs.kept.Rows.leave_rows.Goals as goal
@@ -21,5 +21,5 @@ invariant_of-self c =
       settled = subst (AreSettled c.self.inside.settled) (sym c.leave_rows.ensures) (settled-map left (λ row settled. settled) was c.self.inside.settled c.self.invariant.settled);
       greatest = subst (λ (rows : List Row). IsPriorityBound rows c.self.inside.greatest) (sym c.leave_rows.ensures) (greatest-map left (λ row. refl) was c.self.inside.greatest c.self.invariant.greatest);
       text = same-room (kept_text was) (kept_text c.leave_rows.new.self.items) c.self.inside.room (ap kept_text c.leave_rows.ensures ∙ text-map left (λ row. refl) was) c.self.invariant.text;
-      members = subst (λ (rows : List Row). AreSpanned rows c.self.inside.spans) (sym c.leave_rows.ensures) (spanned-map left (λ row. refl) (λ row. refl) was c.self.inside.spans c.self.invariant.members);
+      members = subst (λ (rows : List Row). AreSpanned rows c.self.inside.spans) (sym c.leave_rows.ensures) (spanned-left c.args.home was c.self.inside.spans c.self.invariant.members);
     }

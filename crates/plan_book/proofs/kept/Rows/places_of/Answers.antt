@@ -10,13 +10,16 @@ use Rattle.plan_book.proofs.OpenLaws.{all-take, all-drop}
 use Rattle.plan_book.proofs.SpanLaws.{none-before, none-behind}
 use Rattle.plan_book.proofs.kept.Rows.places_of.Goals as goal
 
+pub numbers_of-requires : goal.numbers_of-requires
+numbers_of-requires c = c.self.invariant.members.order.arrays
+
 pub returns-in-Some-clause-before : goal.returns-in-Some-clause-before
 returns-in-Some-clause-before c =
     let xs = c.self.inside.list.items in
     let n = c.places_within.result.from in
     let spans = c.self.inside.spans in
     subst (λ (v : Vec Row). NoneMeant (target.Array c.args.array) (take n v.items)) c.self.view_is
-    (none-before c.args.array spans c.in-Some.span.first c.in-Some.span.last (c.in-Some.ensures {u = tt}) (take n xs) (all-take (IsSpanned spans) xs n c.self.invariant.members.members) (subst (λ (rows : List Row). AllByRecursion (λ (row : Row). row.job.0 < c.in-Some.span.first) (take n rows)) c.rows.ensures c.places_within.ensures.before))
+    (none-before c.args.array spans c.in-Some.range.first c.in-Some.range.last (c.in-Some.ensures {u = tt}) (take n xs) (all-take (IsSpanned spans) xs n c.self.invariant.members.members) (subst (λ (rows : List Row). AllByRecursion (λ (row : Row). row.job.0 < c.in-Some.range.first) (take n rows)) c.rows.ensures c.places_within.ensures.before))
 
 pub returns-in-Some-clause-behind : goal.returns-in-Some-clause-behind
 returns-in-Some-clause-behind c =
@@ -24,7 +27,7 @@ returns-in-Some-clause-behind c =
     let n = c.places_within.result.until in
     let spans = c.self.inside.spans in
     subst (λ (v : Vec Row). NoneMeant (target.Array c.args.array) (drop n v.items)) c.self.view_is
-    (none-behind c.args.array spans c.in-Some.span.first c.in-Some.span.last (c.in-Some.ensures {u = tt}) (drop n xs) (all-drop (IsSpanned spans) xs n c.self.invariant.members.members) (subst (λ (rows : List Row). AllByRecursion (λ (row : Row). c.in-Some.span.last < row.job.0) (drop n rows)) c.rows.ensures c.places_within.ensures.behind))
+    (none-behind c.args.array spans c.in-Some.range.first c.in-Some.range.last (c.in-Some.ensures {u = tt}) (drop n xs) (all-drop (IsSpanned spans) xs n c.self.invariant.members.members) (subst (λ (rows : List Row). AllByRecursion (λ (row : Row). c.in-Some.range.last < row.job.0) (drop n rows)) c.rows.ensures c.places_within.ensures.behind))
 
 pub returns-in-None-clause-behind : goal.returns-in-None-clause-behind
 returns-in-None-clause-behind c =

@@ -6,7 +6,7 @@ use Rattle.drmaa_model.specs.declared.courses.Order.{Order}
 use Rattle.drmaa_model.specs.declared.reservations.Accepted.{Accepted}
 use Rattle.drmaa_model.specs.declared.rows.Row.{Row}
 use Rattle.drmaa_model.specs.Submitting.{kept_text}
-use Rattle.drmaa_model.specs.TimeLaws.{timed, timed-only, timed-wants}
+use Rattle.drmaa_model.specs.TimeLaws.{timed}
 use Rattle.plan_book.specs.Open.{IsPriorityBound}
 use Rattle.plan_book.specs.Passes.{ends, kills_then}
 use Rattle.plan_book.specs.Quiet.{IsLeftUntil}
@@ -15,7 +15,7 @@ use Rattle.plan_book.specs.Spans.{AreSpanned}
 use Rattle.plan_book.specs.Sums.{AreSums}
 use Rattle.plan_book.proofs.OpenLaws.{settled-timed, greatest-timed}
 use Rattle.plan_book.proofs.SettledLaws.{ends-behind, kills-behind, timed-behind, left-behind, sums-behind}
-use Rattle.plan_book.proofs.SpanLaws.{spanned-map}
+use Rattle.plan_book.proofs.SpanLaws.{spanned-timed}
 use Rattle.plan_book.proofs.TextLaws.{same-room, text-timed}
 use Rattle.plan_book.proofs.kept.Rows.sweep_rows.Goals as goal
 
@@ -57,8 +57,7 @@ invariant_of-self c =
       settled = subst (AreSettled c.settled_from-self-inside.result) c.rows.ensures c.settled_from-self-inside.ensures.settled;
       greatest = subst (λ (rows : List Row). IsPriorityBound rows c.self.inside.greatest) (sym is) (greatest-timed m rs xs c.self.inside.greatest c.self.invariant.greatest);
       text = same-room (kept_text xs) (kept_text new) c.self.inside.room (ap kept_text is ∙ text-timed m rs xs) c.self.invariant.text;
-      members = subst (λ (rows : List Row). AreSpanned rows c.self.inside.spans) (sym is)
-          (spanned-map (timed m rs) (λ row. ap (λ (x : Row). x.job) (timed-only m rs row)) (timed-wants m rs) xs c.self.inside.spans c.self.invariant.members);
+      members = subst (λ (rows : List Row). AreSpanned rows c.self.inside.spans) (sym is) (spanned-timed m rs xs c.self.inside.spans c.self.invariant.members);
     }
 
 pub settled_from-self-inside-requires : goal.settled_from-self-inside-requires

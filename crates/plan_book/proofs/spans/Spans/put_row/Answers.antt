@@ -1,13 +1,13 @@
-use Rattle.std.proofs.Common.{◌≡◌, subst}
-use Rattle.drmaa_types.specs.declared.identifiers.ArrayId.{ArrayId}
-use Rattle.plan_book.specs.Spans.{IsWithin}
 use Rattle.plan_book.proofs.spans.Spans.put_row.Goals as goal
 
-pub returns-in-Some-clause-member : goal.returns-in-Some-clause-member
-returns-in-Some-clause-member c = λ array is.
-    (let own = c.in-Some.is in
-    let same : c.in-Some.array ≡ array = cc in
-    subst (λ (a : ArrayId). IsWithin a.0 c.args.row.now.job.0 c.put_member.new.self) same c.put_member.ensures.member)
+pub put_in_array-requires : goal.put_in_array-requires
+put_in_array-requires c = c.requires.arrays
 
-pub returns-in-None-clause-member : goal.returns-in-None-clause-member
-returns-in-None-clause-member c = λ array is. (let own = c.in-None.is in absurd (cc))
+pub put_in_home-requires : goal.put_in_home-requires
+put_in_home-requires c = c.requires.homes
+
+pub returns-clause-order : goal.returns-clause-order
+returns-clause-order c = record { arrays = c.put_in_array.ensures.order; homes = c.put_in_home.ensures.order }
+
+pub returns-clause-member : goal.returns-clause-member
+returns-clause-member c = record { array = c.put_in_array.ensures.member; home = c.put_in_home.ensures.member }

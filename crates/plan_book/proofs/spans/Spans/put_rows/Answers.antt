@@ -2,6 +2,7 @@ use Rattle.std.proofs.Common.{take}
 use Rattle.drmaa_model.specs.RowLaws.{all-implied}
 use Rattle.plan_book.specs.Spans.{IsSpanned}
 use Rattle.plan_book.proofs.QuietLaws.{all-more}
+use Rattle.plan_book.proofs.SpanLaws.{spanned-then}
 use Rattle.plan_book.proofs.spans.Spans.put_rows.Goals as goal
 
 pub loop-row-preserved : goal.loop-row-preserved
@@ -12,7 +13,8 @@ loop-row-preserved c =
     let now = c.put_row.new.self in
     record {
       order = c.put_row.ensures.order;
-      keeps = λ array job within. c.put_row.ensures.keeps array job (c.loop-row.invariant.keeps array job within);
+      arrays = λ group job within. c.put_row.ensures.arrays group job (c.loop-row.invariant.arrays group job within);
+      homes = λ group job within. c.put_row.ensures.homes group job (c.loop-row.invariant.homes group job within);
       members = all-more (IsSpanned now) xs i c.row-item.result c.loop-row-test.true c.row-item.is
-          (all-implied (IsSpanned was) (IsSpanned now) (λ row spanned array is. c.put_row.ensures.keeps array.0 row.job.0 (spanned array is)) (take i xs) c.loop-row.invariant.members) c.put_row.ensures.member;
+          (all-implied (IsSpanned was) (IsSpanned now) (spanned-then was now c.put_row.ensures.arrays c.put_row.ensures.homes) (take i xs) c.loop-row.invariant.members) c.put_row.ensures.member;
     }

@@ -1,11 +1,15 @@
-use Rattle.std.proofs.Common.{subst}
-use Rattle.drmaa_model.specs.Operation.{Meets, outcome}
+use Rattle.std.proofs.Common.{sym, ◌∙◌}
 use Rattle.drmaa_model.specs.Controlling.{reap}
-use Rattle.drmaa_model.specs.Time.{advance_plan}
 use Rattle.plan_book.specs.Book.{plan_of}
-use Rattle.scheduler_core.specs.View.{View}
+use Rattle.scheduler_core.proofs.ViewSteps.{seen-refused, seen-served}
 use Rattle.scheduler_core.proofs.cores.Core.reap.Goals as goal
+
+pub returns-in-Some-clause-meets : goal.returns-in-Some-clause-meets
+returns-in-Some-clause-meets c =
+    seen-refused (reap c.args.target) c.args.entry c.args.at c.args.limit c.self.inside.book c.self.view_is c.in-Some.why c.refuse.result (plan_of c.refuse.new.self)
+    (sym c.refusal_at.ensures.value ∙ c.in-Some.is) c.refuse.ensures.refuses
 
 pub returns-clause-meets : goal.returns-clause-meets
 returns-clause-meets c =
-    subst (λ (v : View). Meets (outcome (reap c.args.target) c.args.entry (advance_plan c.args.entry c.args.at v.plan)) v.plan c.args.entry c.args.limit c.reap.result (plan_of c.reap.new.book)) c.self.view_is c.reap.ensures.meets
+    seen-served (reap c.args.target) c.args.entry c.args.at c.args.limit c.self.inside.book c.self.view_is c.drop_rows.result (plan_of c.drop_rows.new.self)
+    (sym c.refusal_at.ensures.value ∙ c.in_default.is) c.drop_rows.ensures.meets

@@ -1,17 +1,71 @@
-use Rattle.std.proofs.Common.{subst}
+use Rattle.std.proofs.Common.{◌≡◌, ℕ, Option, Ok, sym, ◌∙◌, ap, subst, arith}
+use Rattle.std.proofs.lemmas.Bool.{false≢true}
 use Rattle.std.specs.Prelude.{◌≢◌, IsSome, Err}
+use Rattle.drmaa_types.specs.declared.infos.Reserved.{Reserved}
+use Rattle.drmaa_types.specs.declared.refusals.Refusal.{Refusal}
 use Rattle.drmaa_types.specs.declared.refusals.Refusal.TheVariants.{OutOfMemory}
-use Rattle.drmaa_model.specs.Operation.{Meets, outcome}
-use Rattle.drmaa_model.specs.Requests.{request}
+use Rattle.drmaa_model.specs.declared.reservations.Accepted.{Accepted}
+use Rattle.drmaa_model.specs.Fit.{IsFit}
+use Rattle.drmaa_model.specs.Operation.{Outcome, outcome, Meets}
+use Rattle.drmaa_model.specs.Requests.{request, reserved_as, with_reservation}
 use Rattle.drmaa_model.specs.Time.{advance_plan}
 use Rattle.plan_book.specs.Book.{plan_of}
+use Rattle.plan_book.specs.MeetLaws.{refused-never}
+use Rattle.plan_book.specs.Ties.{IsFree, booked_for}
+use Rattle.scheduler_core.specs.Requesting.{accepted_of}
 use Rattle.scheduler_core.specs.View.{View}
+use Rattle.scheduler_core.proofs.OfferLaws.{request-refused, request-passes, request-comes, request-fit, request-free}
+use Rattle.scheduler_core.proofs.ViewSteps.{seen-meets, seen-refused}
 use Rattle.scheduler_core.proofs.cores.Core.request_reservation.Goals as goal
+use Rattle.scheduler_core.proofs.cores.Core.request_reservation.Goals.{After-accepted_of-accepted}
 
-pub returns-clause-meets : goal.returns-clause-meets
-returns-clause-meets c =
-    subst (λ (v : View). Meets (outcome (request c.args.home c.args.template) c.args.entry (advance_plan c.args.entry c.args.at v.plan)) v.plan c.args.entry c.args.limit c.request_reservation.result (plan_of c.request_reservation.new.book)) c.self.view_is c.request_reservation.ensures.meets
+-- the reservation of the offer
+accepted : (c : After-accepted_of-accepted) → c.accepted_of-accepted.result ≡ accepted_of (plan_of c.self.inside.book).next_reservation c.args.home c.args.template c.in-Ok.offer
+accepted c = c.accepted_of-accepted.ensures ∙ ap (λ (n : ℕ). accepted_of n c.args.home c.args.template c.in-Ok.offer) c.next_reservation.ensures
 
-pub returns-clause-memory : goal.returns-clause-memory
-returns-clause-memory c =
-    subst (λ (v : View). IsSome ((request c.args.home c.args.template).refusal (advance_plan c.args.entry c.args.at v.plan)) → c.request_reservation.result ≢ Err OutOfMemory) c.self.view_is c.request_reservation.ensures.memory
+pub accept-requires-clause-next : goal.accept-requires-clause-next
+accept-requires-clause-next c =
+    let seen = ap (λ (v : View). v.plan.next_reservation) c.self.view_is in
+    let number = c.requires.number in
+    let few = c.requires.entry in
+    omega (arith, seen, number, few)
+
+pub accept-requires-clause-free : goal.accept-requires-clause-free
+accept-requires-clause-free c =
+    let book = c.self.inside.book in
+    subst (λ (a : Accepted). IsFree book.calendar (booked_for a)) (sym (accepted (goal.at.accept-requires-clause-free c).After-accepted_of-accepted))
+    (request-free c.args.entry c.args.at (plan_of book) c.self.invariant.fit c.args.home c.args.template c.in-Ok.offer (c.in-Ok.ensures {u = tt}).offer book.calendar c.self.invariant.tied)
+
+pub accept-requires-clause-fit : goal.accept-requires-clause-fit
+accept-requires-clause-fit c =
+    let p = plan_of c.self.inside.book in
+    subst (λ (a : Accepted). IsFit (with_reservation a (advance_plan c.args.entry c.args.at p))) (sym (accepted (goal.at.accept-requires-clause-fit c).After-accepted_of-accepted))
+    (request-fit c.args.entry c.args.at p c.self.invariant.fit c.args.home c.args.template c.in-Ok.offer (c.in-Ok.ensures {u = tt}).offer)
+
+pub returns-in-Err-clause-meets : goal.returns-in-Err-clause-meets
+returns-in-Err-clause-meets c =
+    seen-refused (request c.args.home c.args.template) c.args.entry c.args.at c.args.limit c.self.inside.book c.self.view_is c.in-Err.why c.refuse.result (plan_of c.refuse.new.self)
+    (request-refused c.args.entry c.args.at (plan_of c.self.inside.book) c.self.invariant.fit c.args.home c.args.template c.in-Err.why (c.in-Err.ensures {u = tt}).offer) c.refuse.ensures.refuses
+
+pub returns-in-Ok-clause-meets : goal.returns-in-Ok-clause-meets
+returns-in-Ok-clause-meets c =
+    let p = plan_of c.self.inside.book in
+    let q = advance_plan c.args.entry c.args.at p in
+    let made : Accepted → Outcome Reserved = λ a. record { answer = Ok (reserved_as a); plan = with_reservation a q } in
+    let comes : outcome (request c.args.home c.args.template) c.args.entry q ≡ made c.accepted_of-accepted.result =
+    request-comes c.args.entry c.args.at p c.self.invariant.fit c.args.home c.args.template c.in-Ok.offer (c.in-Ok.ensures {u = tt}).offer
+    ∙ ap made (sym (accepted (goal.at.returns-in-Ok-clause-meets c).After-accepted_of-accepted)) in
+    seen-meets (request c.args.home c.args.template) c.args.entry c.args.at c.args.limit c.self.inside.book c.self.view_is c.accept.result (plan_of c.accept.new.book)
+    (subst (λ (o : Outcome Reserved). Meets o p c.args.entry c.args.limit c.accept.result (plan_of c.accept.new.book)) (sym comes) c.accept.ensures.meets)
+
+pub returns-in-Err-clause-memory : goal.returns-in-Err-clause-memory
+returns-in-Err-clause-memory c = λ there.
+    (let p = plan_of c.self.inside.book in
+    refused-never c.args.entry c.args.limit p (advance_plan c.args.entry c.args.at p) (plan_of c.refuse.new.self) c.in-Err.why c.refuse.result c.refuse.ensures.refuses)
+
+pub returns-in-Ok-clause-memory : goal.returns-in-Ok-clause-memory
+returns-in-Ok-clause-memory c =
+    subst (λ (v : View). IsSome ((request c.args.home c.args.template).refusal (advance_plan c.args.entry c.args.at v.plan)) → c.accept.result ≢ Err OutOfMemory) c.self.view_is
+    (λ there.
+    (let free = request-passes c.args.entry c.args.at (plan_of c.self.inside.book) c.self.invariant.fit c.args.home c.args.template c.in-Ok.offer (c.in-Ok.ensures {u = tt}).offer in
+    absurd (false≢true (subst (λ (o : Option Refusal). IsSome o) free there))))

@@ -1,16 +1,81 @@
-use Rattle.std.proofs.Common.{◌≡◌, None, subst}
-use Rattle.std.specs.Prelude.{IsSome, Ok}
+use Rattle.std.proofs.Common.{◌≡◌, Some, None, refl, sym, ◌∙◌, ap, subst}
+use Rattle.std.proofs.lemmas.Bool.{false≢true}
+use Rattle.std.specs.Prelude.{IsSome, Ok, Err, Option}
+use Rattle.drmaa_model.specs.declared.courses.Order.{Order}
+use Rattle.drmaa_model.specs.declared.replies.Signal.{Signal}
+use Rattle.drmaa_model.specs.Fit.{IsFit}
 use Rattle.drmaa_model.specs.Launching.{next_signal, signal}
-use Rattle.drmaa_model.specs.Operation.{Meets, outcome}
+use Rattle.drmaa_model.specs.Operation.{Outcome, Meets}
 use Rattle.drmaa_model.specs.Time.{advance_plan}
-use Rattle.plan_book.specs.Book.{plan_of, spare}
+use Rattle.plan_book.specs.declared.moves.Move.{Move}
+use Rattle.plan_book.specs.Book.{plan_of, moved, IsMove}
+use Rattle.plan_book.specs.MeetLaws.{ok-meets, err-meets}
+use Rattle.plan_book.specs.Ties.{KeepsTie}
+use Rattle.scheduler_core.specs.Signals.{IsNext, signal_for, take_move}
 use Rattle.scheduler_core.specs.View.{View}
+use Rattle.scheduler_core.proofs.SignalLaws.{Takes, takes-then}
+use Rattle.scheduler_core.proofs.ViewSteps.{seen-meets}
 use Rattle.scheduler_core.proofs.cores.Core.take_signal.Goals as goal
+use Rattle.scheduler_core.proofs.cores.Core.take_signal.Goals.{In-Some}
+
+-- what the handing out comes to
+takes : (c : In-Some) → Takes c.args.entry (advance_plan c.args.entry c.args.at (plan_of c.self.inside.book)) c.in-Some.next
+takes c = takes-then c.args.entry c.args.at (plan_of c.self.inside.book) c.in-Some.next c.self.invariant.fit (c.in-Some.ensures {u = tt})
+
+-- there is a signal to hand out
+there : (c : In-Some) → next_signal (advance_plan c.args.entry c.args.at c.args.self.now.plan) ≡ Some c.in-Some.next.order
+there c =
+    let next : IsNext (advance_plan 0 c.args.at (plan_of c.self.inside.book)) c.in-Some.next = c.in-Some.ensures {u = tt} in
+    sym (ap (λ (v : View). next_signal (advance_plan c.args.entry c.args.at v.plan)) c.self.view_is) ∙ next.first
+
+pub make-requires-clause-move_is : goal.make-requires-clause-move_is
+make-requires-clause-move_is c =
+    subst (IsMove (advance_plan c.args.entry c.args.at (plan_of c.self.inside.book))) (sym c.take_move-m.ensures) (takes (goal.at.make-requires-clause-move_is c).In-Some).is
+
+pub make-requires-clause-fit : goal.make-requires-clause-fit
+make-requires-clause-fit c =
+    subst (λ (m : Move). IsFit (moved c.args.entry m (advance_plan c.args.entry c.args.at (plan_of c.self.inside.book)))) (sym c.take_move-m.ensures) (takes (goal.at.make-requires-clause-fit c).In-Some).fits
+
+pub make-requires-clause-tie : goal.make-requires-clause-tie
+make-requires-clause-tie c =
+    let q = advance_plan c.args.entry c.args.at (plan_of c.self.inside.book) in
+    subst (λ (m : Move). KeepsTie m.booked m.job q (moved c.args.entry m q)) (sym c.take_move-m.ensures) (takes (goal.at.make-requires-clause-tie c).In-Some).ties
+
+pub returns-in_default-clause-nothing : goal.returns-in_default-clause-nothing
+returns-in_default-clause-nothing c = λ none.
+    (let plan = ap (λ (v : View). v.plan) c.self.view_is in let spare = ap (λ (v : View). v.spare) c.self.view_is in (refl, (cc), (cc)))
+
+pub returns-in_default-clause-meets : goal.returns-in_default-clause-meets
+returns-in_default-clause-meets c = λ some.
+    (let none : next_signal (advance_plan c.args.entry c.args.at (plan_of c.self.inside.book)) ≡ None = c.in_default.ensures {u = tt} in
+    let lost = sym (ap (λ (v : View). next_signal (advance_plan c.args.entry c.args.at v.plan)) c.self.view_is) ∙ none in
+    absurd (false≢true (subst (λ (o : Option Order). IsSome o) lost some)))
 
 pub returns-clause-nothing : goal.returns-clause-nothing
-returns-clause-nothing c =
-    subst (λ (v : View). next_signal (advance_plan c.args.entry c.args.at v.plan) ≡ None → (c.take_signal.result ≡ Ok None) × (plan_of c.take_signal.new.book ≡ v.plan) × (spare c.take_signal.new.book ≡ v.spare)) c.self.view_is c.take_signal.ensures.nothing
+returns-clause-nothing c = λ none. (let some = there (goal.at.returns-clause-nothing c).In-Some in absurd (cc))
+
+pub returns-in-Err-clause-nothing : goal.returns-in-Err-clause-nothing
+returns-in-Err-clause-nothing c = λ none. (let some = there (goal.at.returns-in-Err-clause-nothing c).In-Some in absurd (cc))
 
 pub returns-clause-meets : goal.returns-clause-meets
-returns-clause-meets c =
-    subst (λ (v : View). IsSome (next_signal (advance_plan c.args.entry c.args.at v.plan)) → Meets (outcome signal c.args.entry (advance_plan c.args.entry c.args.at v.plan)) v.plan c.args.entry c.args.limit c.take_signal.result (plan_of c.take_signal.new.book)) c.self.view_is c.take_signal.ensures.meets
+returns-clause-meets c = λ some.
+    (let p = plan_of c.self.inside.book in
+    let q = advance_plan c.args.entry c.args.at p in
+    let next = c.in-Some.next in
+    let new = plan_of c.make.new.self in
+    let made = subst (λ (m : Move). Meets (record { answer = Ok tt; plan = moved c.args.entry m q }) p c.args.entry c.args.limit c.make.result new) c.take_move-m.ensures c.make.ensures.meets in
+    seen-meets signal c.args.entry c.args.at c.args.limit c.self.inside.book c.self.view_is (Ok (Some c.signal_for.result)) new
+    (subst (λ (o : Outcome (Option Signal)). Meets o p c.args.entry c.args.limit (Ok (Some c.signal_for.result)) new) (sym (takes (goal.at.returns-clause-meets c).In-Some).comes)
+    (subst (λ (s : Signal). Meets (record { answer = Ok (Some (signal_for next)); plan = moved c.args.entry (take_move next) q }) p c.args.entry c.args.limit (Ok (Some s)) new) (sym c.signal_for.ensures)
+    (ok-meets tt c.in_default-make.field-0 (Some (signal_for next)) c.args.entry c.args.limit p (moved c.args.entry (take_move next) q) new c.make.result c.in_default-make.is made))))
+
+pub returns-in-Err-clause-meets : goal.returns-in-Err-clause-meets
+returns-in-Err-clause-meets c = λ some.
+    (let p = plan_of c.self.inside.book in
+    let q = advance_plan c.args.entry c.args.at p in
+    let next = c.in-Some.next in
+    let new = plan_of c.make.new.self in
+    let made = subst (λ (m : Move). Meets (record { answer = Ok tt; plan = moved c.args.entry m q }) p c.args.entry c.args.limit c.make.result new) c.take_move-m.ensures c.make.ensures.meets in
+    seen-meets signal c.args.entry c.args.at c.args.limit c.self.inside.book c.self.view_is (Err c.in-Err.why) new
+    (subst (λ (o : Outcome (Option Signal)). Meets o p c.args.entry c.args.limit (Err c.in-Err.why) new) (sym (takes (goal.at.returns-in-Err-clause-meets c).In-Some).comes)
+    (err-meets tt (Some (signal_for next)) c.in-Err.why c.args.entry c.args.limit p (moved c.args.entry (take_move next) q) new c.make.result c.in-Err.is made)))

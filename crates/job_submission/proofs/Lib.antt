@@ -1,4 +1,0 @@
-pub mod BatchLaws
-pub mod LastingLaws
-pub mod SubmitSteps
-pub mod Tables

@@ -1,3 +1,0 @@
-pub mod CalendarLaws
-pub mod OfferLaws
-pub mod TableLaws

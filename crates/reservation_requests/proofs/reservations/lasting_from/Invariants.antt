@@ -1,7 +1,0 @@
-use Rattle.std.proofs.Common.{◌≡◌, filter, drop}
-use Rattle.drmaa_model.specs.Time.{lasts}
-use Rattle.reservation_requests.specs.Reservations.{reservation_from}
-use Rattle.reservation_requests.proofs.reservations.lasting_from.Given as goal
-
-abbrev pub invariant-loop-r : goal.invariant-loop-r
-invariant-loop-r l = reservation_from l.number (filter (lasts l.moment) (drop l.r-index l.r-items)) ≡ reservation_from l.number (filter (lasts l.moment) l.r-items)

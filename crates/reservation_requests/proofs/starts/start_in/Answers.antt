@@ -1,8 +1,0 @@
-use Rattle.plan_book.specs.Book.{plan_of}
-use Rattle.reservation_requests.proofs.CalendarLaws.{earliest-is}
-use Rattle.reservation_requests.proofs.starts.start_in.Goals as goal
-
-pub returns : goal.returns
-returns c =
-    let book = c.args.book.now in
-    earliest-is book.calendar (plan_of book) c.requires.kept.fit c.requires.kept.tied c.args.frame.now c.earliest.result c.requires.since c.earliest.ensures.fitting c.earliest.ensures.least c.earliest.ensures.none.0

@@ -1,0 +1,48 @@
+//! Hold, release, suspend, resume and terminate.
+ghost use Rattle.std.specs.Prelude.{◌≡◌, ◌≢◌, ◌+◌, ◌≤◌, ◌<◌, Err, OnErr, IsSome, true, false};
+ghost use Rattle.drmaa_model.specs.Controlling.{control};
+ghost use Rattle.drmaa_model.specs.Operation.{size_at, Meets, outcome};
+ghost use Rattle.drmaa_model.specs.Time.{advance_plan, rows_at};
+ghost use Rattle.plan_book.specs.Sweeps.{acted, growth, is_asking};
+ghost use Rattle.scheduler_core.specs.Targets.{is_one_quiet};
+
+use crate::cores::Core;
+use crate::targets::{Act, refusal_at};
+use drmaa_model::Target;
+use drmaa_types::{Control, Moment, Refusal};
+
+impl Core {
+    /// Holds, releases, suspends, resumes or terminates each job that is meant and whose state permits it, in one step. A hold
+    /// or a release of one job uses at most one change of what is reserved, and takes no memory where that is there.
+    ///
+    /// # Errors
+    ///
+    /// `InvalidArgument` where no kept job is meant; `InvalidState` with the state of the job, or of the array's kept member of
+    /// least number, where the state of none permits it. Want of memory is told only where none of these holds. A journal that
+    /// would be too large comes before all of them.
+    pub fn control(
+        &mut self,
+        at: Moment,
+        entry: u64,
+        limit: u64,
+        target: Target,
+        what: Control,
+    ) -> Result<(), Refusal>
+        requires entry { entry ≤ 4_000_001 }
+        requires limit { limit ≤ 4_000_000 }
+        ensures meets { Meets (outcome (control target what) entry (advance_plan entry at self.old.plan)) self.old.plan entry limit result self.new.plan }
+        ensures spare { self.old.spare ≤ self.new.spare + growth what (acted target what (rows_at at self.old.plan)) }
+        ensures err { OnErr result (self.old.spare ≤ self.new.spare) }
+        ensures enough { growth what (acted target what (rows_at at self.old.plan)) ≤ self.old.spare → is_asking what ≡ false
+            → result ≢ Err Refusal.OutOfMemory }
+        ensures one { is_one_quiet target what ≡ true → self.old.spare ≤ self.new.spare + 1 }
+        ensures memory { is_one_quiet target what ≡ true → 1 ≤ self.old.spare → result ≢ Err Refusal.OutOfMemory }
+        ensures refused { IsSome ((control target what).refusal (advance_plan entry at self.old.plan)) → result ≢ Err Refusal.OutOfMemory }
+        ensures sized { limit < size_at entry (outcome (control target what) entry (advance_plan entry at self.old.plan)).plan → result ≢ Err Refusal.OutOfMemory }
+    {
+        if let Some(why) = refusal_at(&self.book, at, &target, Act::Control(what)) {
+            return Err(self.book.refuse(at, entry, limit, &why));
+        }
+        self.book.control(at, entry, limit, &target, what)
+    }
+}

@@ -1,0 +1,197 @@
+//! The signal that is delivered next. It takes no memory.
+ghost use Rattle.std.specs.Prelude.{◌≡◌, ◌≢◌, ◌≤◌, find, Ok, Err, None, IsSome};
+ghost use Rattle.std.specs.Option.{option_map};
+ghost use Rattle.drmaa_model.specs.Launching.{is_alive, is_due_now, next_signal, signal};
+ghost use Rattle.drmaa_model.specs.Operation.{Meets, outcome};
+ghost use Rattle.drmaa_model.specs.Time.{advance_plan, rows_at, kill_order};
+ghost use Rattle.plan_book.specs.Book.{plan_of, IsKept};
+ghost use Rattle.scheduler_core.specs.Signals.{IsNextIn, is_killed, signal_for, take_move};
+
+use crate::cores::Core;
+use drmaa_model::{Order, Phase, Row, Signal};
+use drmaa_types::{Moment, Refusal, SignalKind};
+use plan_book::courses::is_unasked;
+use plan_book::{Book, Booked, Edit, Facts, Move};
+
+/// The order that is delivered next, and what is known of its job then.
+#[derive(Clone, Copy)]
+pub struct Next {
+    pub order: Order,
+    pub facts: Facts,
+}
+
+impl Core {
+    /// The signal that would be handed out at this moment, if there is one. It takes no memory.
+    pub fn next_signal(&self, at: Moment) -> Option<Signal>
+        ensures { result ≡ signal.told (advance_plan 0 at self.now.plan) }
+    {
+        match next_of(&self.book, at) {
+            Some(next) => Some(signal_for(&next)),
+            None => None,
+        }
+    }
+
+    /// Hands out the signal that is next, if there is one: the first in order of asking that was not handed out and whose job
+    /// has a process. Where there is none nothing changes, the moment neither. It takes no memory.
+    ///
+    /// # Errors
+    ///
+    /// A journal that would be too large.
+    pub fn take_signal(
+        &mut self,
+        at: Moment,
+        entry: u64,
+        limit: u64,
+    ) -> Result<Option<Signal>, Refusal>
+        requires entry { entry ≤ 4_000_001 }
+        requires limit { limit ≤ 4_000_000 }
+        ensures nothing { next_signal (advance_plan entry at self.old.plan) ≡ None → (result ≡ Ok None) × (self.new.plan ≡ self.old.plan) × (self.new.spare ≡ self.old.spare) }
+        ensures meets { IsSome (next_signal (advance_plan entry at self.old.plan)) →
+            Meets (outcome signal entry (advance_plan entry at self.old.plan)) self.old.plan entry limit result self.new.plan }
+        ensures spare { self.old.spare ≤ self.new.spare }
+        ensures memory { result ≢ Err Refusal.OutOfMemory }
+    {
+        let Some(next) = next_of(&self.book, at) else {
+            return Ok(None);
+        };
+        let m = take_move(&next);
+        if let Err(why) = self.book.make(at, entry, limit, &m) {
+            return Err(why);
+        }
+        Ok(Some(signal_for(&next)))
+    }
+}
+
+/// The order that is next once time has come to this moment, with what is known of its job then.
+fn next_of(book: &Book, at: Moment) -> Option<Next>
+    requires kept { IsKept book.now }
+    ensures { IsNextIn (advance_plan 0 at (plan_of book.now)) result }
+{
+    let Some(order) = next_order(book, at) else {
+        return None;
+    };
+    match book.facts_at(at, order.job) {
+        Some(facts) => Some(Next { order, facts }),
+        None => None,
+    }
+}
+
+/// The first order that can be delivered: the orders that are asked stand before those that time asks on its way to this
+/// moment.
+fn next_order(book: &Book, at: Moment) -> Option<Order>
+    requires kept { IsKept book.now }
+    ensures { result ≡ next_signal (advance_plan 0 at (plan_of book.now)) }
+{
+    match asked_order(book, at) {
+        Some(order) => Some(order),
+        None => kill_due(book, at),
+    }
+}
+
+/// The first of the orders that are asked that can be delivered.
+fn asked_order(book: &Book, at: Moment) -> Option<Order>
+    requires kept { IsKept book.now }
+    ensures { result ≡ find (is_due_now (rows_at at (plan_of book.now))) book.now.orders.items }
+{
+    for order in &book.orders {
+        if is_due_now(book, at, order) {
+            return Some(*order);
+        }
+    }
+    None
+}
+
+/// Whether the order was not handed out, and its job will have a process.
+fn is_due_now(book: &Book, at: Moment, order: &Order) -> bool
+    requires kept { IsKept book.now }
+    ensures { result ≡ is_due_now (rows_at at (plan_of book.now)) order.now }
+{
+    if order.taken {
+        return false;
+    }
+    match book.facts_at(at, order.job) {
+        Some(facts) => is_alive(facts.course.phase),
+        None => false,
+    }
+}
+
+fn is_alive(phase: Phase) -> bool
+    ensures { result ≡ is_alive phase }
+{
+    match phase {
+        Phase::Idle => false,
+        Phase::Launching => false,
+        Phase::Alive => true,
+    }
+}
+
+/// The first of the kills that time asks on its way to this moment that can be delivered.
+fn kill_due(book: &Book, at: Moment) -> Option<Order>
+    requires kept { IsKept book.now }
+    ensures { result ≡ option_map kill_order (find (is_killed at (plan_of book.now)) book.now.rows.items) }
+{
+    if book.is_quiet_at(at) {
+        return None;
+    }
+    first_kill(book, at)
+}
+
+/// The same where time may have something to do. It asks for no kill of the jobs at the front that are over.
+fn first_kill(book: &Book, at: Moment) -> Option<Order>
+    requires kept { IsKept book.now }
+    ensures { result ≡ option_map kill_order (find (is_killed at (plan_of book.now)) book.now.rows.items) }
+{
+    for row in book.open_rows() {
+        if is_killed(book, at, row) {
+            return Some(kill_order(row));
+        }
+    }
+    None
+}
+
+/// Whether time asks for a kill of the job, which has a process.
+fn is_killed(book: &Book, at: Moment, row: &Row) -> bool
+    requires kept { IsKept book.now }
+    ensures { result ≡ is_killed at (plan_of book.now) row.now }
+{
+    if !is_alive(row.course.phase) {
+        return false;
+    }
+    let then = book.course_at(at, row);
+    is_unasked(row.course.kill) && (!is_unasked(then.kill) && is_alive(then.phase))
+}
+
+fn kill_order(row: &Row) -> Order
+    ensures { result ≡ kill_order row.now }
+{
+    Order {
+        job: row.job,
+        kind: SignalKind::Kill,
+        taken: false,
+    }
+}
+
+/// What is handed out.
+fn signal_for(next: &Next) -> Signal
+    ensures { result ≡ signal_for next.now }
+{
+    Signal {
+        job: next.order.job,
+        attempt: next.facts.course.attempt,
+        kind: next.order.kind,
+    }
+}
+
+/// The order is handed out, and its job stays as it is.
+fn take_move(next: &Next) -> Move
+    ensures { result ≡ take_move next.now }
+{
+    Move {
+        job: next.facts.job,
+        home: next.facts.home,
+        before: next.facts.course,
+        after: next.facts.course,
+        orders: Edit::Take(next.order.kind),
+        booked: Booked::Same,
+    }
+}

@@ -1,0 +1,131 @@
+//! The submission of a job, or of an array of jobs.
+ghost use Rattle.std.specs.Prelude.{◌≡◌, ◌≢◌, ◌≤◌, ◌+◌, ◌*◌, [], None, IsSome, Err, OnErr};
+ghost use Rattle.drmaa_types.specs.Refusals.{first_refusal};
+ghost use Rattle.drmaa_model.specs.Operation.{Meets, outcome};
+ghost use Rattle.drmaa_model.specs.Submitting.{array_number, arrays_used, bulk_tests, submit};
+ghost use Rattle.drmaa_model.specs.Time.{advance_plan};
+ghost use Rattle.plan_book.specs.Book.{plan_of, spare, IsKept};
+ghost use Rattle.scheduler_core.specs.Batches.{plan_in, told_of};
+ghost use Rattle.scheduler_core.specs.Early.{asked, early_tests};
+
+use crate::batches::{Batch, Unmade, batch_of, rows_of};
+use crate::bulks::asked;
+use crate::cores::Core;
+use crate::refusals::refusal_of;
+use drmaa_model::{Indices, Submitted};
+use drmaa_types::{ArrayId, JobId, Limit, Moment, Refusal};
+use job_template::JobTemplate;
+use plan_book::Book;
+use std::alloc::Global;
+
+impl Core {
+    /// Submits a job, or with `indices` an array of jobs, for the named session of the number `home`. The jobs have consecutive
+    /// numbers, the next ones.
+    ///
+    /// # Errors
+    ///
+    /// The first of these that holds: what is wrong with the indices, then with the template, then with the reservation that it
+    /// names; `OutOfResource(Jobs)` where more than 100,000 jobs would be kept; `OutOfResource(KeptText)` where the templates of all
+    /// kept jobs would have more than 67,108,864 bytes, a byte more counted for each text. Want of memory is told only where none of
+    /// these but the last holds. A journal that would be too large comes before all of them.
+    pub fn submit(
+        &mut self,
+        at: Moment,
+        entry: u64,
+        limit: u64,
+        home: u64,
+        template: JobTemplate,
+        indices: Option<Indices>,
+    ) -> Result<Submitted, Refusal>
+        requires entry { entry ≤ 4_000_001 }
+        requires limit { limit ≤ 4_000_000 }
+        requires jobs { self.old.plan.next_job ≤ 10_000 * entry }
+        requires arrays { self.old.plan.next_array ≤ entry }
+        ensures meets { Meets (outcome (submit home template indices) entry (advance_plan entry at self.old.plan)) self.old.plan entry limit result self.new.plan }
+        ensures spare { self.old.spare ≤ self.new.spare + asked indices }
+        ensures err { OnErr result (self.old.spare ≤ self.new.spare) }
+        ensures memory { IsSome (first_refusal (early_tests template indices (advance_plan entry at self.old.plan))) → result ≢ Err Refusal.OutOfMemory }
+    {
+        match refusal_of(&self.book, at, &template, indices) {
+            Some(why) => Err(self.book.refuse(at, entry, limit, &why)),
+            None => admit(
+                &mut self.book,
+                self.alloc,
+                at,
+                entry,
+                limit,
+                home,
+                template,
+                indices,
+            ),
+        }
+    }
+}
+
+/// Submits where no reason but the text of the members speaks against it.
+fn admit(
+    book: &mut Book,
+    alloc: Global,
+    at: Moment,
+    entry: u64,
+    limit: u64,
+    home: u64,
+    template: JobTemplate,
+    indices: Option<Indices>,
+) -> Result<Submitted, Refusal>
+    requires kept { IsKept book.old }
+    requires entry { entry ≤ 4_000_001 }
+    requires limit { limit ≤ 4_000_000 }
+    requires jobs { (plan_of book.old).next_job ≤ 10_000 * entry }
+    requires arrays { (plan_of book.old).next_array ≤ entry }
+    requires free { first_refusal (early_tests template indices (advance_plan 0 at (plan_of book.old))) ≡ None }
+    ensures meets { Meets (outcome (submit home template indices) entry (advance_plan entry at (plan_of book.old))) (plan_of book.old) entry limit result (plan_of book.new) }
+    ensures kept { IsKept book.new }
+    ensures spare { spare book.old ≤ spare book.new + asked indices }
+    ensures err { OnErr result (spare book.old ≤ spare book.new) }
+{
+    let batch = batch_of(book, at, home);
+    match rows_of(book, alloc, &batch, template, indices) {
+        Ok(rows) => match book.push_rows(at, entry, limit, rows, arrays_used(indices)) {
+            Ok(()) => Ok(told_of(&batch, indices)),
+            Err(why) => Err(why),
+        },
+        Err(Unmade::OutOfMemory) => Err(Refusal::OutOfMemory),
+        Err(Unmade::TooMuchText) => {
+            let why = Refusal::OutOfResource(Limit::KeptText);
+            Err(book.refuse(at, entry, limit, &why))
+        }
+    }
+}
+
+/// How many array numbers are used.
+fn arrays_used(indices: Option<Indices>) -> u64
+    ensures { result ≡ arrays_used indices }
+{
+    match indices {
+        None => 0,
+        Some(_) => 1,
+    }
+}
+
+/// What is answered to a submission.
+fn told_of(b: &Batch, indices: Option<Indices>) -> Submitted
+    requires { first_refusal (bulk_tests indices) ≡ None }
+    ensures { result ≡ told_of b.now indices }
+{
+    Submitted {
+        array: array_of(b, indices),
+        first: JobId(b.first),
+        count: asked(indices),
+    }
+}
+
+/// The number of the array, where one is asked for.
+fn array_of(b: &Batch, indices: Option<Indices>) -> Option<ArrayId>
+    ensures { result ≡ array_number indices (plan_in [] b.now) }
+{
+    match indices {
+        None => None,
+        Some(_) => Some(ArrayId(b.array)),
+    }
+}

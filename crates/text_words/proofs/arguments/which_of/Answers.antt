@@ -1,9 +1,0 @@
-use Rattle.std.proofs.Common.{ap, ◌∙◌}
-use Rattle.text_codec.specs.Formats.{first_spelled}
-use Rattle.text_words.specs.declared.arguments.TheConstants.{ARGUMENTS}
-use Rattle.text_words.specs.Words.{which_text}
-use Rattle.text_words.specs.WordLaws.{which_stands}
-use Rattle.text_words.proofs.arguments.which_of.Goals as goal
-
-pub returns-clause-only : goal.returns-clause-only
-returns-clause-only c = λ x e. c.first_which.ensures ∙ ap (first_spelled which_text ARGUMENTS) e ∙ which_stands x
