@@ -1,5 +1,6 @@
 -- Why a round took no order, and why it is refused.
 use Rattle.std.proofs.Common.{◌≡◌, inl, inr, ℕ, Bool, List, ◌++◌, Option, Some, None, refl, sym, ap, ◌∙◌, subst}
+use Rattle.std.proofs.lemmas.Option.{same_Some, none-some}
 use Rattle.std.specs.Prelude.{Result, Ok, Err, IfErr}
 use Rattle.std.proofs.lemmas.List.{map-append}
 use Rattle.slab.specs.Slab.{Slab, get}
@@ -20,13 +21,9 @@ use Rattle.attendant.specs.Steps.{MayFail}
 use Rattle.attendant.specs.Rounds.{asked_signal, Took, FindsNone, Serves, ReportSteps, ServesTaken, ServesOrder, PollsAll, RoundAnswer, ReapSteps, IsTaking, takes, keeps, finds_none, finds_full, lacks_memory, IsOrderServed, IsRoundRefused, wants_memory, full_at_take, full_at_report}
 use Rattle.attendant.specs.PairLaws.{post-itself}
 use Rattle.attendant.proofs.Desks.{still-both, within, fails-on, fails-last}
-use Rattle.attendant.proofs.Entries.{some_is}
 
 err_is : (a b : Refusal) (r : Result ℕ Refusal) → r ≡ Err a → r ≡ Err b → a ≡ b
 err_is a b r p q = cc
-
-none_some : {X : Type 0} (x : X) → None ≡ Some x → ⊥
-none_some x e = cc
 
 -- a call that made no entry, in the time of a round
 pub fails-now : (old now new : Post) (c : Call) (why : NoEntry) → IsFree old.shared old.client → Fails old c why now → IsStillAt now new → FailsWithin old c why new
@@ -51,7 +48,7 @@ fault_taking old taken new hand r (no.Journal size) why free still f m is = find
 none_taking : {T : Type 0} (told : T → Option Told) (faults : T → ℕ) (old taken served new : Post) (c0 c1 : Slab (Held T)) (hand_taken hand hand2 : Option Hand) (take : Result (Unit {0}) Refusal) (reports ends r : Result ℕ Refusal)
     → IsFree old.shared old.client → IsStillAt taken new → hand_taken ≡ None → FindsNone old taken take
     → ServesTaken told faults taken served hand_taken take c0 c1 hand2 reports → RoundAnswer reports ends r → IsTaking old new hand r
-none_taking told faults old taken served new c0 c1 (Some h) hand hand2 take reports ends r free still none found serves answer = absurd (none_some h (sym none))
+none_taking told faults old taken served new c0 c1 (Some h) hand hand2 take reports ends r free still none found serves answer = absurd (none-some h (sym none))
 none_taking told faults old taken served new c0 c1 None hand hand2 (Ok done) reports ends r free still none found serves answer = finds_none (fails-now old taken new call.TakeSignal no.Nothing free found still)
 none_taking told faults old taken served new c0 c1 None hand hand2 (Err why) reports ends r free still none found serves answer =
     fault_taking old taken new hand r found.fault why free still found.fails found.stands
@@ -102,15 +99,15 @@ reports_refused old taken new hand d (Some answer) hand2 why first still of r = 
 taken_refused : {T : Type 0} (told : T → Option Told) (faults : T → ℕ) (old taken new : Post) (c0 c1 : Slab (Held T)) (hand_taken hand hand2 : Option Hand) (h : Hand) (take : Result (Unit {0}) Refusal) (why : Refusal)
     → IsStillAt old taken → IsStillAt taken new → hand_taken ≡ Some h → IsOrderServed hand old h.signal taken
     → ServesTaken told faults taken new hand_taken take c0 c1 hand2 (Err why) → IsRoundRefused old new hand why
-taken_refused told faults old taken new c0 c1 None hand hand2 h take why first still is of serves = absurd (none_some h is)
+taken_refused told faults old taken new c0 c1 None hand hand2 h take why first still is of serves = absurd (none-some h is)
 taken_refused told faults old taken new c0 c1 (Some g) hand hand2 h take why first still is of serves =
-    let same : serves.delivered.signal ≡ h.signal = same_signal told faults g serves.delivered c0 c1 serves.serves ∙ ap (λ (x : Hand). x.signal) (some_is g h is) in
+    let same : serves.delivered.signal ≡ h.signal = same_signal told faults g serves.delivered c0 c1 serves.serves ∙ ap (λ (x : Hand). x.signal) (same_Some g h is) in
     reports_refused old taken new hand serves.delivered serves.delivered.answer hand2 why first still (subst (λ (s : Signal). IsOrderServed hand old s taken) (sym same) of) serves.reports
 
 none_refused : {T : Type 0} (told : T → Option Told) (faults : T → ℕ) (old taken new : Post) (c0 c1 : Slab (Held T)) (hand_taken hand hand2 : Option Hand) (take : Result (Unit {0}) Refusal) (why : Refusal)
     → IsFree old.shared old.client → IsStillAt taken new → hand_taken ≡ None → FindsNone old taken take
     → ServesTaken told faults taken new hand_taken take c0 c1 hand2 (Err why) → IsRoundRefused old new hand why
-none_refused told faults old taken new c0 c1 (Some h) hand hand2 take why free still none found serves = absurd (none_some h (sym none))
+none_refused told faults old taken new c0 c1 (Some h) hand hand2 take why free still none found serves = absurd (none-some h (sym none))
 none_refused told faults old taken new c0 c1 None hand hand2 (Ok done) why free still none found serves = absurd (cc)
 none_refused told faults old taken new c0 c1 None hand hand2 (Err w) why free still none found serves =
     subst (IsRoundRefused old new hand) (sym (err_is why w (Err why) refl serves.1)) (take_refused old taken new hand found.fault w free still found.fails found.stands)

@@ -1,5 +1,6 @@
 -- What a call of a desk says of its client's own list.
 use Rattle.std.proofs.Common.{◌≡◌, inl, inr, ℕ, Bool, true, false, ◌||◌, List, [], ◌∷◌, ◌++◌, map, eqb, Some, None, cond, arith, eq-eqb, refl, sym, ap, ◌∙◌, subst, append_assoc, append-nil}
+use Rattle.std.proofs.lemmas.Bool.{false_from_ne_true, or_right}
 use Rattle.std.specs.Prelude.{Result, Ok, Err, IfOk, IfErr, is_ok}
 use Rattle.std.specs.Option.{option_map_or}
 use Rattle.std.proofs.lemmas.List.{map-append, same_from_push}
@@ -37,7 +38,7 @@ use Rattle.attendant.specs.Acts.{Duty, TakeLaunch, TakeSignal, duty_of, Act, act
 use Rattle.attendant.specs.Posts.{Post, acts_at, AreAmong, IsStillAt, Succeeds, Fails, FailsWithin}
 use Rattle.attendant.specs.PairLaws.{post-itself}
 use Rattle.attendant.specs.Steps.{entry_of, Takes, Answers, IsLegalReply, Reports, report_call, asked_start}
-use Rattle.attendant.proofs.Entries.{not_true, or_cases}
+use Rattle.attendant.proofs.Entries.{or_cases}
 
 -- what is kept of a call is read as the call
 pub kept-duty : (c : Call) → duty_of (kept c) ≡ duty_of c
@@ -54,19 +55,15 @@ duty-launch : (job : JobId) (attempt : ℕ) (d : Duty) (r : Reply) → option_ma
 duty-launch job attempt TakeLaunch r is = replies-launch job attempt r is
 duty-launch job attempt _ r is = absurd (cc)
 
-or-right : (a b : Bool) → b ≡ true → (a || b) ≡ true
-or-right true b e = refl
-or-right false b e = e
-
 any-launch : (job : JobId) (attempt : ℕ) (n : ℕ) (es : List Entry) → is_launched job attempt (acts_of (calls_of es n)) ≡ true → was_handed_out es job.0 attempt ≡ true
 any-launch job attempt n [] is = absurd (cc)
 any-launch job attempt n (e ∷ es) is =
     (elim (eqb e.caller.0 n) as (λ b. eqb e.caller.0 n ≡ b → is_launched job attempt (acts_of (calls_of (e ∷ es) n)) ≡ true → was_handed_out (e ∷ es) job.0 attempt ≡ true) [
       | true ↦ λ t is. or_cases (launches_run job attempt (act_of e)) (is_launched job attempt (acts_of (calls_of es n))) (was_handed_out (e ∷ es) job.0 attempt ≡ true)
           (λ here. ap (λ b. b || was_handed_out es job.0 attempt) (duty-launch job attempt (duty_of e.call) e.reply here))
-          (λ there. or-right (hands_out job.0 attempt e.reply) (was_handed_out es job.0 attempt) (any-launch job attempt n es there))
+          (λ there. or_right (hands_out job.0 attempt e.reply) (was_handed_out es job.0 attempt) (any-launch job attempt n es there))
           (rw t at is)
-      | false ↦ λ f is. or-right (hands_out job.0 attempt e.reply) (was_handed_out es job.0 attempt) (any-launch job attempt n es (rw f at is))
+      | false ↦ λ f is. or_right (hands_out job.0 attempt e.reply) (was_handed_out es job.0 attempt) (any-launch job attempt n es (rw f at is))
     ]) refl is
 
 own-last : (e : Entry) (n : ℕ) → e.caller.0 ≡ n → calls_of (e ∷ []) n ≡ e ∷ []
@@ -94,7 +91,7 @@ legal-launch config front n at r mine legal own =
     let is : answer w at call.TakeLaunch ≡ gives (reply.Launch l) (replay config (front ++ e ∷ [])) = step.answered ∙ ap (λ (x : Reply). gives x (replay config (front ++ e ∷ []))) out.replies in
     let new : was_handed_out front l.job.0 l.attempt ≡ false = launch-is-new config front at l (replay config (front ++ e ∷ [])) (legal-prefix config front (e ∷ []) legal) is in
     subst (λ (x : Reply). IsNewLaunch (acts_of mine) (launch_reply x)) (sym out.replies)
-    (not_true (is_launched l.job l.attempt (acts_of mine)) (λ t.
+    (false_from_ne_true (is_launched l.job l.attempt (acts_of mine)) (λ t.
     (let own-t : is_launched l.job l.attempt (acts_of (calls_of front n)) ≡ true = ap (λ (x : List Entry). is_launched l.job l.attempt (acts_of x)) (sym own) ∙ t in
     let all = any-launch l.job l.attempt n front own-t in
     absurd (cc (all, new)))))
@@ -294,16 +291,6 @@ serves_signal old new r s is x = subst (λ (y : Reply). Succeeds old call.TakeSi
 
 pub no_signal : (n : ℕ) (r : Reply) (mine mine2 : List Act) → signal_reply r ≡ None → Answers n call.TakeSignal r mine mine2 → ⊥
 no_signal n r mine mine2 is k = subst IsSignal is k.legal
-
--- what every answer that is Ok has, and every other
-
-pub each-ok : {A E : Type 0} (P Q : A → Type 0) (r : Result A E) → ((a : A) → P a → Q a) → IfOk r P → IfOk r Q
-each-ok P Q (Ok a) each p = each a p
-each-ok P Q (Err e) each p = tt
-
-pub each-err : {A E : Type 0} (P Q : E → Type 0) (r : Result A E) → ((e : E) → P e → Q e) → IfErr r P → IfErr r Q
-each-err P Q (Ok a) each p = tt
-each-err P Q (Err e) each p = each e p
 
 -- whether the report of a start made its entry
 pub reports-start : (old new : Post) (began : Bool) (l : Launch) (c : Call) (r : Result Reply NoEntry) → c ≡ asked_start began l → duty_of c ≡ report_call began l

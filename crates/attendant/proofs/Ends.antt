@@ -1,8 +1,9 @@
 -- What the steps of the reaper keep.
 use Rattle.std.proofs.Common.{◌≡◌, inl, inr, ℕ, Bool, true, false, ◌||◌, ◌&&◌, cond, List, [], ◌∷◌, ◌++◌, Option, Some, None, refl, sym, ap, ◌∙◌, subst}
+use Rattle.std.proofs.Math.Bool.{or-false, or-true, and-true, and-false}
 use Rattle.std.specs.Prelude.{IsSome, IfSome, OnErr, Result, Ok, Err, is_ok, is_none, option_map}
-use Rattle.std.proofs.lemmas.Bool.{and_parts}
-use Rattle.std.proofs.lemmas.Option.{IfSome_then}
+use Rattle.std.proofs.lemmas.Bool.{and_parts, false_from_ne_true}
+use Rattle.std.proofs.lemmas.Option.{IfSome_then, same_Some, none-some}
 use Rattle.drmaa_types.specs.declared.refusals.Refusal.{Refusal}
 use Rattle.slab.specs.Slab.{Slab, get}
 use Rattle.drmaa_types.specs.declared.changes.Failed.{Failed}
@@ -29,7 +30,7 @@ use Rattle.attendant.specs.Steps.{entry_of}
 use Rattle.attendant.specs.Rounds.{signal_report, SignalReports, Serves, RunsOn, SeenEnd, Leaves, PollSteps, end_call, is_over, hand_without, EndReports, TakeSteps}
 use Rattle.attendant.specs.Posts.{Post, acts_at}
 use Rattle.call_history.specs.Clients.{number_of}
-use Rattle.attendant.proofs.Entries.{each_more, not_true, or_false, or_true, or_cases, any_more, any_skip, run_same, owed_more, update_cases, some_is}
+use Rattle.attendant.proofs.Entries.{each_more, or_cases, any_more, any_skip, run_same, owed_more, update_cases}
 
 -- the places changed, each child that is there now was there, of the same run
 tends_mapped : {T : Type 0} (launcher reaper : List Act) (at now : ℕ → Option (Held T)) (hand : Option Hand)
@@ -78,16 +79,13 @@ tends_entry launcher reaper at hand hand2 e here ends goes kills owes answered t
 none_has : IsSome {T = Bool} None → ⊥
 none_has has = cc
 
-none_some : {X : Type 0} (x : X) → None ≡ Some x → ⊥
-none_some x e = cc
-
 -- an order that is taken
 take_tends : {T : Type 0} (n : ℕ) (s : Signal) (launcher reaper : List Act) (at : ℕ → Option (Held T))
     → Tends launcher reaper at None → Tends launcher (reaper ++ entry_of n TakeSignal (reply.Signal s) ∷ []) at (Some (record { signal = s; answer = None }))
 take_tends n s launcher reaper at t = tends_entry launcher reaper at None _ (entry_of n TakeSignal (reply.Signal s)) tt
     (λ job attempt is. absurd (cc)) (λ k h is. refl) (λ job attempt is. absurd (cc))
-    (λ h is. ap (λ (x : Hand). Some x.signal) (some_is _ _ is))
-    (λ h is has. absurd (none_has (subst (λ (x : Hand). IsSome x.answer) (sym (some_is _ _ is)) has)))
+    (λ h is. ap (λ (x : Hand). Some x.signal) (same_Some _ _ is))
+    (λ h is has. absurd (none_has (subst (λ (x : Hand). IsSome x.answer) (sym (same_Some _ _ is)) has)))
     t
 
 -- an order that is delivered
@@ -98,7 +96,7 @@ deliver_tends {T = T} told faults launcher reaper old new hand hand2 (inl w) t =
     (tends_mapped launcher reaper (get old) (get new) (Some hand) (λ k h is. (h, sym (w.same k) ∙ is, refl, refl)) t)
 deliver_tends {T = T} told faults launcher reaper old new hand hand2 (inr d) t =
     let mapped = tends_mapped launcher reaper (get old) (get new) (Some hand) (λ k h is. (elim (update_cases old new d.key _ d.updates k h is) [
-      | inl here ↦ (d.held, ap (get old) here.0 ∙ d.there, ap (λ (x : Held T). x.job) (some_is _ _ here.1), ap (λ (x : Held T). x.attempt) (some_is _ _ here.1))
+      | inl here ↦ (d.held, ap (get old) here.0 ∙ d.there, ap (λ (x : Held T). x.job) (same_Some _ _ here.1), ap (λ (x : Held T). x.attempt) (same_Some _ _ here.1))
       | inr other ↦ (h, other.1, refl, refl)
     ])) t in
     let run = run_same hand.signal.job hand.signal.attempt d.held.job d.held.attempt d.same in
@@ -113,8 +111,8 @@ deliver_tends {T = T} told faults launcher reaper old new hand hand2 (inr d) t =
       killed = mapped.killed;
       children = mapped.children;
       apart = mapped.apart;
-      owes = λ h is. t.owes hand refl ∙ ap (λ (x : Hand). Some x.signal) (some_is (record hand { answer = Some (is_ok d.answer) }) h is);
-      delivered = λ h is has. subst (λ (x : Hand). is_launched x.signal.job x.signal.attempt launcher ≡ true) (some_is (record hand { answer = Some (is_ok d.answer) }) h is) launched;
+      owes = λ h is. t.owes hand refl ∙ ap (λ (x : Hand). Some x.signal) (same_Some (record hand { answer = Some (is_ok d.answer) }) h is);
+      delivered = λ h is has. subst (λ (x : Hand). is_launched x.signal.job x.signal.attempt launcher ≡ true) (same_Some (record hand { answer = Some (is_ok d.answer) }) h is) launched;
     })
 
 signal_entry : (n : ℕ) (b : Bool) (s : Signal) (r : Reply) (front : List Act) → owed front ≡ Some s → IsReapersEntry front (entry_of n (signal_report b s) r)
@@ -146,7 +144,7 @@ report_tends n b s r launcher reaper at t = tends_entry launcher reaper at _ Non
 poll_tends : {T : Type 0} (told : T → Option Told) (faults : T → ℕ) (key : ℕ) (held : Held T) (launcher reaper : List Act) (old new : Slab (Held T)) (hand : Option Hand)
     → RunsOn told faults key held old new → Tends launcher reaper (get old) hand → Tends launcher reaper (get new) hand
 poll_tends {T = T} told faults key held launcher reaper old new hand r t = tends_mapped launcher reaper (get old) (get new) hand (λ k h is. (elim (update_cases old new key _ r.updates k h is) [
-  | inl here ↦ (held, ap (get old) here.0 ∙ r.there, ap (λ (x : Held T). x.job) (some_is _ _ here.1), ap (λ (x : Held T). x.attempt) (some_is _ _ here.1))
+  | inl here ↦ (held, ap (get old) here.0 ∙ r.there, ap (λ (x : Held T). x.job) (same_Some _ _ here.1), ap (λ (x : Held T). x.attempt) (same_Some _ _ here.1))
   | inr other ↦ (h, other.1, refl, refl)
 ])) t
 
@@ -178,7 +176,7 @@ end_owes job attempt (Some x) r o = refl
 leave_tends : {T : Type 0} (told : T → Option Told) (faults : T → ℕ) (key : ℕ) (job : JobId) (attempt : ℕ) (x : Option Exit) (launcher reaper : List Act) (old new : Slab (Held T)) (hand : Option Hand)
     → Leaves told faults key job attempt x old new → Tends launcher reaper (get old) hand → Tends launcher reaper (get new) hand
 leave_tends {T = T} told faults key job attempt x launcher reaper old new hand l t = tends_mapped launcher reaper (get old) (get new) hand (λ k h is. (elim (update_cases old new key _ l.updates k h is) [
-  | inl here ↦ absurd (none_some _ here.1)
+  | inl here ↦ absurd (none-some _ here.1)
   | inr other ↦ (h, other.1, refl, refl)
 ])) t
 
@@ -192,10 +190,10 @@ end_tends {T = T} told faults n r key job attempt x launcher reaper old new hand
     (end_entry n job attempt x r reaper run.goes_on)
     (λ other m is. (let same = run_same job attempt other m (sym (end_is job attempt x other m) ∙ is) in
     subst (λ (j : JobId). is_launched j m launcher ≡ true) same.0 (subst (λ (a : ℕ). is_launched job a launcher ≡ true) same.1 run.launched)))
-    (λ k h is. end_is job attempt x h.job h.attempt ∙ not_true _ (λ yes_run.
+    (λ k h is. end_is job attempt x h.job h.attempt ∙ false_from_ne_true _ (λ yes_run.
     (let same = run_same job attempt h.job h.attempt yes_run in
     elim (update_cases old new key _ l.updates k h is) [
-      | inl here ↦ absurd (none_some _ here.1)
+      | inl here ↦ absurd (none-some _ here.1)
       | inr other ↦ absurd (other.0 (t.apart k key h l.held other.1 l.there (sym same.0 ∙ sym l.of_job) (sym same.1 ∙ sym l.of_attempt)))
     ])))
     (λ other m is. (let not_kill = end_no_kill job attempt x other m in absurd (cc)))
@@ -225,12 +223,12 @@ record IsLeft (kind : SignalKind) (answer : Result (Unit {0}) Failed) (c : Told)
   killed : (after_signal kind answer c).killed ≡ (c.killed || (is_ok answer && is_kill kind))
 
 is_left : (kind : SignalKind) (answer : Result (Unit {0}) Failed) (c : Told) → IsLeft kind answer c
-is_left Stop (Ok done) c = record { start = refl; job = refl; attempt = refl; fate = refl; killed = sym (or_false c.killed) }
-is_left Cont (Ok done) c = record { start = refl; job = refl; attempt = refl; fate = refl; killed = sym (or_false c.killed) }
-is_left Kill (Ok done) c = record { start = refl; job = refl; attempt = refl; fate = refl; killed = sym (or_true c.killed) }
-is_left Stop (Err failed) c = record { start = refl; job = refl; attempt = refl; fate = refl; killed = sym (or_false c.killed) }
-is_left Cont (Err failed) c = record { start = refl; job = refl; attempt = refl; fate = refl; killed = sym (or_false c.killed) }
-is_left Kill (Err failed) c = record { start = refl; job = refl; attempt = refl; fate = refl; killed = sym (or_false c.killed) }
+is_left Stop (Ok done) c = record { start = refl; job = refl; attempt = refl; fate = refl; killed = sym (or-false c.killed) }
+is_left Cont (Ok done) c = record { start = refl; job = refl; attempt = refl; fate = refl; killed = sym (or-false c.killed) }
+is_left Kill (Ok done) c = record { start = refl; job = refl; attempt = refl; fate = refl; killed = sym (or-true c.killed) }
+is_left Stop (Err failed) c = record { start = refl; job = refl; attempt = refl; fate = refl; killed = sym (or-false c.killed) }
+is_left Cont (Err failed) c = record { start = refl; job = refl; attempt = refl; fate = refl; killed = sym (or-false c.killed) }
+is_left Kill (Err failed) c = record { start = refl; job = refl; attempt = refl; fate = refl; killed = sym (or-false c.killed) }
 
 child_signalled : (kind : SignalKind) (answer : Result (Unit {0}) Failed) (starts : List Asked) (fate : ℕ → Fate) (job : JobId) (attempt : ℕ) (killed : Bool) (old new : Option Told)
     → new ≡ option_map (after_signal kind answer) old → IsChild starts fate job attempt killed old → IsChild starts fate job attempt (killed || (is_ok answer && is_kill kind)) new
@@ -264,20 +262,12 @@ child_polled starts fate job attempt killed old new is c = record {
   killed_is = c.killed_is;
 }
 
-and_true : (b : Bool) → b ≡ (b && true)
-and_true true = refl
-and_true false = refl
-
-and_false : (b : Bool) → (b && false) ≡ false
-and_false true = refl
-and_false false = refl
-
 same_kill : (a h o k r : Bool) → h ≡ false → r ≡ true → ((a || h) || (o && k)) ≡ (a || (o && (k && r)))
 same_kill true h o k r none run = refl
-same_kill false h o k r none run = ap (λ x. x || (o && k)) none ∙ ap (λ x. o && x) (and_true k) ∙ ap (λ x. o && (k && x)) (sym run)
+same_kill false h o k r none run = ap (λ x. x || (o && k)) none ∙ ap (λ x. o && x) (sym (and-true k)) ∙ ap (λ x. o && (k && x)) (sym run)
 
 other_kill : (a h o k r : Bool) → h ≡ false → r ≡ false → (a || h) ≡ (a || (o && (k && r)))
-other_kill a h o k r none run = ap (λ x. a || x) (none ∙ sym (and_false o) ∙ ap (λ x. o && x) (sym (and_false k)) ∙ ap (λ x. o && (k && x)) (sym run))
+other_kill a h o k r none run = ap (λ x. a || x) (none ∙ sym (and-false o) ∙ ap (λ x. o && x) (sym (and-false k)) ∙ ap (λ x. o && (k && x)) (sym run))
 
 unanswered_kills : (h : Hand) (job : JobId) (attempt : ℕ) → h.answer ≡ None → hand_kills (Some h) job attempt ≡ false
 unanswered_kills h job attempt none = ap (λ (o : Option Bool). is_delivered o && (is_kill h.signal.kind && is_run h.signal.job h.signal.attempt job attempt)) none
@@ -288,7 +278,7 @@ take_tells told starts fate n s launcher reaper at t = record {
   asked = t.asked;
   children = λ k h is. child_by starts fate h.job h.attempt _ _ (told h.child)
       (ap (λ (b : Bool). b || false) (sym (any_skip (λ (x : Act). is_kill_report h.job h.attempt x.call) reaper (entry_of n TakeSignal (reply.Signal s)) refl))) (t.children k h is);
-  failing = λ h is no_answer. absurd (none_some false (ap (λ (x : Hand). x.answer) (some_is (record { signal = s; answer = None }) h is) ∙ no_answer));
+  failing = λ h is no_answer. absurd (none-some false (ap (λ (x : Hand). x.answer) (same_Some (record { signal = s; answer = None }) h is) ∙ no_answer));
   faults = each_more (IsFault starts fate) reaper (entry_of n TakeSignal (reply.Signal s)) t.faults tt;
 }
 
@@ -312,7 +302,7 @@ deliver_tells {T = T} told faults starts fate launcher reaper old new hand hand2
     subst (λ (x : Hand). Tells told starts fate launcher reaper (get new) (Some x)) (sym d.hand_is) (record {
       asked = t.asked;
       children = λ k h is. (elim (update_cases old new d.key _ d.updates k h is) [
-        | inl here ↦ subst (λ (x : Held T). IsChild starts fate x.job x.attempt (is_killed x.job x.attempt reaper || hand_kills (Some (record hand { answer = Some (is_ok d.answer) })) x.job x.attempt) (told x.child)) (some_is _ _ here.1)
+        | inl here ↦ subst (λ (x : Held T). IsChild starts fate x.job x.attempt (is_killed x.job x.attempt reaper || hand_kills (Some (record hand { answer = Some (is_ok d.answer) })) x.job x.attempt) (told x.child)) (same_Some _ _ here.1)
             (child_by starts fate d.held.job d.held.attempt _ _ (told d.child)
             (same_kill (is_killed d.held.job d.held.attempt reaper) (hand_kills (Some hand) d.held.job d.held.attempt) (is_ok d.answer) (is_kill hand.signal.kind) (is_run hand.signal.job hand.signal.attempt d.held.job d.held.attempt)
             (unanswered_kills hand d.held.job d.held.attempt d.unanswered) d.same)
@@ -320,12 +310,12 @@ deliver_tells {T = T} told faults starts fate launcher reaper old new hand hand2
         | inr other ↦ child_by starts fate h.job h.attempt _ _ (told h.child)
             (other_kill (is_killed h.job h.attempt reaper) (hand_kills (Some hand) h.job h.attempt) (is_ok d.answer) (is_kill hand.signal.kind) (is_run hand.signal.job hand.signal.attempt h.job h.attempt)
             (unanswered_kills hand h.job h.attempt d.unanswered)
-            (not_true _ (λ yes_run. (let same = run_same hand.signal.job hand.signal.attempt h.job h.attempt yes_run in
+            (false_from_ne_true _ (λ yes_run. (let same = run_same hand.signal.job hand.signal.attempt h.job h.attempt yes_run in
             other.0 (tends.apart k d.key h d.held other.1 d.there (sym same.0 ∙ run.0) (sym same.1 ∙ run.1))))))
             (t.children k h other.1)
       ]);
-      failing = λ h is no_answer. (let same = some_is (record hand { answer = Some (is_ok d.answer) }) h is in
-          let failed : is_ok d.answer ≡ false = some_is _ _ (ap (λ (x : Hand). x.answer) same ∙ no_answer) in
+      failing = λ h is no_answer. (let same = same_Some (record hand { answer = Some (is_ok d.answer) }) h is in
+          let failed : is_ok d.answer ≡ false = same_Some _ _ (ap (λ (x : Hand). x.answer) same ∙ no_answer) in
           subst (λ (x : Hand). IsFated FailsSignal starts fate x.signal.job x.signal.attempt) same
           (subst (λ (j : JobId). IsFated FailsSignal starts fate j hand.signal.attempt) (sym run.0) (subst (λ (a : ℕ). IsFated FailsSignal starts fate d.held.job a) (sym run.1)
           (child_fated FailsSignal starts fate d.held.job d.held.attempt _ (told d.held.child) was (on_err d.answer _ failed d.named)))));
@@ -342,8 +332,8 @@ report_tells told starts fate n b s r launcher reaper at t = record {
   asked = t.asked;
   children = λ k h is. child_by starts fate h.job h.attempt _ _ (told h.child)
       (ap (λ (x : Bool). is_killed h.job h.attempt reaper || x) (sym (kill_is b s h.job h.attempt))
-      ∙ sym (any_more (λ (x : Act). is_kill_report h.job h.attempt x.call) reaper (entry_of n (signal_report b s) r)) ∙ sym (or_false _)) (t.children k h is);
-  failing = λ h is no_answer. absurd (none_some h is);
+      ∙ sym (any_more (λ (x : Act). is_kill_report h.job h.attempt x.call) reaper (entry_of n (signal_report b s) r)) ∙ sym (or-false _)) (t.children k h is);
+  failing = λ h is no_answer. absurd (none-some h is);
   faults = each_more (IsFault starts fate) reaper (entry_of n (signal_report b s) r) t.faults (report_fault starts fate b s (λ e. t.failing _ refl (ap Some e)));
 }
 
@@ -352,7 +342,7 @@ poll_tells : {T : Type 0} (told : T → Option Told) (faults : T → ℕ) (start
 poll_tells {T = T} told faults starts fate key held launcher reaper old new hand r t = record {
   asked = t.asked;
   children = λ k h is. (elim (update_cases old new key _ r.updates k h is) [
-    | inl here ↦ subst (λ (x : Held T). IsChild starts fate x.job x.attempt (is_killed x.job x.attempt reaper || hand_kills hand x.job x.attempt) (told x.child)) (some_is _ _ here.1)
+    | inl here ↦ subst (λ (x : Held T). IsChild starts fate x.job x.attempt (is_killed x.job x.attempt reaper || hand_kills hand x.job x.attempt) (told x.child)) (same_Some _ _ here.1)
         (child_polled starts fate held.job held.attempt _ (told held.child) (told r.child) r.told_is (t.children key held r.there))
     | inr other ↦ t.children k h other.1
   ]);
@@ -367,7 +357,7 @@ without_kills b job attempt (Some g) other m apart =
       | true ↦ λ is. (let same = run_same g.signal.job g.signal.attempt job attempt (and_parts (is_run g.signal.job g.signal.attempt job attempt) (b || is_none g.answer) is).0 in
           let not_it : is_run g.signal.job g.signal.attempt other m ≡ false =
           subst (λ (j : JobId). is_run j g.signal.attempt other m ≡ false) (sym same.0) (subst (λ (a : ℕ). is_run job a other m ≡ false) (sym same.1) apart) in
-          ap (λ (x : Bool). is_delivered g.answer && (is_kill g.signal.kind && x)) not_it ∙ ap (λ (x : Bool). is_delivered g.answer && x) (and_false (is_kill g.signal.kind)) ∙ and_false (is_delivered g.answer))
+          ap (λ (x : Bool). is_delivered g.answer && (is_kill g.signal.kind && x)) not_it ∙ ap (λ (x : Bool). is_delivered g.answer && x) (and-false (is_kill g.signal.kind)) ∙ and-false (is_delivered g.answer))
       | false ↦ λ is. refl
     ]) refl
 
@@ -381,10 +371,10 @@ others_told : {T : Type 0} (told : T → Option Told) (faults : T → ℕ) (star
     → Leaves told faults key job attempt x old new → Tends launcher reaper (get old) hand → Tells told starts fate launcher reaper (get old) hand
     → (k : ℕ) (h : Held T) → get new k ≡ Some h → IsChild starts fate h.job h.attempt (is_killed h.job h.attempt reaper || hand_kills (hand_without b job attempt hand) h.job h.attempt) (told h.child)
 others_told {T = T} told faults starts fate b key job attempt x launcher reaper old new hand l tends t k h is = elim (update_cases old new key _ l.updates k h is) [
-  | inl here ↦ absurd (none_some _ here.1)
+  | inl here ↦ absurd (none-some _ here.1)
   | inr other ↦ child_by starts fate h.job h.attempt _ _ (told h.child)
       (ap (λ (o : Bool). is_killed h.job h.attempt reaper || o) (without_kills b job attempt hand h.job h.attempt
-      (not_true _ (λ yes_run. (let same = run_same job attempt h.job h.attempt yes_run in
+      (false_from_ne_true _ (λ yes_run. (let same = run_same job attempt h.job h.attempt yes_run in
       other.0 (tends.apart k key h l.held other.1 l.there (sym same.0 ∙ sym l.of_job) (sym same.1 ∙ sym l.of_attempt)))))))
       (t.children k h other.1)
 ]
@@ -453,7 +443,7 @@ end_agrees {T = T} told faults starts fate n r key job attempt x launcher reaper
   starts_reported = a.starts_reported;
   exits = each_more (IsExit starts fate) reaper (entry_of n (end_call job attempt x) r) a.exits
       (end_exit told faults starts fate l.held.child job attempt reaper _ x
-      (ap (λ (b : Bool). is_killed job attempt reaper || b) (unanswered_none hand job attempt u) ∙ or_false _) l.seen
+      (ap (λ (b : Bool). is_killed job attempt reaper || b) (unanswered_none hand job attempt u) ∙ or-false _) l.seen
       (subst (λ (j : JobId). IsChild starts fate j attempt (is_killed j attempt reaper || hand_kills hand j attempt) (told l.held.child)) l.of_job
       (subst (λ (a : ℕ). IsChild starts fate l.held.job a (is_killed l.held.job a reaper || hand_kills hand l.held.job a) (told l.held.child)) l.of_attempt (t.children key l.held l.there))));
 }

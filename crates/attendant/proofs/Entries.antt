@@ -1,5 +1,6 @@
 -- What holds of lists of entries as they grow.
 use Rattle.std.proofs.Common.{◌≡◌, ◌⊎◌, inl, inr, ℕ, zero, suc, eqb, Bool, true, false, ◌||◌, List, [], ◌∷◌, ◌++◌, length, filter, Option, Some, None, refl, sym, ap, ◌∙◌, subst, append_assoc, append-nil}
+use Rattle.std.proofs.Math.Bool.{or-false, or-true}
 use Rattle.std.specs.List.{list_any, slice_get}
 use Rattle.slab.specs.Slab.{Slab, get, Updates}
 use Rattle.std.proofs.lemmas.List.Folds.{list_any-append}
@@ -39,28 +40,16 @@ each_after_at P front [] back e all = subst (λ l. P l e) (sym (append-nil front
 each_after_at P front (x ∷ xs) back e all = subst (λ l. P l e) (append_assoc front (x ∷ []) xs) (each_after_at P (front ++ x ∷ []) xs back e all.1)
 
 -- tests
-pub not_true : (b : Bool) → (b ≡ true → ⊥) → b ≡ false
-not_true true h = absurd (h refl)
-not_true false h = refl
-
-pub or_false : (b : Bool) → (b || false) ≡ b
-or_false true = refl
-or_false false = refl
-
-pub or_true : (b : Bool) → (b || true) ≡ true
-or_true true = refl
-or_true false = refl
-
 pub or_cases : (a b : Bool) (P : Type 0) → (a ≡ true → P) → (b ≡ true → P) → (a || b) ≡ true → P
 or_cases true b P f g e = f refl
 or_cases false b P f g e = g e
 
 -- a list of tests with one entry more
 pub any_more : (p : Act → Bool) (es : List Act) (e : Act) → list_any p (es ++ e ∷ []) ≡ (list_any p es || p e)
-any_more p es e = list_any-append p es (e ∷ []) ∙ ap (λ b. list_any p es || b) (or_false (p e))
+any_more p es e = list_any-append p es (e ∷ []) ∙ ap (λ b. list_any p es || b) (or-false (p e))
 
 pub any_skip : (p : Act → Bool) (es : List Act) (e : Act) → p e ≡ false → list_any p (es ++ e ∷ []) ≡ list_any p es
-any_skip p es e other = any_more p es e ∙ ap (λ b. list_any p es || b) other ∙ or_false (list_any p es)
+any_skip p es e other = any_more p es e ∙ ap (λ b. list_any p es || b) other ∙ or-false (list_any p es)
 
 pub any_kept : (p : Act → Bool) (es fs : List Act) → list_any p es ≡ true → list_any p (es ++ fs) ≡ true
 any_kept p es fs is = list_any-append p es fs ∙ ap (λ b. b || list_any p fs) is
@@ -73,7 +62,7 @@ any_of_filter p q (x ∷ xs) is =
         | true ↦ λ _. refl
         | false ↦ λ is. any_of_filter p q xs is
       ]) (rw t at is)
-      | false ↦ λ f is. ap (λ b. p x || b) (any_of_filter p q xs (rw f at is)) ∙ or_true (p x)
+      | false ↦ λ f is. ap (λ b. p x || b) (any_of_filter p q xs (rw f at is)) ∙ or-true (p x)
     ]) refl is
 
 -- runs
@@ -132,9 +121,6 @@ update_cases old new key slot u k x is =
       | true ↦ λ e. (let same = eqb-true k key e in inl (same, sym u.changed ∙ ap (get new) (sym same) ∙ is))
       | false ↦ λ e. (let other = eqb-false k key e in inr (other, sym (u.others k other) ∙ is))
     ]) refl
-
-pub some_is : {X : Type 0} (x y : X) → Some x ≡ Some y → x ≡ y
-some_is x y e = cc
 
 pub updates_on : {T : Type 0} (old mid new : Slab T) (key : ℕ) (a b : Option T) → Updates old mid key a → Updates mid new key b → Updates old new key b
 updates_on old mid new key a b u v = record { changed = v.changed; others = λ other apart. v.others other apart ∙ u.others other apart }

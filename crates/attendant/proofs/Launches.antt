@@ -1,10 +1,11 @@
 -- What a round of the launcher keeps.
 use Rattle.std.proofs.Common.{◌≡◌, inl, inr, ℕ, zero, suc, ◌+◌, Bool, true, false, not, ◌||◌, ◌&&◌, List, [], ◌∷◌, ◌++◌, length, map, Option, Some, None, refl, sym, ap, ◌∙◌, subst, append-nil, eq-eqb, length-append}
+use Rattle.std.proofs.Math.Bool.{or-true}
 use Rattle.std.specs.Prelude.{IsSome, IsOk, Result, Ok, Err, IfErr}
 use Rattle.std.specs.List.{slice_get}
-use Rattle.std.proofs.lemmas.Bool.{and_parts, and_from}
+use Rattle.std.proofs.lemmas.Bool.{and_parts, and_from, false_from_ne_true}
 use Rattle.std.proofs.lemmas.List.{map-append}
-use Rattle.std.proofs.lemmas.Option.{slice_get-map}
+use Rattle.std.proofs.lemmas.Option.{slice_get-map, same_Some}
 use Rattle.std.specs.Option.{option_map, option_map_or}
 use Rattle.slab.specs.Slab.{Slab, get, SameValues}
 use Rattle.drmaa_types.specs.declared.identifiers.JobId.{JobId}
@@ -32,7 +33,7 @@ use Rattle.drmaa_model.specs.declared.faults.NoEntry.TheVariants as no
 use Rattle.attendant.specs.declared.launching.Launched.{Launched}
 use Rattle.attendant.specs.declared.launching.Launched.TheVariants as launched
 use Rattle.drmaa_types.specs.declared.refusals.Refusal.{Refusal}
-use Rattle.attendant.proofs.Entries.{each_more, each_map, not_true, or_true, or_cases, any_more, any_skip, any_kept, run_same, requests_append, last_launch_more, slice_get_kept, slice_get_seam, slice_get_cases, update_cases, some_is}
+use Rattle.attendant.proofs.Entries.{each_more, each_map, or_cases, any_more, any_skip, any_kept, run_same, requests_append, last_launch_more, slice_get_kept, slice_get_seam, slice_get_cases, update_cases}
 
 pub run_refl : (job : JobId) (attempt : ℕ) → is_run job attempt job attempt ≡ true
 run_refl job attempt = and_from _ _ (eq-eqb job.0 job.0 refl) (eq-eqb attempt attempt refl)
@@ -61,11 +62,11 @@ hand_of launcher reaper at (Some h) t job attempt is =
 fresh : {T : Type 0} (launcher reaper : List Act) (at : ℕ → Option (Held T)) (hand : Option Hand) → Tends launcher reaper at hand → (job : JobId) (attempt : ℕ)
     → is_launched job attempt launcher ≡ false → IsFresh reaper at hand job attempt
 fresh launcher reaper at hand t job attempt new = record {
-  ended = not_true _ (λ is. (let l = t.ended job attempt is in absurd (cc)));
-  killed = not_true _ (λ is. (let l = t.killed job attempt is in absurd (cc)));
+  ended = false_from_ne_true _ (λ is. (let l = t.ended job attempt is in absurd (cc)));
+  killed = false_from_ne_true _ (λ is. (let l = t.killed job attempt is in absurd (cc)));
   no_child = λ k h is same_job same_attempt. (let r = (t.children k h is).launched in
       let l : is_launched job attempt launcher ≡ true = subst (λ (j : JobId). is_launched j attempt launcher ≡ true) same_job (subst (λ (a : ℕ). is_launched h.job a launcher ≡ true) same_attempt r) in absurd (cc));
-  no_hand = not_true _ (λ is. (let l = hand_of launcher reaper at hand t job attempt is in absurd (cc)));
+  no_hand = false_from_ne_true _ (λ is. (let l = hand_of launcher reaper at hand t job attempt is in absurd (cc)));
 }
 
 -- a launch that is taken
@@ -84,7 +85,7 @@ tends_launch n l launcher reaper at hand new t = record {
 }
 
 launched_now : (n : ℕ) (l : Launch) (launcher : List Act) → is_launched l.job l.attempt (launcher ++ entry_of n TakeLaunch (reply.Launch l) ∷ []) ≡ true
-launched_now n l launcher = any_more (launches_run l.job l.attempt) launcher _ ∙ ap (λ b. is_launched l.job l.attempt launcher || b) (run_refl l.job l.attempt) ∙ or_true _
+launched_now n l launcher = any_more (launches_run l.job l.attempt) launcher _ ∙ ap (λ b. is_launched l.job l.attempt launcher || b) (run_refl l.job l.attempt) ∙ or-true _
 
 start_is : (began b : Bool) (l : Launch) (job : JobId) (attempt : ℕ) → is_start_report b job attempt (report_call began l) ≡ true → is_run l.job l.attempt job attempt ≡ true
 start_is true b l job attempt is = (and_parts _ _ is).1
@@ -141,7 +142,7 @@ tends_put {T = T} l child launcher reaper old new hand p launched f t = record {
   ended = t.ended;
   killed = t.killed;
   children = λ key held is. (elim (update_cases old new p.key _ p.updates key held is) [
-    | inl here ↦ (let e = here.1 in subst (λ (h : Held T). IsRunning launcher reaper h.job h.attempt) (some_is _ _ here.1) (record { launched = launched; goes_on = f.ended }))
+    | inl here ↦ (let e = here.1 in subst (λ (h : Held T). IsRunning launcher reaper h.job h.attempt) (same_Some _ _ here.1) (record { launched = launched; goes_on = f.ended }))
     | inr other ↦ t.children key held other.1
   ]);
   apart = λ k m h i at_k at_m same_job same_attempt.
@@ -149,11 +150,11 @@ tends_put {T = T} l child launcher reaper old new hand p launched f t = record {
         | inl here ↦ (elim (update_cases old new p.key _ p.updates m i at_m) [
           | inl there ↦ here.0 ∙ sym there.0
           | inr there ↦ absurd (f.no_child m i there.1
-              (sym same_job ∙ sym (ap (λ (h : Held T). h.job) (some_is _ _ here.1))) (sym same_attempt ∙ sym (ap (λ (h : Held T). h.attempt) (some_is _ _ here.1))))
+              (sym same_job ∙ sym (ap (λ (h : Held T). h.job) (same_Some _ _ here.1))) (sym same_attempt ∙ sym (ap (λ (h : Held T). h.attempt) (same_Some _ _ here.1))))
         ])
         | inr here ↦ (elim (update_cases old new p.key _ p.updates m i at_m) [
           | inl there ↦ absurd (f.no_child k h here.1
-              (same_job ∙ sym (ap (λ (h : Held T). h.job) (some_is _ _ there.1))) (same_attempt ∙ sym (ap (λ (h : Held T). h.attempt) (some_is _ _ there.1))))
+              (same_job ∙ sym (ap (λ (h : Held T). h.job) (same_Some _ _ there.1))) (same_attempt ∙ sym (ap (λ (h : Held T). h.attempt) (same_Some _ _ there.1))))
           | inr there ↦ t.apart k m h i here.1 there.1 same_job same_attempt
         ])
       ]);
@@ -248,7 +249,7 @@ puts_children : {T : Type 0} (told : T → Option Told) (l : Launch) (began : Bo
 puts_children told l false mine reaper starts starts2 fate old new hand f more same kept key held is = kept key held (sym (same key) ∙ is)
 puts_children {T = T} told l true mine reaper starts starts2 fate old new hand f more puts kept key held is =
     elim (update_cases old new puts.put.key _ puts.put.updates key held is) [
-      | inl here ↦ subst (λ (h : Held T). IsChild starts2 fate h.job h.attempt (is_killed h.job h.attempt reaper || hand_kills hand h.job h.attempt) (told h.child)) (some_is _ _ here.1)
+      | inl here ↦ subst (λ (h : Held T). IsChild starts2 fate h.job h.attempt (is_killed h.job h.attempt reaper || hand_kills hand h.job h.attempt) (told h.child)) (same_Some _ _ here.1)
           (new_child told l starts starts2 fate puts.child _ (ap (λ b. b || hand_kills hand l.job l.attempt) f.killed ∙ f.no_hand) more puts.tells)
       | inr other ↦ kept key held other.1
     ]
@@ -280,9 +281,9 @@ tells_made {T = T} told n l began answer mine reaper starts starts2 fate old new
 -- the launches that are read off are launches
 requested_here : (l : Launch) (es : List Act) → ((m : ℕ) (r : Request) → slice_get (requests_in es) m ≡ Some r → is_launched r.job r.attempt es ≡ true) → (m : ℕ) (r : Request)
     → slice_get (request_of l ∷ requests_in es) m ≡ Some r → (is_run l.job l.attempt r.job r.attempt || is_launched r.job r.attempt es) ≡ true
-requested_here l es later zero r is = (let e : request_of l ≡ r = some_is (request_of l) r is in
+requested_here l es later zero r is = (let e : request_of l ≡ r = same_Some (request_of l) r is in
     ap (λ b. b || is_launched r.job r.attempt es) (subst (λ (q : Request). is_run l.job l.attempt q.job q.attempt ≡ true) e (run_refl l.job l.attempt)))
-requested_here l es later (suc m) r is = ap (λ b. is_run l.job l.attempt r.job r.attempt || b) (later m r is) ∙ or_true _
+requested_here l es later (suc m) r is = ap (λ b. is_run l.job l.attempt r.job r.attempt || b) (later m r is) ∙ or-true _
 
 requested : (es : List Act) (m : ℕ) (r : Request) → slice_get (requests_in es) m ≡ Some r → is_launched r.job r.attempt es ≡ true
 requested [] m r is = absurd (cc)
@@ -297,7 +298,7 @@ agrees_old : (n : ℕ) (l : Launch) (began : Bool) (r : Reply) (mine : List Act)
 agrees_old n l began r mine a other old = record { began = same true ∙ old.began; failed = same false ∙ old.failed } where
   same : (b : Bool) → is_reported b a.job a.attempt ((mine ++ entry_of n TakeLaunch (reply.Launch l) ∷ []) ++ entry_of n (report_call began l) r ∷ []) ≡ is_reported b a.job a.attempt mine
   same b = any_skip (λ (e : Act). is_start_report b a.job a.attempt e.call) (mine ++ entry_of n TakeLaunch (reply.Launch l) ∷ []) (entry_of n (report_call began l) r)
-      (not_true _ (λ is. (let run = start_is began b l a.job a.attempt is in absurd (cc))))
+      (false_from_ne_true _ (λ is. (let run = start_is began b l a.job a.attempt is in absurd (cc))))
       ∙ any_skip (λ (e : Act). is_start_report b a.job a.attempt e.call) mine (entry_of n TakeLaunch (reply.Launch l)) refl
 
 start_now : (began : Bool) (l : Launch) → (is_start_report true l.job l.attempt (report_call began l) ≡ began) × (is_start_report false l.job l.attempt (report_call began l) ≡ not began)
@@ -321,14 +322,14 @@ agrees_made : {T : Type 0} (told : T → Option Told) (n : ℕ) (l : Launch) (be
 agrees_made told n l began r mine reaper starts starts2 fate at hand new more tends tells a = record {
   starts_reported = λ m s is.
       (elim (slice_get_cases starts _ m s (ap (λ (x : List Asked). slice_get x m) (sym more) ∙ is)) [
-        | inl old ↦ agrees_old n l began r mine s (not_true _ (λ run.
+        | inl old ↦ agrees_old n l began r mine s (false_from_ne_true _ (λ run.
             (let same = run_same l.job l.attempt s.job s.attempt run in
             let there : is_launched s.job s.attempt mine ≡ true = requested mine m (record { job = s.job; attempt = s.attempt; words = s.words })
             (ap (λ (q : List Request). slice_get q m) tells.asked ∙ slice_get-map (λ (a : Asked). record { job = a.job; attempt = a.attempt; words = a.words }) starts m
             ∙ ap (option_map (λ (a : Asked). record { job = a.job; attempt = a.attempt; words = a.words })) old) in
             let mine_too : is_launched l.job l.attempt mine ≡ true = subst (λ (j : JobId). is_launched j l.attempt mine ≡ true) (sym same.0) (subst (λ (k : ℕ). is_launched s.job k mine ≡ true) (sym same.1) there) in
             absurd (cc)))) (a.starts_reported m s old)
-        | inr now ↦ subst (IsReported _) (sym now) (agrees_new n l began r mine l.words (λ b. not_true _ (λ is. (let t = tends.started b l.job l.attempt is in absurd (cc)))))
+        | inr now ↦ subst (IsReported _) (sym now) (agrees_new n l began r mine l.words (λ b. false_from_ne_true _ (λ is. (let t = tends.started b l.job l.attempt is in absurd (cc)))))
       ]);
   exits = subst (λ (s : List Asked). Each (IsExit s fate) reaper) (sym more)
       (each_map (IsExit starts fate) (IsExit (starts ++ _ ∷ []) fate) reaper (λ front e. exit_kept starts _ fate front e.call) a.exits);

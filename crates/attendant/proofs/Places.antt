@@ -1,9 +1,10 @@
 -- What the polls of a round come to, place by place.
 use Rattle.std.proofs.Common.{◌≡◌, ◌⊎◌, inl, inr, ℕ, ◌+◌, Bool, true, false, ◌||◌, ◌&&◌, cond, List, [], ◌∷◌, ◌++◌, length, Option, Some, None, refl, sym, ap, ◌∙◌, subst, append_assoc, append-nil, arith, ◌≤◌, ◌<◌, ◌-◌, min, leb, eqb, length-append}
+use Rattle.std.proofs.Math.Bool.{or-false, or-true}
 use Rattle.std.specs.Prelude.{IsOk, Result, Ok, Err, IfOk, IfErr, IfSome, is_none, unwrap_or, ◌^◌}
-use Rattle.std.proofs.lemmas.Option.{IfSome_then}
+use Rattle.std.proofs.lemmas.Option.{IfSome_then, same_Some, none-some}
 use Rattle.std.specs.List.{AllByRecursion}
-use Rattle.std.proofs.lemmas.Bool.{and_parts, and_from, leb-true, leb-false, eqb-true, eqb-false}
+use Rattle.std.proofs.lemmas.Bool.{and_parts, and_from, leb-true, leb-false, eqb-true, eqb-false, false_from_ne_true, both_ways}
 use Rattle.std.proofs.lemmas.List.Folds.{list_any-append}
 use Rattle.std.proofs.lemmas.List.{get_or_past}
 use Rattle.slab.specs.Slab.{Slab, get, SameValues, Updates}
@@ -25,15 +26,9 @@ use Rattle.attendant.specs.Steps.{entry_of}
 use Rattle.attendant.specs.Rounds.{Leaves, PollSteps, end_call, asked_end, is_over, hand_without, EndReports, IsPolled, IsEndOf, HasLeft, KeepsOrder, OrderAfter, PollsPlaces, LosesEnd, PollsAll, IsEndIn, ReportsEach}
 use Rattle.attendant.specs.PairLaws.{post-itself}
 use Rattle.attendant.proofs.Desks.{still-free, within, fails-on, fails-from}
-use Rattle.attendant.proofs.Entries.{not_true, or_false, or_true, any_kept, run_same, some_is}
+use Rattle.attendant.proofs.Entries.{any_kept, run_same}
 use Rattle.attendant.proofs.Launches.{run_refl}
 use Rattle.attendant.proofs.Ends.{end_is}
-
-none_some : {X : Type 0} (x : X) → None ≡ Some x → ⊥
-none_some x e = cc
-
-true_false : (b : Bool) → b ≡ true → b ≡ false → ⊥
-true_false b t f = cc
 
 no_answer_is : (o : Option Bool) → is_none o ≡ true → o ≡ None
 no_answer_is None is = refl
@@ -42,7 +37,7 @@ no_answer_is (Some b) is = absurd (cc)
 none_stays : {T : Type 0} (told : T → Option Told) (faults : T → ℕ) (a b : Option (Held T)) → IsPolled told faults a b → a ≡ None → b ≡ None
 none_stays told faults None None p is = refl
 none_stays told faults None (Some h) p is = absurd p
-none_stays told faults (Some h) b p is = absurd (none_some h (sym is))
+none_stays told faults (Some h) b p is = absurd (none-some h (sym is))
 
 pub ends_mono : {T : Type 0} (told : T → Option Told) (faults : T → ℕ) (at now later : ℕ → Option (Held T)) (es : List Act) → ((k : ℕ) → now k ≡ None → later k ≡ None)
     → AllByRecursion (IsEndOf told faults at now) es → AllByRecursion (IsEndOf told faults at later) es
@@ -75,23 +70,23 @@ order_same at now None stay = refl
 order_same at now (Some h) stay = inl (record { stays = refl; goes_on = refl; attended = λ no_answer left. stay left.key left.held left.there left.left })
 
 pub order_none : {T : Type 0} (at : ℕ → Option (Held T)) (hand : Option Hand) → OrderAfter [] at at hand hand
-order_none at hand = order_same at at hand (λ k h there left. none_some h (sym left ∙ there))
+order_none at hand = order_same at at hand (λ k h there left. none-some h (sym left ∙ there))
 
 -- one place
 stays_on : {T : Type 0} (key : ℕ) (after : Held T) (old new : Slab (Held T)) → Updates old new key (Some after) → (k : ℕ) (h : Held T) → get old k ≡ Some h → get new k ≡ None → ⊥
 stays_on key after old new u k h there left = (elim (eqb k key) as (λ b. eqb k key ≡ b → ⊥) [
-  | true ↦ λ e. none_some after (sym left ∙ ap (get new) (eqb-true k key e) ∙ u.changed)
-  | false ↦ λ e. none_some h (sym left ∙ u.others k (eqb-false k key e) ∙ there)
+  | true ↦ λ e. none-some after (sym left ∙ ap (get new) (eqb-true k key e) ∙ u.changed)
+  | false ↦ λ e. none-some h (sym left ∙ u.others k (eqb-false k key e) ∙ there)
 ]) refl
 
 -- where one child leaves, whoever has left is of its run
 left_run : {T : Type 0} (told : T → Option Told) (faults : T → ℕ) (key : ℕ) (job : JobId) (attempt : ℕ) (x : Option Exit) (old new : Slab (Held T)) (h : Hand)
     → Leaves told faults key job attempt x old new → HasLeft (get old) (get new) h → is_run h.signal.job h.signal.attempt job attempt ≡ true
 left_run {T = T} told faults key job attempt x old new h l left = (elim (eqb left.key key) as (λ b. eqb left.key key ≡ b → is_run h.signal.job h.signal.attempt job attempt ≡ true) [
-  | true ↦ λ e. (let same = some_is left.held l.held (sym left.there ∙ ap (get old) (eqb-true left.key key e) ∙ l.there) in
+  | true ↦ λ e. (let same = same_Some left.held l.held (sym left.there ∙ ap (get old) (eqb-true left.key key e) ∙ l.there) in
       subst (λ (j : JobId). is_run h.signal.job h.signal.attempt j attempt ≡ true) (ap (λ (z : Held T). z.job) same ∙ l.of_job)
       (subst (λ (a : ℕ). is_run h.signal.job h.signal.attempt left.held.job a ≡ true) (ap (λ (z : Held T). z.attempt) same ∙ l.of_attempt) left.same))
-  | false ↦ λ e. absurd (none_some left.held (sym left.left ∙ l.updates.others left.key (eqb-false left.key key e) ∙ left.there))
+  | false ↦ λ e. absurd (none-some left.held (sym left.left ∙ l.updates.others left.key (eqb-false left.key key e) ∙ left.there))
 ]) refl
 
 has_left : {T : Type 0} (told : T → Option Told) (faults : T → ℕ) (key : ℕ) (job : JobId) (attempt : ℕ) (x : Option Exit) (old new : Slab (Held T)) (h : Hand)
@@ -115,8 +110,8 @@ order_ended told faults n key job attempt x r old new (Some h) hand2 l is =
       })
       | false ↦ λ apart. inl (record {
         stays = is ∙ ap (λ (b : Bool). cond (b && true) None (Some h)) apart;
-        goes_on = or_false _ ∙ end_is job attempt x h.signal.job h.signal.attempt ∙ not_true _ (λ t. true_false _ (run_turned job attempt h.signal.job h.signal.attempt t) apart);
-        attended = λ no_answer left. true_false _ (left_run told faults key job attempt x old new h l left) apart;
+        goes_on = or-false _ ∙ end_is job attempt x h.signal.job h.signal.attempt ∙ false_from_ne_true _ (λ t. both_ways _ apart (run_turned job attempt h.signal.job h.signal.attempt t));
+        attended = λ no_answer left. both_ways _ apart (left_run told faults key job attempt x old new h l left);
       })
     ]) refl
 
@@ -132,7 +127,7 @@ order_lost told faults key job attempt x old new (Some h) hand2 l is =
       | false ↦ λ on. inl (record {
         stays = is ∙ ap (λ (b : Bool). cond b None (Some h)) on;
         goes_on = refl;
-        attended = λ no_answer left. true_false _ (and_from _ _ (left_run told faults key job attempt x old new h l left) (ap is_none no_answer)) on;
+        attended = λ no_answer left. both_ways _ on (and_from _ _ (left_run told faults key job attempt x old new h l left) (ap is_none no_answer));
       })
     ]) refl
 
@@ -146,7 +141,7 @@ places_none told faults from mine at hand Clean = record {
   ends = tt;
   counted = refl;
   order = order_none at hand;
-  whole = λ clean k h is none. absurd (none_some h (sym none ∙ is));
+  whole = λ clean k h is none. absurd (none-some h (sym none ∙ is));
 }
 
 pub gone_on : {T : Type 0} (told : T → Option Told) (faults : T → ℕ) (from to : ℕ) (mine mine2 : List Act) (at now : ℕ → Option (Held T)) (hand hand2 : Option Hand) (count : ℕ) (Clean : Type 0) → PollsPlaces told faults from to mine mine2 at now hand hand2 count Clean
@@ -163,18 +158,18 @@ gone_on told faults from to mine mine2 at now hand hand2 count Clean p k none =
 pub whole_on : {T : Type 0} (h : Held T) (xs ys : List Act) (o : Option (Held T)) → (o ≡ None → is_ended h.job h.attempt xs ≡ true) → ((i : Held T) → o ≡ Some i → is_ended h.job h.attempt ys ≡ true)
     → (o ≡ o) → is_ended h.job h.attempt (xs ++ ys) ≡ true
 whole_on h xs ys None a b same = any_kept (λ (e : Act). is_end_report h.job h.attempt e.call) xs ys (a refl)
-whole_on h xs ys (Some i) a b same = list_any-append (λ (e : Act). is_end_report h.job h.attempt e.call) xs ys ∙ ap (λ (t : Bool). is_ended h.job h.attempt xs || t) (b i refl) ∙ or_true _
+whole_on h xs ys (Some i) a b same = list_any-append (λ (e : Act). is_end_report h.job h.attempt e.call) xs ys ∙ ap (λ (t : Bool). is_ended h.job h.attempt xs || t) (b i refl) ∙ or-true _
 
 pub record SameRun {T : Type 0} (i h : Held T) : Type 0 where
   pub of_job : i.job ≡ h.job
   pub of_attempt : i.attempt ≡ h.attempt
 
 polled_same : {T : Type 0} (told : T → Option Told) (faults : T → ℕ) (h i : Held T) (a b : Option (Held T)) → IsPolled told faults a b → a ≡ Some h → b ≡ Some i → SameRun i h
-polled_same told faults h i None b p is at = absurd (none_some h is)
-polled_same told faults h i (Some x) None p is at = absurd (none_some i at)
+polled_same told faults h i None b p is at = absurd (none-some h is)
+polled_same told faults h i (Some x) None p is at = absurd (none-some i at)
 polled_same {T = T} told faults h i (Some x) (Some y) p is at = record {
-  of_job = sym (ap (λ (z : Held T). z.job) (some_is y i at)) ∙ p.of_job ∙ ap (λ (z : Held T). z.job) (some_is x h is);
-  of_attempt = sym (ap (λ (z : Held T). z.attempt) (some_is y i at)) ∙ p.of_attempt ∙ ap (λ (z : Held T). z.attempt) (some_is x h is);
+  of_job = sym (ap (λ (z : Held T). z.job) (same_Some y i at)) ∙ p.of_job ∙ ap (λ (z : Held T). z.job) (same_Some x h is);
+  of_attempt = sym (ap (λ (z : Held T). z.attempt) (same_Some y i at)) ∙ p.of_attempt ∙ ap (λ (z : Held T). z.attempt) (same_Some x h is);
 }
 
 same_run : {T : Type 0} (h i : Held T) → i ≡ h → SameRun i h
@@ -184,9 +179,9 @@ pub kept_run : {T : Type 0} (told : T → Option Told) (faults : T → ℕ) (fro
     → (k : ℕ) (h i : Held T) → at k ≡ Some h → now k ≡ Some i → SameRun i h
 kept_run told faults from to mine mine2 at now hand hand2 count Clean p k h i is there =
     (elim (leb from k) as (λ b. leb from k ≡ b → SameRun i h) [
-      | false ↦ λ low. same_run h i (some_is i h (sym there ∙ p.before k (let g = leb-false from k low in omega arith) ∙ is))
+      | false ↦ λ low. same_run h i (same_Some i h (sym there ∙ p.before k (let g = leb-false from k low in omega arith) ∙ is))
       | true ↦ λ low. (elim (leb to k) as (λ b. leb to k ≡ b → SameRun i h) [
-        | true ↦ λ high. same_run h i (some_is i h (sym there ∙ p.after k (leb-true to k high) ∙ is))
+        | true ↦ λ high. same_run h i (same_Some i h (sym there ∙ p.after k (leb-true to k high) ∙ is))
         | false ↦ λ high. polled_same told faults h i (at k) (now k) (p.polled k (leb-true from k low) (let g = leb-false to k high in omega arith)) is there
       ]) refl
     ]) refl
@@ -203,7 +198,7 @@ same_turned i h s = record { of_job = sym s.of_job; of_attempt = sym s.of_attemp
 
 left_late : {T : Type 0} (a0 a1 a2 : ℕ → Option (Held T)) (h : Hand) → ((k : ℕ) → a0 k ≡ None → a1 k ≡ None) → ((k : ℕ) (g i : Held T) → a0 k ≡ Some g → a1 k ≡ Some i → SameRun i g) → HasLeft a1 a2 h → HasLeft a0 a2 h
 left_late {T = T} a0 a1 a2 h gone kept left = (elim (a0 left.key) as (λ o. a0 left.key ≡ o → HasLeft a0 a2 h) [
-  | None ↦ λ none. absurd (none_some left.held (sym (gone left.key none) ∙ left.there))
+  | None ↦ λ none. absurd (none-some left.held (sym (gone left.key none) ∙ left.there))
   | Some g ↦ λ some. record { key = left.key; held = g; there = some; left = left.left; same = run_as h left.held g (kept left.key g left.held some left.there) left.same }
 ]) refl
 
@@ -223,14 +218,14 @@ order_next a0 a1 a2 first second h h2 gone kept k (inl l) = inl (record {
 order_next a0 a1 a2 first second h h2 gone kept k (inr d) = inr (record {
   gone = d.gone;
   why = elim d.why [
-    | inl ended ↦ inl (list_any-append (λ (e : Act). is_end_report h.signal.job h.signal.attempt e.call) first second ∙ ap (λ (b : Bool). is_ended h.signal.job h.signal.attempt first || b) ended ∙ or_true _)
+    | inl ended ↦ inl (list_any-append (λ (e : Act). is_end_report h.signal.job h.signal.attempt e.call) first second ∙ ap (λ (b : Bool). is_ended h.signal.job h.signal.attempt first || b) ended ∙ or-true _)
     | inr left ↦ inr (left.0, left_late a0 a1 a2 h gone kept left.1)
   ];
 })
 
 order_gone : {T : Type 0} (added : List Act) (at now : ℕ → Option (Held T)) (hand hand2 : Option Hand) → hand ≡ None → OrderAfter added at now hand hand2 → hand2 ≡ None
 order_gone added at now None hand2 none o = o
-order_gone added at now (Some h) hand2 none o = absurd (none_some h (sym none))
+order_gone added at now (Some h) hand2 none o = absurd (none-some h (sym none))
 
 order_steps : {T : Type 0} (told : T → Option Told) (a0 a1 a2 : ℕ → Option (Held T)) (first second : List Act) (h0 h1 h2 : Option Hand) → ((k : ℕ) → a0 k ≡ None → a1 k ≡ None) → ((k : ℕ) → a1 k ≡ None → a2 k ≡ None)
     → ((k : ℕ) (g i : Held T) → a0 k ≡ Some g → a1 k ≡ Some i → SameRun i g) → OrderAfter first a0 a1 h0 h1 → OrderAfter second a1 a2 h1 h2 → OrderAfter (first ++ second) a0 a2 h0 h2
@@ -257,7 +252,7 @@ pub back_on : {T : Type 0} (told : T → Option Told) (faults : T → ℕ) (from
 back_on told faults from mid to m0 m1 m2 a0 a1 a2 h0 h1 h2 c d C D p q k h there left =
     (elim (leb mid k) as (λ b. leb mid k ≡ b → a0 k ≡ Some h) [
       | true ↦ λ is. sym (p.after k (leb-true mid k is)) ∙ there
-      | false ↦ λ is. absurd (none_some h (sym left ∙ q.before k (let g = leb-false mid k is in omega arith) ∙ there))
+      | false ↦ λ is. absurd (none-some h (sym left ∙ q.before k (let g = leb-false mid k is in omega arith) ∙ there))
     ]) refl
 
 abbrev pub places_on : {T : Type 0} (told : T → Option Told) (faults : T → ℕ) (from mid to : ℕ) (m0 m1 m2 : List Act) (a0 a1 a2 : ℕ → Option (Held T)) (h0 h1 h2 : Option Hand) (c d : ℕ) (C D E : Type 0) → from ≤ mid → mid ≤ to → (E → C) → (E → D)
@@ -297,7 +292,7 @@ place_is told faults key mine mine2 old new added slot u p is ends Clean all han
   order = order;
   whole = λ clean k h there none. (elim (eqb k key) as (λ b. eqb k key ≡ b → is_ended h.job h.attempt added ≡ true) [
     | true ↦ λ e. (let same = eqb-true k key e in all clean h (ap (get old) (sym same) ∙ there) (ap (get new) (sym same) ∙ none))
-    | false ↦ λ e. absurd (none_some h (sym none ∙ u.others k (eqb-false k key e) ∙ there))
+    | false ↦ λ e. absurd (none-some h (sym none ∙ u.others k (eqb-false k key e) ∙ there))
   ]) refl;
 }
 
@@ -314,12 +309,12 @@ pub place_running : {T : Type 0} (told : T → Option Told) (faults : T → ℕ)
     → PollsPlaces told faults key (key + 1) mine mine (get old) (get new) hand hand 0 Clean
 place_running {T = T} told faults key mine old new hand Clean (inl n) =
     place_is told faults key mine mine old new [] _ (same_updates old new key n.same)
-    (subst (λ (o : Option (Held T)). IsPolled told faults o (get new key)) (sym n.none) (subst (λ (o : Option (Held T)). IsPolled told faults None o) (sym (n.same key ∙ n.none)) tt)) (sym (append-nil mine)) tt Clean (λ clean h is gone. absurd (none_some h (sym n.none ∙ is)))
-    hand hand (order_same (get old) (get new) hand (λ k h there left. none_some h (sym left ∙ n.same k ∙ there)))
+    (subst (λ (o : Option (Held T)). IsPolled told faults o (get new key)) (sym n.none) (subst (λ (o : Option (Held T)). IsPolled told faults None o) (sym (n.same key ∙ n.none)) tt)) (sym (append-nil mine)) tt Clean (λ clean h is gone. absurd (none-some h (sym n.none ∙ is)))
+    hand hand (order_same (get old) (get new) hand (λ k h there left. none-some h (sym left ∙ n.same k ∙ there)))
 place_running {T = T} told faults key mine old new hand Clean (inr r) =
     place_is told faults key mine mine old new [] _ r.1.updates
     (subst (λ (o : Option (Held T)). IsPolled told faults o (get new key)) (sym r.1.there)
-    (subst (λ (o : Option (Held T)). IsPolled told faults (Some r.0) o) (sym r.1.updates.changed) (record { of_job = refl; of_attempt = refl; told_is = r.1.told_is; counted = r.1.counted }))) (sym (append-nil mine)) tt Clean (λ clean h is gone. absurd (none_some (record r.0 { child = r.1.child }) (sym gone ∙ r.1.updates.changed)))
+    (subst (λ (o : Option (Held T)). IsPolled told faults (Some r.0) o) (sym r.1.updates.changed) (record { of_job = refl; of_attempt = refl; told_is = r.1.told_is; counted = r.1.counted }))) (sym (append-nil mine)) tt Clean (λ clean h is gone. absurd (none-some (record r.0 { child = r.1.child }) (sym gone ∙ r.1.updates.changed)))
     hand hand (order_same (get old) (get new) hand (λ k h there left. stays_on key _ old new r.1.updates k h there left))
 
 pub place_ended : {T : Type 0} (told : T → Option Told) (faults : T → ℕ) (n : ℕ) (key : ℕ) (job : JobId) (attempt : ℕ) (x : Option Exit) (mine mine2 : List Act) (old new : Slab (Held T)) (hand hand2 : Option Hand)
@@ -338,7 +333,7 @@ place_ended {T = T} told faults n key job attempt x mine mine2 old new hand hand
       },
       tt,
     ) Clean
-    (λ clean h is gone. (let same = some_is l.held h (sym l.there ∙ is) in
+    (λ clean h is gone. (let same = same_Some l.held h (sym l.there ∙ is) in
     ap (λ (b : Bool). b || false) (end_is job attempt x h.job h.attempt ∙ subst (λ (j : JobId). is_run j attempt h.job h.attempt ≡ true) (ap (λ (z : Held T). z.job) (sym same) ∙ l.of_job)
     (subst (λ (a : ℕ). is_run h.job a h.job h.attempt ≡ true) (ap (λ (z : Held T). z.attempt) (sym same) ∙ l.of_attempt) (run_refl h.job h.attempt)))))
     hand hand2 (order_ended told faults n key job attempt x e.0.0 old new hand hand2 l e.1)
@@ -403,7 +398,7 @@ below_to : {T : Type 0} (told : T → Option Told) (faults : T → ℕ) (from to
     → PollsPlaces told faults from to mine mine2 at now hand hand2 count Clean → (k : ℕ) (h : Held T) → at k ≡ Some h → now k ≡ None → k < to
 below_to told faults from to mine mine2 at now hand hand2 count Clean p k h there left =
     (elim (leb to k) as (λ b. leb to k ≡ b → k < to) [
-      | true ↦ λ is. absurd (none_some h (sym left ∙ p.after k (leb-true to k is) ∙ there))
+      | true ↦ λ is. absurd (none-some h (sym left ∙ p.after k (leb-true to k is) ∙ there))
       | false ↦ λ is. (let g = leb-false to k is in omega arith)
     ]) refl
 
@@ -412,7 +407,7 @@ not_below : {T : Type 0} (told : T → Option Told) (faults : T → ℕ) (from t
 not_below told faults from to mine mine2 at now hand hand2 count Clean p k h there left =
     (elim (leb from k) as (λ b. leb from k ≡ b → from ≤ k) [
       | true ↦ λ is. leb-true from k is
-      | false ↦ λ is. absurd (none_some h (sym left ∙ p.before k (let g = leb-false from k is in omega arith) ∙ there))
+      | false ↦ λ is. absurd (none-some h (sym left ∙ p.before k (let g = leb-false from k is in omega arith) ∙ there))
     ]) refl
 
 in_mono : {T : Type 0} (told : T → Option Told) (faults : T → ℕ) (at now later : ℕ → Option (Held T)) (Here : ℕ → Type 0) (es : List Act) → ((k : ℕ) → now k ≡ None → later k ≡ None)
@@ -574,7 +569,7 @@ each_one {T = T} told faults key old new at now hand hand2 count (Err why) p los
 
 -- no place
 pub each_none : {T : Type 0} (told : T → Option Told) (faults : T → ℕ) (old : Post) (at : ℕ → Option (Held T)) → ReportsEach told faults old old at at []
-each_none told faults old at = record { each = λ k h there left. absurd (none_some h (sym left ∙ there)) }
+each_none told faults old at = record { each = λ k h there left. absurd (none-some h (sym left ∙ there)) }
 
 -- one place more
 pub each_on : {T : Type 0} (told : T → Option Told) (faults : T → ℕ) (from key : ℕ) (first old new : Post) (a0 a1 a2 : ℕ → Option (Held T)) (h0 h1 h2 : Option Hand) (c d : ℕ) (C : Type 0) (r : Result ℕ Refusal)
@@ -590,7 +585,7 @@ each_on {T = T} told faults from key first old new a0 a1 a2 h0 h1 h2 c d C r ear
     | Some i ↦ λ some. (elim ((each_one told faults key old new a1 a2 h1 h2 d r q lost).each k i some left) [
       | inl ended ↦ (let same = kept_run told faults from key (acts_at first) (acts_at old) a0 a1 h0 h1 c C p k h i there some in
           let is : is_ended h.job h.attempt q.added ≡ true = subst (λ (j : JobId). is_ended j h.attempt q.added ≡ true) same.of_job (subst (λ (n : ℕ). is_ended i.job n q.added ≡ true) same.of_attempt ended) in
-          inl (list_any-append (λ (e : Act). is_end_report h.job h.attempt e.call) p.added q.added ∙ ap (λ (t : Bool). is_ended h.job h.attempt p.added || t) is ∙ or_true _))
+          inl (list_any-append (λ (e : Act). is_end_report h.job h.attempt e.call) p.added q.added ∙ ap (λ (t : Bool). is_ended h.job h.attempt p.added || t) is ∙ or-true _))
       | inr l ↦ (let m = loses_early told faults from key (key + 1) first old new a0 a1 a2 h0 h1 h2 c d C (IsOk r) OutOfMemory early p q l.0 in inr (m.0, m.1 ∙ l.1))
     ])
   ]) refl;

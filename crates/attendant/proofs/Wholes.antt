@@ -1,8 +1,10 @@
 -- The outside agrees with a history, from what launcher and reaper keep of their own lists.
 use Rattle.std.proofs.Common.{◌≡◌, ℕ, zero, suc, ◌+◌, Bool, true, false, ◌||◌, eqb, cond, List, [], ◌∷◌, ◌++◌, map, Option, Some, None, refl, sym, ap, ◌∙◌, subst, eq-eqb}
+use Rattle.std.proofs.Math.Bool.{or-true}
+use Rattle.std.proofs.lemmas.Bool.{false_from_ne_true}
 use Rattle.std.specs.List.{list_any, slice_get, AllByRecursion}
 use Rattle.std.specs.Option.{option_map, option_map_or}
-use Rattle.std.proofs.lemmas.Option.{slice_get-map}
+use Rattle.std.proofs.lemmas.Option.{slice_get-map, same_Some}
 use Rattle.drmaa_types.specs.declared.identifiers.JobId.{JobId}
 use Rattle.drmaa_types.specs.declared.states.Exit.TheVariants as exit
 use Rattle.child_spawner.specs.declared.fates.Asked.{Asked}
@@ -19,7 +21,7 @@ use Rattle.attendant.specs.declared.reaper.Hand.{Hand}
 use Rattle.attendant.specs.Runs.{Request, request_of, with_request, requests_in, is_start_report, is_reported, is_kill_report, is_killed}
 use Rattle.attendant.specs.Outside.{IsLaunchersEntry, LauncherCalls, Tends, IsFated, FailsPoll, FailsSignal, EndsBy, ExitTells, FaultTells, IsExit, IsFault, Tells, Agrees}
 use Rattle.attendant.specs.Whole.{AgreesWithOutside, MayCall, AreAlone}
-use Rattle.attendant.proofs.Entries.{each_after_at, not_true, any_kept, any_more, or_true, some_is}
+use Rattle.attendant.proofs.Entries.{each_after_at, any_kept, any_more}
 use Rattle.attendant.proofs.Launches.{run_refl}
 
 -- a launch of the launcher's own list is new in it
@@ -28,17 +30,17 @@ new_of front TakeLaunch r l may is = subst (IsNewLaunch front) is may
 new_of front _ r l may is = absurd (cc)
 
 back_false : (job : JobId) (attempt : ℕ) (front : List Act) (e : Act) → is_launched job attempt (front ++ e ∷ []) ≡ false → is_launched job attempt front ≡ false
-back_false job attempt front e none = not_true _ (λ is. (let k = any_kept (launches_run job attempt) front (e ∷ []) is in absurd (cc)))
+back_false job attempt front e none = false_from_ne_true _ (λ is. (let k = any_kept (launches_run job attempt) front (e ∷ []) is in absurd (cc)))
 
 later_here : (front es : List Act) (e : Act) (l : Launch) (n : ℕ) (r : Request) → is_launched l.job l.attempt front ≡ false
     → ((k : ℕ) (q : Request) → slice_get (requests_in es) k ≡ Some q → is_launched q.job q.attempt (front ++ e ∷ []) ≡ false)
     → slice_get (request_of l ∷ requests_in es) n ≡ Some r → is_launched r.job r.attempt front ≡ false
-later_here front es e l zero r new later is = subst (λ (q : Request). is_launched q.job q.attempt front ≡ false) (some_is (request_of l) r is) new
+later_here front es e l zero r new later is = subst (λ (q : Request). is_launched q.job q.attempt front ≡ false) (same_Some (request_of l) r is) new
 later_here front es e l (suc n) r new later is = back_false r.job r.attempt front e (later n r is)
 
 now_launched : (front : List Act) (e : Act) (l : Launch) → launch_in e.call e.reply ≡ Some l → is_launched l.job l.attempt (front ++ e ∷ []) ≡ true
 now_launched front e l some = any_more (launches_run l.job l.attempt) front e ∙ ap (λ b. is_launched l.job l.attempt front || b)
-    (ap (λ (o : Option Launch). option_map_or (λ (m : Launch). is_run m.job m.attempt l.job l.attempt) o false) some ∙ run_refl l.job l.attempt) ∙ or_true _
+    (ap (λ (o : Option Launch). option_map_or (λ (m : Launch). is_run m.job m.attempt l.job l.attempt) o false) some ∙ run_refl l.job l.attempt) ∙ or-true _
 
 apart_here : (front es : List Act) (e : Act) (l : Launch) (n m : ℕ) (r q : Request) → launch_in e.call e.reply ≡ Some l
     → ((k : ℕ) (p : Request) → slice_get (requests_in es) k ≡ Some p → is_launched p.job p.attempt (front ++ e ∷ []) ≡ false)
@@ -46,13 +48,13 @@ apart_here : (front es : List Act) (e : Act) (l : Launch) (n m : ℕ) (r q : Req
     → slice_get (request_of l ∷ requests_in es) n ≡ Some r → slice_get (request_of l ∷ requests_in es) m ≡ Some q → r.job ≡ q.job → r.attempt ≡ q.attempt → n ≡ m
 apart_here front es e l zero zero r q some later later_apart is at job attempt = refl
 apart_here front es e l zero (suc m) r q some later later_apart is at job attempt = absurd
-    (let here = some_is (request_of l) r is in
+    (let here = same_Some (request_of l) r is in
     let now = now_launched front e l some in
     let then = later m q at in
     let same : is_launched q.job q.attempt (front ++ e ∷ []) ≡ true = subst (λ (j : JobId). is_launched j q.attempt (front ++ e ∷ []) ≡ true) (ap (λ (p : Request). p.job) here ∙ job)
     (subst (λ (k : ℕ). is_launched l.job k (front ++ e ∷ []) ≡ true) (ap (λ (p : Request). p.attempt) here ∙ attempt) now) in cc)
 apart_here front es e l (suc n) zero r q some later later_apart is at job attempt = absurd
-    (let here = some_is (request_of l) q at in
+    (let here = same_Some (request_of l) q at in
     let now = now_launched front e l some in
     let then = later n r is in
     let same : is_launched r.job r.attempt (front ++ e ∷ []) ≡ true = subst (λ (j : JobId). is_launched j r.attempt (front ++ e ∷ []) ≡ true) (ap (λ (p : Request). p.job) here ∙ sym job)

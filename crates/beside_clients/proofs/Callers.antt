@@ -5,7 +5,7 @@ use Rattle.std.proofs.lemmas.Bool.{eqb-true}
 use Rattle.drmaa_model.specs.declared.entries.Entry.{Entry}
 use Rattle.drmaa_model.specs.declared.replies.Reply.{Reply}
 use Rattle.call_history.specs.Callers.{calls_of}
-use Rattle.attendant.specs.Acts.{Act, Duty, TakeLaunch, Started, StartFailed, Exited, ExitUnknown, TakeSignal, SignalDone, SignalFailed, Other, act_of, acts_of, duty_of, EachAfter}
+use Rattle.attendant.specs.Acts.{Act, Duty, TakeLaunch, Started, StartFailed, Other, act_of, acts_of, duty_of, EachAfter}
 use Rattle.attendant.specs.Outside.{IsLaunchersEntry, IsReapersEntry, LauncherCalls, ReaperCalls}
 use Rattle.attendant.specs.Whole.{MayCall, AreAlone}
 
@@ -42,45 +42,33 @@ launcher-may : (l r k : ℕ) (front : List Act) (d : Duty) (reply : Reply) → k
 launcher-may l r k front TakeLaunch reply is may = is
 launcher-may l r k front (Started job attempt) reply is may = is
 launcher-may l r k front (StartFailed job attempt) reply is may = is
-launcher-may l r k front (Exited job attempt exit) reply is may = absurd may
-launcher-may l r k front (ExitUnknown job attempt) reply is may = absurd may
-launcher-may l r k front TakeSignal reply is may = absurd may
-launcher-may l r k front (SignalDone job attempt kind) reply is may = absurd may
-launcher-may l r k front (SignalFailed job attempt kind) reply is may = absurd may
-launcher-may l r k front Other reply is may = absurd may
+launcher-may l r k front _ reply is may = absurd may
 
 reaper-may : (l r k : ℕ) (front : List Act) (d : Duty) (reply : Reply) → k ≡ r → ReaperCalls front d reply → MayCall l r k d
 reaper-may l r k front TakeLaunch reply is may = absurd may
 reaper-may l r k front (Started job attempt) reply is may = absurd may
 reaper-may l r k front (StartFailed job attempt) reply is may = absurd may
-reaper-may l r k front (Exited job attempt exit) reply is may = is
-reaper-may l r k front (ExitUnknown job attempt) reply is may = is
-reaper-may l r k front TakeSignal reply is may = is
-reaper-may l r k front (SignalDone job attempt kind) reply is may = is
-reaper-may l r k front (SignalFailed job attempt kind) reply is may = is
 reaper-may l r k front Other reply is may = absurd may
+reaper-may l r k front _ reply is may = is
 
 -- an entry that its caller may make
 abbrev pub Permitted : ℕ → ℕ → Entry → Type 0
 Permitted l r e = MayCall l r e.caller.0 (duty_of e.call)
 
-launcher-all : (l r : ℕ) (front : List Act) (es : List Entry) → AllByRecursion (IsOf l) es → EachAfter IsLaunchersEntry front (acts_of es) → AllByRecursion (Permitted l r) es
+-- whoever makes such entries alone makes none that its number may not
+permitted : (IsEntry : List Act → Act → Type 0) (l r k : ℕ) → ((e : Entry) (front : List Act) → e.caller.0 ≡ k → IsEntry front (act_of e) → Permitted l r e)
+    → (front : List Act) (es : List Entry) → AllByRecursion (IsOf k) es → EachAfter IsEntry front (acts_of es) → AllByRecursion (Permitted l r) es
 unfolding IsOf
-launcher-all l r front [] own each = tt
-launcher-all l r front (e ∷ es) own each =
-    (launcher-may l r e.caller.0 front (duty_of e.call) e.reply own.0 each.0, launcher-all l r (front ++ act_of e ∷ []) es own.1 each.1)
+permitted IsEntry l r k may front [] own each = tt
+permitted IsEntry l r k may front (e ∷ es) own each = (may e front own.0 each.0, permitted IsEntry l r k may (front ++ act_of e ∷ []) es own.1 each.1)
 
 pub launcher-permitted : (l r : ℕ) (es : List Entry) → EachAfter IsLaunchersEntry [] (acts_of (calls_of es l)) → AllByRecursion (Permitted l r) (calls_of es l)
-launcher-permitted l r es each = launcher-all l r [] (calls_of es l) (own-all es l) each
-
-reaper-all : (l r : ℕ) (front : List Act) (es : List Entry) → AllByRecursion (IsOf r) es → EachAfter IsReapersEntry front (acts_of es) → AllByRecursion (Permitted l r) es
-unfolding IsOf
-reaper-all l r front [] own each = tt
-reaper-all l r front (e ∷ es) own each =
-    (reaper-may l r e.caller.0 front (duty_of e.call) e.reply own.0 each.0, reaper-all l r (front ++ act_of e ∷ []) es own.1 each.1)
+launcher-permitted l r es each =
+    permitted IsLaunchersEntry l r l (λ e front own calls. launcher-may l r e.caller.0 front (duty_of e.call) e.reply own calls) [] (calls_of es l) (own-all es l) each
 
 pub reaper-permitted : (l r : ℕ) (es : List Entry) → EachAfter IsReapersEntry [] (acts_of (calls_of es r)) → AllByRecursion (Permitted l r) (calls_of es r)
-reaper-permitted l r es each = reaper-all l r [] (calls_of es r) (own-all es r) each
+reaper-permitted l r es each =
+    permitted IsReapersEntry l r r (λ e front own calls. reaper-may l r e.caller.0 front (duty_of e.call) e.reply own calls) [] (calls_of es r) (own-all es r) each
 
 alone-of : (l r : ℕ) (es : List Entry) → AllByRecursion (Permitted l r) es → AreAlone l r (acts_of es)
 alone-of l r [] all = tt

@@ -6,7 +6,7 @@ use Rattle.turn_lock.specs.Tokens.{Named, IsFree}
 use Rattle.call_history.specs.Clients.{Seat, seen_of}
 use Rattle.call_history.specs.ClientLaws.{begins-itself, begins-both}
 use Rattle.notify_hub.specs.Hubs.{Following, IsNoteOf}
-use Rattle.beside_clients.specs.Passes.{KeepsCallbacks, IsStillBeside, GoesOn}
+use Rattle.beside_clients.specs.HubClients.{KeepsCallbacks, IsStillBeside, GoesOn}
 
 pub beside-none : (shared : Named Config) (seat : Seat) → IsFree shared seat → IsStillBeside shared seat seat
 beside-none shared seat free = record { client = free; number = refl; mine = refl; begins = begins-itself (seen_of seat) }
@@ -31,7 +31,3 @@ module _ {B : Type 0} (counted : B → ℕ) (told : B → Option (List Notificat
 
   pub goes-both : (shared : Named Config) (a b c : Following B) (old mid new : Seat) → GoesOn counted told shared a old b mid → GoesOn counted told shared b mid c new → GoesOn counted told shared a old c new
   goes-both shared a b c old mid new x y = record { still = beside-both shared old mid new x.still y.still; note = y.note; kept = keeps-both a b c x.kept y.kept }
-
-  -- the client was told something before
-  pub goes-behind : (shared : Named Config) (a b : Following B) (old mid new : Seat) → IsStillBeside shared old mid → GoesOn counted told shared a mid b new → GoesOn counted told shared a old b new
-  goes-behind shared a b old mid new x y = record { still = beside-both shared old mid new x y.still; note = y.note; kept = y.kept }

@@ -31,7 +31,7 @@ use Rattle.script_lines.specs.declared.lines.Line.{Line}
 use Rattle.script_lines.specs.declared.refs.Ref.{Ref}
 use Rattle.script_text.specs.declared.scripts.Script.{Script}
 use Rattle.script_asks.specs.declared.given.Given.{Given}
-use Rattle.script_asks.specs.Asks.{asks, ask_wait, number_of, numbers_of}
+use Rattle.script_asks.specs.Asks.{asks, in_session, number_of, numbers_of}
 use Rattle.script_asks.specs.Plays.{no_attempt}
 use Rattle.script_asks.specs.Replies.{names_after}
 use Rattle.call_history.specs.Calls.{entry_by}
@@ -49,7 +49,7 @@ use Rattle.block_play.specs.Waits.{wait_line, stop_of}
 
 -- a line that waits asks a wait
 line-asks : (s : Script) (names : List (List ℕ × Given)) (begun : ℕ) (kind : WaitKind) (session : Ref) (timeout : Timeout) (jobs : List Ref)
-    → asks s names no_attempt begun (wait_line kind session timeout jobs) ≡ ask_wait names begun kind session timeout jobs
+    → asks s names no_attempt begun (wait_line kind session timeout jobs) ≡ in_session names session (numbers_of names jobs) (λ n js. call.Wait n js kind begun timeout)
 line-asks s names begun reached.Started session timeout jobs = refl
 line-asks s names begun reached.Terminated session timeout jobs = refl
 
@@ -111,25 +111,9 @@ unfulfilled w at n js kind begun timeout size (inr (time, over)) = cc
 -- a wait whose entry is a refusal that stops its client wants memory
 entry-stops : (w : World) (at n : ℕ) (js : List ℕ) (kind : WaitKind) (begun : ℕ) (timeout : Timeout) (why : Refusal) (st : Stopped) → stop_of why ≡ Some st
     → IsRefusedFor w at (call.Wait (record { 0 = n }) js kind begun timeout) why → st ≡ stopped.Memory
-entry-stops w at n js kind begun timeout (why.DeniedByDrms moment) st stops is = absurd cc
-entry-stops w at n js kind begun timeout (why.TryLater served drawn) st stops is = absurd cc
-entry-stops w at n js kind begun timeout why.Timeout st stops is = absurd cc
-entry-stops w at n js kind begun timeout (why.InvalidArgument which) st stops is = absurd cc
-entry-stops w at n js kind begun timeout why.InvalidSession st stops is = absurd cc
-entry-stops w at n js kind begun timeout (why.InvalidState state) st stops is = absurd cc
-entry-stops w at n js kind begun timeout (why.OutOfResource limit.Sessions) st stops is = absurd cc
-entry-stops w at n js kind begun timeout (why.OutOfResource limit.OpenSessions) st stops is = absurd cc
-entry-stops w at n js kind begun timeout (why.OutOfResource limit.Jobs) st stops is = absurd cc
-entry-stops w at n js kind begun timeout (why.OutOfResource limit.Reservations) st stops is = absurd cc
-entry-stops w at n js kind begun timeout (why.OutOfResource limit.Callbacks) st stops is = absurd cc
-entry-stops w at n js kind begun timeout (why.OutOfResource limit.WaitList) st stops is = absurd cc
-entry-stops w at n js kind begun timeout (why.OutOfResource limit.BulkMembers) st stops is = absurd cc
-entry-stops w at n js kind begun timeout (why.OutOfResource limit.TemplateText) st stops is = absurd cc
-entry-stops w at n js kind begun timeout (why.OutOfResource limit.KeptText) st stops is = absurd cc
 entry-stops w at n js kind begun timeout (why.OutOfResource (limit.Journal size)) st stops is = absurd (unfulfilled w at n js kind begun timeout size is)
 entry-stops w at n js kind begun timeout why.OutOfMemory st stops is = cc
-entry-stops w at n js kind begun timeout (why.UnsupportedAttribute attribute) st stops is = absurd cc
-entry-stops w at n js kind begun timeout why.UnsupportedOperation st stops is = absurd cc
+entry-stops w at n js kind begun timeout _ st stops is = absurd cc
 
 module _ (s : Script) (names : List (List ℕ × Given)) (kind : WaitKind) (session : Ref) (timeout : Timeout) (jobs : List Ref) where
   l : Line

@@ -28,7 +28,7 @@ use Rattle.wait_calls.proofs.Seats.{still-same}
 use Rattle.block_play.specs.declared.stops.Stopped.{Stopped}
 use Rattle.block_play.specs.declared.stops.Stopped.TheVariants as stopped
 use Rattle.script_text.specs.Follows.{lines_of}
-use Rattle.block_play.specs.Played.{PlayedLine, PlayedLines, StopsLine, LeftByLine, stop_for, taken_by, with_names}
+use Rattle.block_play.specs.Played.{PlayedLine, PlayedLines, StopsLine, LeftByLine, stop_for, taken_by}
 use Rattle.block_play.specs.Played.PlaysLine.{asks_nothing, asks_once}
 use Rattle.block_play.specs.Played.StopsLine.{unmade, unkept}
 
@@ -126,9 +126,3 @@ pub played-none : (s : Script) (names : List (List ℕ × Given)) (mine : List E
 played-none s names mine least none new =
     subst (λ (ls : List Line). PlayedLines s [] ls 0 mine mine names least) (sym (ap lines_of none))
     (record { added = []; then = 0; mine = sym (append-nil mine); plays = (refl, new, refl); behind = omega arith })
-
--- a line that was played so, and the end that was made of it
-pub left-kept : {C : Type 0} (given : C → Readings) (least : C → ℕ) (s : Script) (names : List (List ℕ × Given)) (l m : Line) (old new : Desk C) (end : Result (Unit {0}) Stopped) (kept : Result (List (List ℕ × Given)) Stopped)
-    → l ≡ m → kept ≡ with_names names end → LeftByLine given least s names l old new (with_names names end) → LeftByLine given least s names m old new kept
-left-kept given least s names l m old new end kept same is left =
-    subst (λ (r : Result (List (List ℕ × Given)) Stopped). LeftByLine given least s names m old new r) (sym is) (subst (λ (x : Line). LeftByLine given least s names x old new (with_names names end)) same left)

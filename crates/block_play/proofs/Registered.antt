@@ -123,7 +123,3 @@ module _ {B : Type 0} {counted : B → ℕ} {told : B → Option (List Notificat
       registered-on shared early late old new client after n ok note (placed (countable shared.fixed (seen_of after) legal small)) follows heard legal
   register-on shared early late old new client after (Err why) small ok err note placed same follows heard legal =
       unregistered-on shared early late old new client after why err note same follows
-
--- what is so of a refusal that is this one
-pub at-err : {A : Type 0} (P : Refusal → Type 0) (r : Result A Refusal) (why : Refusal) → r ≡ Err why → IfErr r P → P why
-at-err P r why is h = subst (λ (x : Result _ Refusal). IfErr x P) is h

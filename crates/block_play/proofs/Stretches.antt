@@ -1,5 +1,5 @@
 -- Lines that are played, one after the other.
-use Rattle.std.proofs.Common.{◌≡◌, ℕ, ◌+◌, ◌<◌, ◌≤◌, zero, suc, List, [], ◌∷◌, ◌++◌, take, drop, length, refl, sym, ap, ◌∙◌, subst, append_assoc, append-nil, arith}
+use Rattle.std.proofs.Common.{◌≡◌, ℕ, ◌+◌, ◌<◌, ◌≤◌, List, [], ◌∷◌, ◌++◌, take, drop, length, sym, ap, ◌∙◌, subst, append_assoc}
 use Rattle.std.proofs.Common.{get_or}
 use Rattle.std.proofs.lemmas.List.{drop_more, take-append-drop}
 use Rattle.drmaa_types.specs.Readings.{Readings}
@@ -18,9 +18,6 @@ use Rattle.block_play.specs.Played.StopsLine.{unmade, unkept}
 use Rattle.block_play.specs.PlayLaws.{plays-more}
 
 -- ---- one line more
-
-pub played-start : (s : Script) (names : List (List ℕ × Given)) (mine : List Entry) (least : ℕ) → PlayedLines s names [] 0 mine mine names least
-played-start s names mine least = record { added = []; then = 0; mine = sym (append-nil mine); plays = (refl, refl, refl); behind = omega arith }
 
 pub played-more : (s : Script) (names mid after : List (List ℕ × Given)) (ls : List Line) (l : Line) (old now new : List Entry) (early late : ℕ) → PlayedLines s names ls 0 old now mid early
     → ((before : ℕ) → before ≤ early → PlayedLine s mid l before now new after late) → PlayedLines s names (ls ++ l ∷ []) 0 old new after late
@@ -85,9 +82,3 @@ module _ (s : Script) (names mid : List (List ℕ × Given)) (all front rest : L
 
 pub split_at : (xs : List Line) (i : ℕ) (d : Line) → i < length xs → xs ≡ take i xs ++ get_or xs i d ∷ drop (i + 1) xs
 split_at xs i d within = sym (take-append-drop i xs) ∙ ap (λ (ys : List Line). take i xs ++ ys) (drop_more xs i d within)
-
-pub take_all : (xs : List Line) (i : ℕ) → length xs ≤ i → take i xs ≡ xs
-take_all [] zero l = refl
-take_all [] (suc i) l = refl
-take_all (x ∷ xs) zero l = absurd (omega (arith, l))
-take_all (x ∷ xs) (suc i) l = ap (λ (ys : List Line). x ∷ ys) (take_all xs i (omega (arith, l)))

@@ -1,6 +1,7 @@
 -- What lines that were played say of a block.
 use Rattle.std.specs.Prelude.{◌≡◌, ℕ, List, [], ◌∷◌, ◌++◌, take, length, Option}
 use Rattle.std.proofs.Common.{refl, sym, ap, subst, ◌∙◌, append_assoc, append-nil, inl, inr}
+use Rattle.std.proofs.Math.Seq.{take-append_seam}
 use Rattle.drmaa_model.specs.declared.calls.Call.{Call}
 use Rattle.drmaa_model.specs.declared.entries.Entry.{Entry}
 use Rattle.text_codec.specs.Formats.{choose}
@@ -64,12 +65,8 @@ plays-then s names after before then (l ∷ ls) es (first, rest, mid, at, is, as
     let here : es ≡ e ∷ rest = is ∙ ap (λ (x : List Entry). x ++ rest) one in
     ap (λ (x : List Entry). last_moment before x) here ∙ (ap (λ (k : ℕ). last_moment k rest) (sym time) ∙ plays-then s mid after at then ls rest tail)
 
-take-front : (front back : List Line) → take (length front) (front ++ back) ≡ front
-take-front [] back = refl
-take-front (l ∷ front) back = ap (λ (ls : List Line). l ∷ ls) (take-front front back)
-
 -- the entries of the first lines are what a part of the block asks
 pub plays-part : (s : Script) (names after : List (List ℕ × Given)) (before then : ℕ) (ls front back : List Line) (es : List Entry) → ls ≡ front ++ back
     → PlaysLines s names before front es after then → PlaysPart s names before ls es
 plays-part s names after before then ls front back es is p =
-    (length front, subst (λ (x : List Line). Plays s names before x es) (sym (ap (λ (x : List Line). take (length front) x) is ∙ take-front front back)) (plays-asked s names after before then front es p))
+    (length front, subst (λ (x : List Line). Plays s names before x es) (sym (ap (λ (x : List Line). take (length front) x) is ∙ take-append_seam front back)) (plays-asked s names after before then front es p))

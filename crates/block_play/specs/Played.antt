@@ -1,5 +1,5 @@
 -- What a client's play of a block has come to: our profile.
-use Rattle.std.specs.Prelude.{◌≡◌, ℕ, ◌≤◌, true, List, [], ◌∷◌, ◌++◌, Some, None, Result, Ok, Err, IfOk, IfErr, cond}
+use Rattle.std.specs.Prelude.{◌≡◌, ℕ, ◌≤◌, true, List, [], ◌∷◌, ◌++◌, Some, None, Result, IfOk, IfErr, cond}
 use Rattle.drmaa_types.specs.Readings.{Readings}
 use Rattle.drmaa_model.specs.declared.calls.Call.{Call}
 use Rattle.drmaa_model.specs.declared.configs.Config.{Config}
@@ -92,11 +92,6 @@ pub record LeftByLine {C : Type 0} (given : C → Readings) (least : C → ℕ) 
   pub timed : StaysTimed (mine_of old.client) (given old.clock) (mine_of new.client) (given new.clock)
   pub ok : IfOk end (λ after. (before : ℕ) → before ≤ least old.clock → PlayedLine s names l before (mine_of old.client) (mine_of new.client) after (least new.clock))
   pub err : IfErr end (λ why. (before : ℕ) → before ≤ least old.clock → StopsLine old.shared.now.fixed s names l before old.client new.client (given old.clock) (given new.clock) why)
-
--- an end behind which the names are these
-abbrev pub with_names : {A : Type 0} → List (List ℕ × Given) → Result A Stopped → Result (List (List ℕ × Given)) Stopped
-with_names names (Ok a) = Ok names
-with_names names (Err why) = Err why
 
 -- The client's own entries went on by those of these lines.
 pub record PlayedLines (s : Script) (names : List (List ℕ × Given)) (ls : List Line) (before : ℕ) (old new : List Entry) (after : List (List ℕ × Given)) (least : ℕ) : Type 0 where

@@ -4,7 +4,7 @@ ghost use Rattle.block_play.specs.Played.{LeftByLine};
 
 use crate::calls::play_call;
 use crate::stops::Stopped;
-use crate::waits::{kept, play_wait};
+use crate::waits::play_wait;
 use call_history::Desk;
 use drmaa_types::{Clock, WaitKind};
 use script_lines::Line;
@@ -35,38 +35,32 @@ pub(crate) fn play_line<R: Wait + Pause, C: Clock>(
             session,
             timeout,
             jobs,
-        } => {
-            let ended = play_wait(
-                rt,
-                alloc,
-                script,
-                desk,
-                &names,
-                session.get(),
-                jobs.as_slice(),
-                WaitKind::Started,
-                *timeout,
-            );
-            kept(names, ended)
-        }
+        } => play_wait(
+            rt,
+            alloc,
+            script,
+            desk,
+            names,
+            session.get(),
+            jobs.as_slice(),
+            WaitKind::Started,
+            *timeout,
+        ),
         Line::WaitTerminated {
             session,
             timeout,
             jobs,
-        } => {
-            let ended = play_wait(
-                rt,
-                alloc,
-                script,
-                desk,
-                &names,
-                session.get(),
-                jobs.as_slice(),
-                WaitKind::Terminated,
-                *timeout,
-            );
-            kept(names, ended)
-        }
+        } => play_wait(
+            rt,
+            alloc,
+            script,
+            desk,
+            names,
+            session.get(),
+            jobs.as_slice(),
+            WaitKind::Terminated,
+            *timeout,
+        ),
         _ => play_call(rt, alloc, script, desk, names, line),
     }
 }

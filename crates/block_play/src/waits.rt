@@ -1,7 +1,7 @@
 //! The play of a line that waits.
 ghost use Rattle.std.specs.Prelude.{◌≡◌};
 ghost use Rattle.turn_lock.specs.Tokens.{IsFree};
-ghost use Rattle.block_play.specs.Played.{LeftByLine, with_names};
+ghost use Rattle.block_play.specs.Played.{LeftByLine};
 ghost use Rattle.block_play.specs.Waits.{wait_line, stop_of};
 
 use crate::stops::Stopped;
@@ -27,7 +27,7 @@ fn stop_of(why: Refusal) -> Option<Stopped>
     }
 }
 
-/// Waits as a line asks, if each of its names has a number. The names stay as they are.
+/// Waits as a line asks, if each of its names has a number, and gives the names back, as they were.
 ///
 /// # Errors
 ///
@@ -37,43 +37,29 @@ pub(crate) fn play_wait<R: Wait + Pause, C: Clock>(
     alloc: Global,
     script: &Script,
     desk: &mut Desk<C>,
-    names: &Names,
+    names: Names,
     session: &Ref,
     jobs: &[Ref],
     kind: WaitKind,
     timeout: Timeout,
-) -> Result<(), Stopped>
+) -> Result<Names, Stopped>
     requires { IsFree desk.old.shared.now desk.old.client }
-    ensures { LeftByLine C.given C.least script.now names.now (wait_line kind session.now timeout jobs.now) desk.old desk.new (with_names names.now result) }
+    ensures { LeftByLine C.given C.least script.now names (wait_line kind session.now timeout jobs.now) desk.old desk.new result }
 {
     let Some(session) = number_of(names.given(), session) else {
-        return Ok(());
+        return Ok(names);
     };
     let Ok(jobs) = numbers_of(alloc, names.given(), jobs) else {
         return Err(Stopped::Memory);
     };
     let Some(jobs) = jobs else {
-        return Ok(());
+        return Ok(names);
     };
     match wait(rt, desk, SessionId(session), jobs, kind, timeout) {
-        Ok(_) => Ok(()),
+        Ok(_) => Ok(names),
         Err(why) => match stop_of(why) {
             Some(stopped) => Err(stopped),
-            None => Ok(()),
+            None => Ok(names),
         },
-    }
-}
-
-/// The names, which a wait does not change, unless it stopped the client.
-///
-/// # Errors
-///
-/// Why it did.
-pub(crate) fn kept(names: Names, ended: Result<(), Stopped>) -> Result<Names, Stopped>
-    ensures { result ≡ with_names names ended }
-{
-    match ended {
-        Ok(()) => Ok(names),
-        Err(why) => Err(why),
     }
 }

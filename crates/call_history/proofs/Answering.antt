@@ -26,42 +26,8 @@ use Rattle.call_history.specs.Refused.IsRefused.{by_fault}
 
 -- the kept call has a reply of the same kind
 pub kept-kind : (c : Call) → kind_of_call (kept c) ≡ kind_of_call c
-kept-kind (call.CreateJobSession name) = refl
-kept-kind (call.CreateReservationSession name) = refl
-kept-kind (call.OpenJobSession name) = refl
-kept-kind (call.OpenReservationSession name) = refl
-kept-kind (call.DestroyJobSession name) = refl
-kept-kind (call.DestroyReservationSession name) = refl
-kept-kind call.JobSessionNames = refl
-kept-kind call.ReservationSessionNames = refl
-kept-kind call.OpenMonitoring = refl
-kept-kind (call.CloseSession session) = refl
-kept-kind (call.RunJob session t) = refl
-kept-kind (call.RunBulk session t indices) = refl
-kept-kind (call.GetJobs session f) = refl
-kept-kind (call.GetJobArray session array) = refl
-kept-kind (call.Control session meant what) = refl
-kept-kind (call.Reap session meant) = refl
-kept-kind (call.GetState session job) = refl
-kept-kind (call.GetInfo session job) = refl
-kept-kind (call.Wait session listed kind begun timeout) = refl
-kept-kind (call.RequestReservation session t) = refl
-kept-kind (call.GetReservation session number) = refl
-kept-kind (call.GetReservations session) = refl
-kept-kind (call.EndReservation session number) = refl
-kept-kind (call.AllJobs session f) = refl
-kept-kind (call.AllReservations session) = refl
-kept-kind (call.AllQueues session) = refl
-kept-kind (call.AllMachines session) = refl
 kept-kind call.Register = refl
-kept-kind call.TakeLaunch = refl
-kept-kind (call.Started job attempt) = refl
-kept-kind (call.StartFailed job attempt) = refl
-kept-kind (call.Exited job attempt exit) = refl
-kept-kind (call.ExitUnknown job attempt) = refl
-kept-kind call.TakeSignal = refl
-kept-kind (call.SignalDone job attempt kind) = refl
-kept-kind (call.SignalFailed job attempt kind) = refl
+kept-kind _ = refl
 
 abbrev pub MakesOne : StepAnswer → Type 0
 MakesOne (gives r next) = Unit {0}
@@ -69,42 +35,10 @@ MakesOne nothing = ⊥
 MakesOne not_yet = ⊥
 
 effect-makes : (at : ℕ) (w : World) (c : Call) → is_answered (kind_of_call c) ≡ true → MakesOne (effect at w c)
-effect-makes at w (call.CreateJobSession name) is = tt
-effect-makes at w (call.CreateReservationSession name) is = tt
-effect-makes at w (call.OpenJobSession name) is = tt
-effect-makes at w (call.OpenReservationSession name) is = tt
-effect-makes at w (call.DestroyJobSession name) is = tt
-effect-makes at w (call.DestroyReservationSession name) is = tt
-effect-makes at w call.JobSessionNames is = tt
-effect-makes at w call.ReservationSessionNames is = tt
-effect-makes at w call.OpenMonitoring is = tt
-effect-makes at w (call.CloseSession session) is = tt
-effect-makes at w (call.RunJob session t) is = tt
-effect-makes at w (call.RunBulk session t indices) is = tt
-effect-makes at w (call.GetJobs session f) is = tt
-effect-makes at w (call.GetJobArray session array) is = tt
-effect-makes at w (call.Control session meant what) is = tt
-effect-makes at w (call.Reap session meant) is = tt
-effect-makes at w (call.GetState session job) is = tt
-effect-makes at w (call.GetInfo session job) is = tt
 effect-makes at w (call.Wait session listed kind begun timeout) is = absurd (cc)
-effect-makes at w (call.RequestReservation session t) is = tt
-effect-makes at w (call.GetReservation session number) is = tt
-effect-makes at w (call.GetReservations session) is = tt
-effect-makes at w (call.EndReservation session number) is = tt
-effect-makes at w (call.AllJobs session f) is = tt
-effect-makes at w (call.AllReservations session) is = tt
-effect-makes at w (call.AllQueues session) is = tt
-effect-makes at w (call.AllMachines session) is = tt
-effect-makes at w call.Register is = tt
 effect-makes at w call.TakeLaunch is = absurd (cc)
-effect-makes at w (call.Started job attempt) is = tt
-effect-makes at w (call.StartFailed job attempt) is = tt
-effect-makes at w (call.Exited job attempt exit) is = tt
-effect-makes at w (call.ExitUnknown job attempt) is = tt
 effect-makes at w call.TakeSignal is = absurd (cc)
-effect-makes at w (call.SignalDone job attempt kind) is = tt
-effect-makes at w (call.SignalFailed job attempt kind) is = tt
+effect-makes at w _ is = tt
 
 pub always : (at : ℕ) (w : World) (c : Call) → is_answered (kind_of_call c) ≡ true → MakesOne (answer w at c)
 always at w c is = answer-cases at (advance w at) c MakesOne (λ why e. tt) (λ free. effect-makes at (advance w at) c is)

@@ -66,9 +66,6 @@ pub told-back : (o : Option (List LockEntry)) (own : List Entry) → option_map 
 told-back None own is = absurd (let e : None ≡ Some own = is in cc)
 told-back (Some list) own is = record { list = list; is = refl; told = some-same (history_of list) own is }
 
-pub none-back : (o : Option (List LockEntry)) → o ≡ None → option_map history_of o ≡ None
-none-back o is = ap (option_map history_of) is
-
 pub left-same : (xs : List (Option (List LockEntry))) → lock.left_of (map (option_map history_of) xs) ≡ lock.left_of xs
 left-same [] = refl
 left-same (None ∷ xs) = ap suc (left-same xs)

@@ -59,15 +59,6 @@ module _ (old mid new : Seat) (more : SeesMore old mid) (same : number_of mid �
 pub entered : (shared : Named Config) (old mid : Seat) (turn : Held View) → Enters entries_of config_of shared old mid turn → mid.view.seen ≡ entries_of turn.value → mid.view.mine ≡ old.view.mine → SeesMore old mid
 entered shared old mid turn e seen mine = sees-more old mid (subst (λ l. GoesOn old.view.seen l old.view.number) (sym seen) e.goes_on) mine
 
-module _ {A E : Type 0} where
-  pub if_ok : (r : Result A E) (P Q : A → Type 0) → IfOk r P → ((a : A) → P a → Q a) → IfOk r Q
-  if_ok (Ok a) P Q h f = f a h
-  if_ok (Err e) P Q h f = h
-
-  pub if_err : (r : Result A E) (P Q : E → Type 0) → IfErr r P → ((e : E) → P e → Q e) → IfErr r Q
-  if_err (Ok a) P Q h f = h
-  if_err (Err e) P Q h f = f e h
-
 -- what a try came to that had the turn
 pub record IsTold (served : Result Reply NoEntry) (r : Result Reply TryFault) : Type 0 where
   pub ok : IfOk served (λ reply. r ≡ Ok reply)

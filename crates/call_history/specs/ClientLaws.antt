@@ -1,6 +1,6 @@
 -- How what a client has seen goes on over two calls.
 use Rattle.std.specs.Prelude.{◌≡◌, ℕ, List, [], ◌∷◌, ◌++◌, eqb, Result, Ok, Err, IfOk, IfErr}
-use Rattle.std.proofs.Common.{sym, ap, ◌∙◌, append_assoc, append-nil}
+use Rattle.std.proofs.Common.{sym, ap, ◌∙◌, append_assoc}
 use Rattle.std.proofs.lemmas.List.Elements.{filter-append}
 use Rattle.drmaa_model.specs.declared.entries.Entry.{Entry}
 use Rattle.drmaa_model.specs.declared.calls.Call.{Call}
@@ -8,6 +8,7 @@ use Rattle.drmaa_model.specs.declared.configs.Config.{Config}
 use Rattle.drmaa_model.specs.declared.faults.NoEntry.{NoEntry}
 use Rattle.drmaa_model.specs.declared.replies.Reply.{Reply}
 use Rattle.turn_lock.specs.Histories.{BeginsWith}
+use Rattle.turn_lock.proofs.Histories.{begins_refl, begins_trans}
 use Rattle.call_history.specs.Callers.{calls_of}
 use Rattle.call_history.specs.Calls.{entry_by, IsServed, IsUnserved}
 use Rattle.call_history.specs.Clocks.{Dial}
@@ -37,13 +38,10 @@ module _ (old mid new : Seat) (more : SeesMore old mid) (same : number_of mid �
 -- ---- what was seen is a beginning of what is seen then
 
 pub begins-itself : (es : List Entry) → BeginsWith es es
-begins-itself es = record { rest = []; whole = sym (append-nil es) }
+begins-itself es = begins_refl es
 
 pub begins-both : (old mid new : List Entry) → BeginsWith mid old → BeginsWith new mid → BeginsWith new old
-begins-both old mid new first second = record {
-  rest = first.rest ++ second.rest;
-  whole = second.whole ∙ (ap (λ (l : List Entry). l ++ second.rest) first.whole ∙ append_assoc old first.rest second.rest);
-}
+begins-both old mid new first second = begins_trans new mid old second first
 
 pub begins-made : (old new : Seat) (e : Entry) → Makes old e new → BeginsWith (seen_of new) (seen_of old)
 begins-made old new e m = record { rest = m.between ++ e ∷ []; whole = m.seen ∙ append_assoc (seen_of old) m.between (e ∷ []) }

@@ -1,5 +1,5 @@
 -- What a clock has given, over one reading and over several.
-use Rattle.std.specs.Prelude.{◌≡◌, ℕ, List, [], ◌∷◌, ◌++◌, Option, Some, None}
+use Rattle.std.specs.Prelude.{ℕ, List, [], ◌∷◌, ◌++◌, Option, Some, None}
 use Rattle.std.proofs.Common.{refl, sym, ap, ◌∙◌, append_assoc, append-nil}
 use Rattle.drmaa_types.specs.Readings.{Readings, GoesOn, Reads}
 use Rattle.call_history.specs.Clocks.{HasGiven, Gives}
@@ -21,12 +21,6 @@ given-both before first mid second None f s = tt
 given-both before first None second (Some after) f s = absurd s
 given-both None first (Some mid) second (Some after) f s = absurd f
 given-both (Some before) first (Some mid) second (Some after) f s = s ∙ (ap (λ (l : List ℕ). l ++ second) f ∙ append_assoc before first second)
-
-given-these : (before : Option (List ℕ)) (readings : List ℕ) (after : Option (List ℕ)) → HasGiven before readings after
-    → (told : List ℕ) → after ≡ Some told → (had : List ℕ) × (before ≡ Some had) × (told ≡ had ++ readings)
-given-these before readings None given told is = absurd cc
-given-these None readings (Some now) given told is = absurd given
-given-these (Some had) readings (Some now) given told is = let same : told ≡ now = cc in (had, refl, same ∙ given)
 
 -- ---- what the clock of a caller gives
 
@@ -50,8 +44,3 @@ gives-both before first mid second after f s = record {
 pub gives-more : (before mid after : Readings) (readings : List ℕ) (reading : ℕ) → Gives before readings mid → Reads mid reading after → Gives before (readings ++ reading ∷ []) after
 gives-more before mid after readings reading gives reads =
     gives-both before readings mid (reading ∷ []) after gives (gives-one mid reading after reads)
-
--- where the clock tells, it told before, and then these
-pub gave-these : (before : Readings) (readings : List ℕ) (after : Readings) → Gives before readings after
-    → (told : List ℕ) → after.told ≡ Some told → (had : List ℕ) × (before.told ≡ Some had) × (told ≡ had ++ readings)
-gave-these before readings after gives = given-these before.told readings after.told gives.told

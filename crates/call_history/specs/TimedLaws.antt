@@ -19,42 +19,8 @@ use Rattle.call_history.specs.Timed.{begun_in, moments_in, moments_of, StandsIn,
 
 -- a call that is kept has begun when it began
 pub begun-kept : (c : Call) → begun_in (kept c) ≡ begun_in c
-begun-kept (call.CreateJobSession name) = refl
-begun-kept (call.CreateReservationSession name) = refl
-begun-kept (call.OpenJobSession name) = refl
-begun-kept (call.OpenReservationSession name) = refl
-begun-kept (call.DestroyJobSession name) = refl
-begun-kept (call.DestroyReservationSession name) = refl
-begun-kept call.JobSessionNames = refl
-begun-kept call.ReservationSessionNames = refl
-begun-kept call.OpenMonitoring = refl
-begun-kept (call.CloseSession session) = refl
-begun-kept (call.RunJob session t) = refl
-begun-kept (call.RunBulk session t indices) = refl
-begun-kept (call.GetJobs session filter) = refl
-begun-kept (call.GetJobArray session array) = refl
-begun-kept (call.Control session meant what) = refl
-begun-kept (call.Reap session meant) = refl
-begun-kept (call.GetState session job) = refl
-begun-kept (call.GetInfo session job) = refl
 begun-kept (call.Wait session jobs kind begun timeout) = refl
-begun-kept (call.RequestReservation session t) = refl
-begun-kept (call.GetReservation session number) = refl
-begun-kept (call.GetReservations session) = refl
-begun-kept (call.EndReservation session number) = refl
-begun-kept (call.AllJobs session filter) = refl
-begun-kept (call.AllReservations session) = refl
-begun-kept (call.AllQueues session) = refl
-begun-kept (call.AllMachines session) = refl
-begun-kept call.Register = refl
-begun-kept call.TakeLaunch = refl
-begun-kept (call.Started job attempt) = refl
-begun-kept (call.StartFailed job attempt) = refl
-begun-kept (call.Exited job attempt exit) = refl
-begun-kept (call.ExitUnknown job attempt) = refl
-begun-kept call.TakeSignal = refl
-begun-kept (call.SignalDone job attempt kind) = refl
-begun-kept (call.SignalFailed job attempt kind) = refl
+begun-kept _ = refl
 
 -- ---- moments among readings
 

@@ -1,7 +1,8 @@
 //! What the replies of typed calls tell.
-ghost use Rattle.std.specs.Prelude.{◌≡◌, ◌≢◌, IfSome, IfNone, None};
+ghost use Rattle.std.specs.Prelude.{◌≡◌, ◌≢◌, IfSome, None};
 ghost use Rattle.drmaa_model.specs.declared.replies.Reply.{Reply};
-ghost use Rattle.drmaa_model.specs.ReplyKinds.{ReplyKind, kind_of_reply};
+ghost use Rattle.drmaa_model.specs.declared.replies.Reply.TheVariants as reply_is;
+ghost use Rattle.drmaa_model.specs.ReplyKinds.{ReplyKind, kind_of_reply, nothing_told, a_session, texts, a_job, an_array, jobs, a_state, an_info, a_reserved, a_reservation, reservations, infos, reservation_infos, a_machine};
 
 use drmaa_machine::Reply;
 use drmaa_types::{
@@ -51,234 +52,152 @@ fn unasked<T>(other: Reply) -> Option<T>
     None
 }
 
-impl Told for () {
-    ghost use Rattle.drmaa_model.specs.declared.replies.Reply.TheVariants as reply_is;
-    ghost use Rattle.drmaa_model.specs.ReplyKinds.{nothing_told};
+/// What a reply tells, where it is of this form.
+macro_rules! told_by {
+    ($reply:expr, $form:pat => $told:expr) => {
+        match $reply {
+            $form => Some($told),
+            other => unasked(other),
+        }
+    };
+}
 
+impl Told for () {
     ghost as_reply = { λ told. reply_is.Unit };
 
     ghost kind = { nothing_told };
 
     fn of(reply: Reply) -> Option<()> {
-        match reply {
-            Reply::Unit => Some(()),
-            other => unasked(other),
-        }
+        told_by!(reply, Reply::Unit => ())
     }
 }
 
 impl Told for SessionId {
-    ghost use Rattle.drmaa_model.specs.declared.replies.Reply.TheVariants as reply_is;
-    ghost use Rattle.drmaa_model.specs.ReplyKinds.{a_session};
-
     ghost as_reply = { λ told. reply_is.Session told };
 
     ghost kind = { a_session };
 
     fn of(reply: Reply) -> Option<SessionId> {
-        match reply {
-            Reply::Session(session) => Some(session),
-            other => unasked(other),
-        }
+        told_by!(reply, Reply::Session(session) => session)
     }
 }
 
 impl Told for TextList {
-    ghost use Rattle.drmaa_model.specs.declared.replies.Reply.TheVariants as reply_is;
-    ghost use Rattle.drmaa_model.specs.ReplyKinds.{texts};
-
     ghost as_reply = { λ told. reply_is.Names told };
 
     ghost kind = { texts };
 
     fn of(reply: Reply) -> Option<TextList> {
-        match reply {
-            Reply::Names(names) => Some(names),
-            other => unasked(other),
-        }
+        told_by!(reply, Reply::Names(names) => names)
     }
 }
 
 impl Told for JobId {
-    ghost use Rattle.drmaa_model.specs.declared.replies.Reply.TheVariants as reply_is;
-    ghost use Rattle.drmaa_model.specs.ReplyKinds.{a_job};
-
     ghost as_reply = { λ told. reply_is.Job told };
 
     ghost kind = { a_job };
 
     fn of(reply: Reply) -> Option<JobId> {
-        match reply {
-            Reply::Job(job) => Some(job),
-            other => unasked(other),
-        }
+        told_by!(reply, Reply::Job(job) => job)
     }
 }
 
 impl Told for SubmittedArray {
-    ghost use Rattle.drmaa_model.specs.declared.replies.Reply.TheVariants as reply_is;
-    ghost use Rattle.drmaa_model.specs.ReplyKinds.{an_array};
-
     ghost as_reply = { λ told. reply_is.Array told.array told.first told.count };
 
     ghost kind = { an_array };
 
     fn of(reply: Reply) -> Option<SubmittedArray> {
-        match reply {
-            Reply::Array {
-                array,
-                first,
-                count,
-            } => Some(SubmittedArray {
-                array,
-                first,
-                count,
-            }),
-            other => unasked(other),
-        }
+        told_by!(reply, Reply::Array { array, first, count } => SubmittedArray { array, first, count })
     }
 }
 
 impl Told for JobNumbers {
-    ghost use Rattle.drmaa_model.specs.declared.replies.Reply.TheVariants as reply_is;
-    ghost use Rattle.drmaa_model.specs.ReplyKinds.{jobs};
-
     ghost as_reply = { λ told. reply_is.Jobs told.numbers };
 
     ghost kind = { jobs };
 
     fn of(reply: Reply) -> Option<JobNumbers> {
-        match reply {
-            Reply::Jobs(numbers) => Some(JobNumbers { numbers }),
-            other => unasked(other),
-        }
+        told_by!(reply, Reply::Jobs(numbers) => JobNumbers { numbers })
     }
 }
 
 impl Told for JobState {
-    ghost use Rattle.drmaa_model.specs.declared.replies.Reply.TheVariants as reply_is;
-    ghost use Rattle.drmaa_model.specs.ReplyKinds.{a_state};
-
     ghost as_reply = { λ told. reply_is.State told };
 
     ghost kind = { a_state };
 
     fn of(reply: Reply) -> Option<JobState> {
-        match reply {
-            Reply::State(state) => Some(state),
-            other => unasked(other),
-        }
+        told_by!(reply, Reply::State(state) => state)
     }
 }
 
 impl Told for JobInfo {
-    ghost use Rattle.drmaa_model.specs.declared.replies.Reply.TheVariants as reply_is;
-    ghost use Rattle.drmaa_model.specs.ReplyKinds.{an_info};
-
     ghost as_reply = { λ told. reply_is.Info told };
 
     ghost kind = { an_info };
 
     fn of(reply: Reply) -> Option<JobInfo> {
-        match reply {
-            Reply::Info(info) => Some(info.into_inner()),
-            other => unasked(other),
-        }
+        told_by!(reply, Reply::Info(info) => info.into_inner())
     }
 }
 
 impl Told for Reserved {
-    ghost use Rattle.drmaa_model.specs.declared.replies.Reply.TheVariants as reply_is;
-    ghost use Rattle.drmaa_model.specs.ReplyKinds.{a_reserved};
-
     ghost as_reply = { λ told. reply_is.Reserved told };
 
     ghost kind = { a_reserved };
 
     fn of(reply: Reply) -> Option<Reserved> {
-        match reply {
-            Reply::Reserved(reserved) => Some(reserved),
-            other => unasked(other),
-        }
+        told_by!(reply, Reply::Reserved(reserved) => reserved)
     }
 }
 
 impl Told for ReservationInfo {
-    ghost use Rattle.drmaa_model.specs.declared.replies.Reply.TheVariants as reply_is;
-    ghost use Rattle.drmaa_model.specs.ReplyKinds.{a_reservation};
-
     ghost as_reply = { λ told. reply_is.Reservation told };
 
     ghost kind = { a_reservation };
 
     fn of(reply: Reply) -> Option<ReservationInfo> {
-        match reply {
-            Reply::Reservation(info) => Some(info.into_inner()),
-            other => unasked(other),
-        }
+        told_by!(reply, Reply::Reservation(info) => info.into_inner())
     }
 }
 
 impl Told for ReservationNumbers {
-    ghost use Rattle.drmaa_model.specs.declared.replies.Reply.TheVariants as reply_is;
-    ghost use Rattle.drmaa_model.specs.ReplyKinds.{reservations};
-
     ghost as_reply = { λ told. reply_is.Reservations told.numbers };
 
     ghost kind = { reservations };
 
     fn of(reply: Reply) -> Option<ReservationNumbers> {
-        match reply {
-            Reply::Reservations(numbers) => Some(ReservationNumbers { numbers }),
-            other => unasked(other),
-        }
+        told_by!(reply, Reply::Reservations(numbers) => ReservationNumbers { numbers })
     }
 }
 
 impl Told for InfoList {
-    ghost use Rattle.drmaa_model.specs.declared.replies.Reply.TheVariants as reply_is;
-    ghost use Rattle.drmaa_model.specs.ReplyKinds.{infos};
-
     ghost as_reply = { λ told. reply_is.Infos told };
 
     ghost kind = { infos };
 
     fn of(reply: Reply) -> Option<InfoList> {
-        match reply {
-            Reply::Infos(told) => Some(told),
-            other => unasked(other),
-        }
+        told_by!(reply, Reply::Infos(told) => told)
     }
 }
 
 impl Told for ReservationList {
-    ghost use Rattle.drmaa_model.specs.declared.replies.Reply.TheVariants as reply_is;
-    ghost use Rattle.drmaa_model.specs.ReplyKinds.{reservation_infos};
-
     ghost as_reply = { λ told. reply_is.ReservationInfos told };
 
     ghost kind = { reservation_infos };
 
     fn of(reply: Reply) -> Option<ReservationList> {
-        match reply {
-            Reply::ReservationInfos(told) => Some(told),
-            other => unasked(other),
-        }
+        told_by!(reply, Reply::ReservationInfos(told) => told)
     }
 }
 
 impl Told for MachineInfo {
-    ghost use Rattle.drmaa_model.specs.declared.replies.Reply.TheVariants as reply_is;
-    ghost use Rattle.drmaa_model.specs.ReplyKinds.{a_machine};
-
     ghost as_reply = { λ told. reply_is.Machine told };
 
     ghost kind = { a_machine };
 
     fn of(reply: Reply) -> Option<MachineInfo> {
-        match reply {
-            Reply::Machine(info) => Some(info),
-            other => unasked(other),
-        }
+        told_by!(reply, Reply::Machine(info) => info)
     }
 }

@@ -12,7 +12,7 @@ use Rattle.call_history.specs.Callers.{calls_of}
 use Rattle.call_history.specs.Clients.{Seat, seen_of, mine_of, number_of, retired_of}
 use Rattle.call_history.specs.ClientLaws.{begins-both}
 use Rattle.drmaa.specs.Crews.{AreOut, HasPlace, IsKnown, AreTakenBack, IsRetired, AreReleased, AreBack}
-use Rattle.beside_clients.specs.Passes.{IsStillBeside}
+use Rattle.beside_clients.specs.HubClients.{IsStillBeside}
 use Rattle.drmaa.specs.Works.{IsWorks}
 use Rattle.beside_clients.proofs.Keeping.{beside-none, beside-both}
 use Rattle.drmaa.proofs.Places.{Lists, all-left, left-set, keeps-set, only-set, apart, index-in}

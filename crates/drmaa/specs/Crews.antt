@@ -21,8 +21,8 @@ use Rattle.attendant.specs.Posts.{Post}
 use Rattle.notify_hub.specs.Ears.{HaveHeard}
 use Rattle.notify_hub.specs.Hubs.{Following}
 use Rattle.notify_hub.specs.Places.{HavePlaces}
-use Rattle.beside_clients.specs.declared.passes.Seated.{Seated}
-use Rattle.beside_clients.specs.Passes.{FollowsAll, IsStillBeside}
+use Rattle.beside_clients.specs.declared.hub_clients.Seated.{Seated}
+use Rattle.beside_clients.specs.HubClients.{FollowsAll, IsStillBeside}
 use Rattle.drmaa.specs.declared.crews.Crew.{Crew}
 use Rattle.drmaa.specs.declared.seats.Seats.{Seats}
 use Rattle.drmaa.specs.Closed.{IsShort, RegistersFrom}

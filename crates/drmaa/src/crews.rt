@@ -4,7 +4,7 @@ ghost use Rattle.slab.specs.Slab.{get};
 ghost use Rattle.turn_lock.specs.Tokens.{IsFree};
 ghost use Rattle.attendant.specs.Pairs.{ArePlaced, HasAttended};
 ghost use Rattle.notify_hub.specs.Hubs.{IsNoteOf};
-ghost use Rattle.beside_clients.specs.Passes.{GoesOn};
+ghost use Rattle.beside_clients.specs.HubClients.{GoesOn};
 
 use crate::works::work_there;
 use attendant::{Attended, Done, Pair, Reaper, attend_there};

@@ -4,7 +4,7 @@ ghost use Rattle.turn_lock.specs.Histories.{BeginsWith};
 ghost use Rattle.turn_lock.specs.Tokens.{BelongsTo, IsFree};
 ghost use Rattle.call_history.specs.Clients.{seen_of, retired_of, KnowsItsOwn};
 ghost use Rattle.attendant.specs.Pairs.{ArePlaced};
-ghost use Rattle.beside_clients.specs.Passes.{IsStillBeside};
+ghost use Rattle.beside_clients.specs.HubClients.{IsStillBeside};
 ghost use Rattle.drmaa.specs.Crews.{AreOut, AreTakenBack, AreReleased};
 
 use attendant::Pair;

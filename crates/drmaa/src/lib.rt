@@ -4,10 +4,10 @@
 
 mod crews;
 mod ends;
+mod hub_clients;
 mod local;
 mod machines;
 mod pairs;
-mod passes;
 mod seats;
 mod works;
 

@@ -15,8 +15,8 @@ ghost use Rattle.drmaa.specs.Works.{Begins, IsUnread, AreLent, AreLeft, HaveMade
 
 use crate::crews::{Crew, work_beside};
 use crate::ends::{release, take_back, tell_launcher};
+use crate::hub_clients::register_all;
 use crate::pairs::attend_last;
-use crate::passes::register_all;
 use crate::seats::open_crew;
 use crate::works::work_at_first;
 use attendant::{Attended, Reaper, nothing_is_kept, the_outside_agrees};

@@ -28,121 +28,23 @@ pub record IsSubmitting (c : Call) : Type 0 where
   pub kept_unforeseen : is_foreseen (kept c) ≡ false
   pub kept_no_report : is_run_report (kept c) ≡ false
 
-pub kept-or : (c : Call) → (c ≡ kept c) ⊎ IsSubmitting c
-kept-or (call.CreateJobSession name) = inl refl
-kept-or (call.CreateReservationSession name) = inl refl
-kept-or (call.OpenJobSession name) = inl refl
-kept-or (call.OpenReservationSession name) = inl refl
-kept-or (call.DestroyJobSession name) = inl refl
-kept-or (call.DestroyReservationSession name) = inl refl
-kept-or call.JobSessionNames = inl refl
-kept-or call.ReservationSessionNames = inl refl
-kept-or call.OpenMonitoring = inl refl
-kept-or (call.CloseSession session) = inl refl
-kept-or (call.RunJob session t) = inr record { asked = refl; unforeseen = refl; lavish = refl; no_report = refl; kept_so = refl; kept_unsized = refl; kept_unforeseen = refl; kept_no_report = refl }
-kept-or (call.RunBulk session t indices) = inr record { asked = refl; unforeseen = refl; lavish = refl; no_report = refl; kept_so = refl; kept_unsized = refl; kept_unforeseen = refl; kept_no_report = refl }
-kept-or (call.GetJobs session filter) = inl refl
-kept-or (call.GetJobArray session array) = inl refl
-kept-or (call.Control session meant what) = inl refl
-kept-or (call.Reap session meant) = inl refl
-kept-or (call.GetState session job) = inl refl
-kept-or (call.GetInfo session job) = inl refl
-kept-or (call.Wait session listed kind begun timeout) = inl refl
-kept-or (call.RequestReservation session t) = inl refl
-kept-or (call.GetReservation session number) = inl refl
-kept-or (call.GetReservations session) = inl refl
-kept-or (call.EndReservation session number) = inl refl
-kept-or (call.AllJobs session filter) = inl refl
-kept-or (call.AllReservations session) = inl refl
-kept-or (call.AllQueues session) = inl refl
-kept-or (call.AllMachines session) = inl refl
-kept-or call.Register = inl refl
-kept-or call.TakeLaunch = inl refl
-kept-or (call.Started job attempt) = inl refl
-kept-or (call.StartFailed job attempt) = inl refl
-kept-or (call.Exited job attempt exit) = inl refl
-kept-or (call.ExitUnknown job attempt) = inl refl
-kept-or call.TakeSignal = inl refl
-kept-or (call.SignalDone job attempt kind) = inl refl
-kept-or (call.SignalFailed job attempt kind) = inl refl
-
--- what is known of each that does
+-- it is known of each that does
 pub submits : (c : Call) → is_submission c ≡ true → IsSubmitting c
-submits (call.CreateJobSession name) is = absurd (cc)
-submits (call.CreateReservationSession name) is = absurd (cc)
-submits (call.OpenJobSession name) is = absurd (cc)
-submits (call.OpenReservationSession name) is = absurd (cc)
-submits (call.DestroyJobSession name) is = absurd (cc)
-submits (call.DestroyReservationSession name) is = absurd (cc)
-submits call.JobSessionNames is = absurd (cc)
-submits call.ReservationSessionNames is = absurd (cc)
-submits call.OpenMonitoring is = absurd (cc)
-submits (call.CloseSession session) is = absurd (cc)
 submits (call.RunJob session t) is = record { asked = refl; unforeseen = refl; lavish = refl; no_report = refl; kept_so = refl; kept_unsized = refl; kept_unforeseen = refl; kept_no_report = refl }
 submits (call.RunBulk session t indices) is = record { asked = refl; unforeseen = refl; lavish = refl; no_report = refl; kept_so = refl; kept_unsized = refl; kept_unforeseen = refl; kept_no_report = refl }
-submits (call.GetJobs session filter) is = absurd (cc)
-submits (call.GetJobArray session array) is = absurd (cc)
-submits (call.Control session meant what) is = absurd (cc)
-submits (call.Reap session meant) is = absurd (cc)
-submits (call.GetState session job) is = absurd (cc)
-submits (call.GetInfo session job) is = absurd (cc)
-submits (call.Wait session listed kind begun timeout) is = absurd (cc)
-submits (call.RequestReservation session t) is = absurd (cc)
-submits (call.GetReservation session number) is = absurd (cc)
-submits (call.GetReservations session) is = absurd (cc)
-submits (call.EndReservation session number) is = absurd (cc)
-submits (call.AllJobs session filter) is = absurd (cc)
-submits (call.AllReservations session) is = absurd (cc)
-submits (call.AllQueues session) is = absurd (cc)
-submits (call.AllMachines session) is = absurd (cc)
-submits call.Register is = absurd (cc)
-submits call.TakeLaunch is = absurd (cc)
-submits (call.Started job attempt) is = absurd (cc)
-submits (call.StartFailed job attempt) is = absurd (cc)
-submits (call.Exited job attempt exit) is = absurd (cc)
-submits (call.ExitUnknown job attempt) is = absurd (cc)
-submits call.TakeSignal is = absurd (cc)
-submits (call.SignalDone job attempt kind) is = absurd (cc)
-submits (call.SignalFailed job attempt kind) is = absurd (cc)
+submits _ is = absurd (cc)
+
+-- a call that submits none is kept as it is
+pub kept-or : (c : Call) → (c ≡ kept c) ⊎ IsSubmitting c
+kept-or (call.RunJob session t) = inr (submits (call.RunJob session t) refl)
+kept-or (call.RunBulk session t indices) = inr (submits (call.RunBulk session t indices) refl)
+kept-or _ = inl refl
 
 -- a call for which want of memory may come before a journal that is too large submits jobs
 pub sized-or : (c : Call) → (is_sized_first c ≡ true) ⊎ (is_submission c ≡ true)
-sized-or (call.CreateJobSession name) = inl refl
-sized-or (call.CreateReservationSession name) = inl refl
-sized-or (call.OpenJobSession name) = inl refl
-sized-or (call.OpenReservationSession name) = inl refl
-sized-or (call.DestroyJobSession name) = inl refl
-sized-or (call.DestroyReservationSession name) = inl refl
-sized-or call.JobSessionNames = inl refl
-sized-or call.ReservationSessionNames = inl refl
-sized-or call.OpenMonitoring = inl refl
-sized-or (call.CloseSession session) = inl refl
 sized-or (call.RunJob session t) = inr refl
 sized-or (call.RunBulk session t indices) = inr refl
-sized-or (call.GetJobs session filter) = inl refl
-sized-or (call.GetJobArray session array) = inl refl
-sized-or (call.Control session meant what) = inl refl
-sized-or (call.Reap session meant) = inl refl
-sized-or (call.GetState session job) = inl refl
-sized-or (call.GetInfo session job) = inl refl
-sized-or (call.Wait session listed kind begun timeout) = inl refl
-sized-or (call.RequestReservation session t) = inl refl
-sized-or (call.GetReservation session number) = inl refl
-sized-or (call.GetReservations session) = inl refl
-sized-or (call.EndReservation session number) = inl refl
-sized-or (call.AllJobs session filter) = inl refl
-sized-or (call.AllReservations session) = inl refl
-sized-or (call.AllQueues session) = inl refl
-sized-or (call.AllMachines session) = inl refl
-sized-or call.Register = inl refl
-sized-or call.TakeLaunch = inl refl
-sized-or (call.Started job attempt) = inl refl
-sized-or (call.StartFailed job attempt) = inl refl
-sized-or (call.Exited job attempt exit) = inl refl
-sized-or (call.ExitUnknown job attempt) = inl refl
-sized-or call.TakeSignal = inl refl
-sized-or (call.SignalDone job attempt kind) = inl refl
-sized-or (call.SignalFailed job attempt kind) = inl refl
+sized-or _ = inl refl
 
 -- the call makes an entry
 pub record HasEntry (w : World) (at : ℕ) (c : Call) : Type 0 where
@@ -159,42 +61,9 @@ entry-cases w at c r v does =
 
 -- one that submits jobs always does
 pub submission-entry : (w : World) (at : ℕ) (c : Call) → is_submission c ≡ true → HasEntry w at c
-submission-entry w at (call.CreateJobSession name) submits = absurd (cc)
-submission-entry w at (call.CreateReservationSession name) submits = absurd (cc)
-submission-entry w at (call.OpenJobSession name) submits = absurd (cc)
-submission-entry w at (call.OpenReservationSession name) submits = absurd (cc)
-submission-entry w at (call.DestroyJobSession name) submits = absurd (cc)
-submission-entry w at (call.DestroyReservationSession name) submits = absurd (cc)
-submission-entry w at call.JobSessionNames submits = absurd (cc)
-submission-entry w at call.ReservationSessionNames submits = absurd (cc)
-submission-entry w at call.OpenMonitoring submits = absurd (cc)
-submission-entry w at (call.CloseSession session) submits = absurd (cc)
 submission-entry w at (call.RunJob session t) submits = entry-cases w at (call.RunJob session t) _ _ refl
 submission-entry w at (call.RunBulk session t indices) submits = entry-cases w at (call.RunBulk session t indices) _ _ refl
-submission-entry w at (call.GetJobs session filter) submits = absurd (cc)
-submission-entry w at (call.GetJobArray session array) submits = absurd (cc)
-submission-entry w at (call.Control session meant what) submits = absurd (cc)
-submission-entry w at (call.Reap session meant) submits = absurd (cc)
-submission-entry w at (call.GetState session job) submits = absurd (cc)
-submission-entry w at (call.GetInfo session job) submits = absurd (cc)
-submission-entry w at (call.Wait session listed kind begun timeout) submits = absurd (cc)
-submission-entry w at (call.RequestReservation session t) submits = absurd (cc)
-submission-entry w at (call.GetReservation session number) submits = absurd (cc)
-submission-entry w at (call.GetReservations session) submits = absurd (cc)
-submission-entry w at (call.EndReservation session number) submits = absurd (cc)
-submission-entry w at (call.AllJobs session filter) submits = absurd (cc)
-submission-entry w at (call.AllReservations session) submits = absurd (cc)
-submission-entry w at (call.AllQueues session) submits = absurd (cc)
-submission-entry w at (call.AllMachines session) submits = absurd (cc)
-submission-entry w at call.Register submits = absurd (cc)
-submission-entry w at call.TakeLaunch submits = absurd (cc)
-submission-entry w at (call.Started job attempt) submits = absurd (cc)
-submission-entry w at (call.StartFailed job attempt) submits = absurd (cc)
-submission-entry w at (call.Exited job attempt exit) submits = absurd (cc)
-submission-entry w at (call.ExitUnknown job attempt) submits = absurd (cc)
-submission-entry w at call.TakeSignal submits = absurd (cc)
-submission-entry w at (call.SignalDone job attempt kind) submits = absurd (cc)
-submission-entry w at (call.SignalFailed job attempt kind) submits = absurd (cc)
+submission-entry w at _ submits = absurd (cc)
 
 -- where memory runs out for the call that the entry keeps, nothing is promised of the journal
 pub submission-short : (w : World) (at : ℕ) (c : Call) → is_submission c ≡ true → Comes w at (kept c) (Err fault.OutOfMemory) w

@@ -3,6 +3,7 @@ use Rattle.std.proofs.Common.{◌≡◌, ℕ, ◌+◌, Bool, true, false, cond, 
 use Rattle.std.specs.Prelude.{is_some}
 use Rattle.std.specs.List.{list_any}
 use Rattle.std.specs.Option.{option_map_or}
+use Rattle.std.proofs.lemmas.Bool.{not-false}
 use Rattle.drmaa_types.specs.Refusals.{first_refusal}
 use Rattle.drmaa_types.specs.declared.identifiers.JobId.{JobId}
 use Rattle.drmaa_types.specs.declared.identifiers.ReservationId.{ReservationId}
@@ -26,6 +27,7 @@ use Rattle.drmaa_model.specs.Infos.{info, reservation_info}
 use Rattle.drmaa_model.specs.Launching.{launch, signal}
 use Rattle.drmaa_model.specs.Load.{reservation_of}
 use Rattle.drmaa_model.specs.Operation.{Operation}
+use Rattle.drmaa_model.specs.OperationLaws.{no_test}
 use Rattle.drmaa_model.specs.Refusals.{refusal}
 use Rattle.drmaa_model.specs.ReplyKinds.{kind_of_reply, kind_of_call, an_info, a_reservation, a_launch, a_signal, IsReplyOf}
 use Rattle.drmaa_model.specs.Rows.{is_of, row_of}
@@ -75,15 +77,7 @@ tells-wait session listed kind begun timeout (Some job) over w = inr refl
 
 -- neither of two tests refuses
 second-free : (first second : Bool × Refusal) → first_refusal (first ∷ second ∷ []) ≡ None → second.0 ≡ false
-second-free first second none =
-    (elim first.0 as (λ b. cond b (Some first.1) (cond second.0 (Some second.1) None) ≡ None → second.0 ≡ false) [
-      | true ↦ λ e. absurd (cc)
-      | false ↦ (elim second.0 as (λ b. cond b (Some second.1) None ≡ None → b ≡ false) [ true ↦ λ e. absurd (cc) | false ↦ λ e. refl ])
-    ]) none
-
-not-false : (b : Bool) → not b ≡ false → b ≡ true
-not-false true e = refl
-not-false false e = absurd (cc)
+second-free first second none = (no_test second [] (no_test first (second ∷ []) none).1).0
 
 -- one that is there is found
 any-found : {X : Type 0} (test : X → Bool) (xs : List X) → list_any test xs ≡ true → is_some (find test xs) ≡ true
@@ -140,44 +134,14 @@ own-accepted session number w free =
 
 effect-tells : (at : ℕ) (w : World) (c : Call) → refusal w c ≡ None → Tells c (effect at w c)
 unfolding Tells
-effect-tells at w (call.CreateJobSession name) free = inr refl
-effect-tells at w (call.CreateReservationSession name) free = inr refl
-effect-tells at w (call.OpenJobSession name) free = inr refl
-effect-tells at w (call.OpenReservationSession name) free = inr refl
-effect-tells at w (call.DestroyJobSession name) free = inr refl
-effect-tells at w (call.DestroyReservationSession name) free = inr refl
-effect-tells at w call.JobSessionNames free = inr refl
-effect-tells at w call.ReservationSessionNames free = inr refl
-effect-tells at w call.OpenMonitoring free = inr refl
-effect-tells at w (call.CloseSession session) free = inr refl
-effect-tells at w (call.RunJob session t) free = inr refl
-effect-tells at w (call.RunBulk session t indices) free = inr refl
-effect-tells at w (call.GetJobs session f) free = inr refl
-effect-tells at w (call.GetJobArray session array) free = inr refl
-effect-tells at w (call.Control session meant what) free = inr refl
-effect-tells at w (call.Reap session meant) free = inr refl
-effect-tells at w (call.GetState session job) free = inr refl
 effect-tells at w (call.GetInfo session job) free =
     inr (tells-info w job (seen-kept session job w (second-free (session_test (Jobs ∷ Monitoring ∷ []) session w) (seen_test session job w) free)))
 effect-tells at w (call.Wait session listed kind begun timeout) free = tells-wait session listed kind begun timeout (first_reached kind w.plan.rows listed) (is_timed_out at begun timeout) w
-effect-tells at w (call.RequestReservation session t) free = inr refl
 effect-tells at w (call.GetReservation session number) free =
     inr (tells-reservation w number (own-accepted session number w (second-free (session_test (Reservations ∷ []) session w) (reservation_test session number w) free)))
-effect-tells at w (call.GetReservations session) free = inr refl
-effect-tells at w (call.EndReservation session number) free = inr refl
-effect-tells at w (call.AllJobs session f) free = inr refl
-effect-tells at w (call.AllReservations session) free = inr refl
-effect-tells at w (call.AllQueues session) free = inr refl
-effect-tells at w (call.AllMachines session) free = inr refl
-effect-tells at w call.Register free = inr refl
 effect-tells at w call.TakeLaunch free = tells-some call.TakeLaunch reply.Launch launch w (λ told. refl)
-effect-tells at w (call.Started job attempt) free = inr refl
-effect-tells at w (call.StartFailed job attempt) free = inr refl
-effect-tells at w (call.Exited job attempt exit) free = inr refl
-effect-tells at w (call.ExitUnknown job attempt) free = inr refl
 effect-tells at w call.TakeSignal free = tells-some call.TakeSignal reply.Signal signal w (λ told. refl)
-effect-tells at w (call.SignalDone job attempt kind) free = inr refl
-effect-tells at w (call.SignalFailed job attempt kind) free = inr refl
+effect-tells at w _ free = inr refl
 
 -- the reply to a call is of the call's own kind, or a refusal
 pub reply-kind : (w : World) (at : ℕ) (c : Call) (r : Reply) (next : World) → answer w at c ≡ gives r next → IsReplyOf c r
@@ -219,80 +183,12 @@ none-holds ((b, r) ∷ ts) is =
 -- ---- who is handed what
 
 only-launch : (c : Call) → kind_of_call c ≡ a_launch → c ≡ call.TakeLaunch
-only-launch (call.CreateJobSession name) is = absurd (cc)
-only-launch (call.CreateReservationSession name) is = absurd (cc)
-only-launch (call.OpenJobSession name) is = absurd (cc)
-only-launch (call.OpenReservationSession name) is = absurd (cc)
-only-launch (call.DestroyJobSession name) is = absurd (cc)
-only-launch (call.DestroyReservationSession name) is = absurd (cc)
-only-launch call.JobSessionNames is = absurd (cc)
-only-launch call.ReservationSessionNames is = absurd (cc)
-only-launch call.OpenMonitoring is = absurd (cc)
-only-launch (call.CloseSession session) is = absurd (cc)
-only-launch (call.RunJob session t) is = absurd (cc)
-only-launch (call.RunBulk session t indices) is = absurd (cc)
-only-launch (call.GetJobs session filter) is = absurd (cc)
-only-launch (call.GetJobArray session array) is = absurd (cc)
-only-launch (call.Control session meant what) is = absurd (cc)
-only-launch (call.Reap session meant) is = absurd (cc)
-only-launch (call.GetState session job) is = absurd (cc)
-only-launch (call.GetInfo session job) is = absurd (cc)
-only-launch (call.Wait session listed kind begun timeout) is = absurd (cc)
-only-launch (call.RequestReservation session t) is = absurd (cc)
-only-launch (call.GetReservation session number) is = absurd (cc)
-only-launch (call.GetReservations session) is = absurd (cc)
-only-launch (call.EndReservation session number) is = absurd (cc)
-only-launch (call.AllJobs session filter) is = absurd (cc)
-only-launch (call.AllReservations session) is = absurd (cc)
-only-launch (call.AllQueues session) is = absurd (cc)
-only-launch (call.AllMachines session) is = absurd (cc)
-only-launch call.Register is = absurd (cc)
 only-launch call.TakeLaunch is = refl
-only-launch (call.Started job attempt) is = absurd (cc)
-only-launch (call.StartFailed job attempt) is = absurd (cc)
-only-launch (call.Exited job attempt exit) is = absurd (cc)
-only-launch (call.ExitUnknown job attempt) is = absurd (cc)
-only-launch call.TakeSignal is = absurd (cc)
-only-launch (call.SignalDone job attempt kind) is = absurd (cc)
-only-launch (call.SignalFailed job attempt kind) is = absurd (cc)
+only-launch _ is = absurd (cc)
 
 only-signal : (c : Call) → kind_of_call c ≡ a_signal → c ≡ call.TakeSignal
-only-signal (call.CreateJobSession name) is = absurd (cc)
-only-signal (call.CreateReservationSession name) is = absurd (cc)
-only-signal (call.OpenJobSession name) is = absurd (cc)
-only-signal (call.OpenReservationSession name) is = absurd (cc)
-only-signal (call.DestroyJobSession name) is = absurd (cc)
-only-signal (call.DestroyReservationSession name) is = absurd (cc)
-only-signal call.JobSessionNames is = absurd (cc)
-only-signal call.ReservationSessionNames is = absurd (cc)
-only-signal call.OpenMonitoring is = absurd (cc)
-only-signal (call.CloseSession session) is = absurd (cc)
-only-signal (call.RunJob session t) is = absurd (cc)
-only-signal (call.RunBulk session t indices) is = absurd (cc)
-only-signal (call.GetJobs session filter) is = absurd (cc)
-only-signal (call.GetJobArray session array) is = absurd (cc)
-only-signal (call.Control session meant what) is = absurd (cc)
-only-signal (call.Reap session meant) is = absurd (cc)
-only-signal (call.GetState session job) is = absurd (cc)
-only-signal (call.GetInfo session job) is = absurd (cc)
-only-signal (call.Wait session listed kind begun timeout) is = absurd (cc)
-only-signal (call.RequestReservation session t) is = absurd (cc)
-only-signal (call.GetReservation session number) is = absurd (cc)
-only-signal (call.GetReservations session) is = absurd (cc)
-only-signal (call.EndReservation session number) is = absurd (cc)
-only-signal (call.AllJobs session filter) is = absurd (cc)
-only-signal (call.AllReservations session) is = absurd (cc)
-only-signal (call.AllQueues session) is = absurd (cc)
-only-signal (call.AllMachines session) is = absurd (cc)
-only-signal call.Register is = absurd (cc)
-only-signal call.TakeLaunch is = absurd (cc)
-only-signal (call.Started job attempt) is = absurd (cc)
-only-signal (call.StartFailed job attempt) is = absurd (cc)
-only-signal (call.Exited job attempt exit) is = absurd (cc)
-only-signal (call.ExitUnknown job attempt) is = absurd (cc)
 only-signal call.TakeSignal is = refl
-only-signal (call.SignalDone job attempt kind) is = absurd (cc)
-only-signal (call.SignalFailed job attempt kind) is = absurd (cc)
+only-signal _ is = absurd (cc)
 
 -- only TakeLaunch is answered a launch
 pub launch-of-launch : (c : Call) (l : Launch) → IsReplyOf c (reply.Launch l) → c ≡ call.TakeLaunch

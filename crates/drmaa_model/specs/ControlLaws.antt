@@ -13,7 +13,7 @@ use Rattle.drmaa_types.specs.declared.identifiers.ReservationId.{ReservationId}
 use Rattle.drmaa_types.specs.declared.states.Control.{Control}
 use Rattle.drmaa_types.specs.declared.states.Control.TheVariants.{Suspend, Resume, Hold, Release, Terminate}
 use Rattle.drmaa_types.specs.declared.states.JobState.{JobState}
-use Rattle.drmaa_types.specs.declared.states.JobState.TheVariants.{Undetermined, Queued, QueuedHeld, Running, Suspended, Requeued, RequeuedHeld, Done, Failed}
+use Rattle.drmaa_types.specs.declared.states.JobState.TheVariants.{Running, Suspended, Done, Failed}
 use Rattle.drmaa_types.specs.declared.states.Note.TheVariants as note
 use Rattle.drmaa_types.specs.declared.states.SignalKind.{SignalKind}
 use Rattle.drmaa_types.specs.declared.states.SignalKind.TheVariants as signal
@@ -111,26 +111,12 @@ eases-control moment t what r sound =
 -- ---- the orders that are asked for
 
 suspend-started : (s t : JobState) → after_control s Suspend ≡ Some t → is_started s ≡ true
-suspend-started Undetermined t e = absurd (cc)
-suspend-started Queued t e = absurd (cc)
-suspend-started QueuedHeld t e = absurd (cc)
 suspend-started Running t e = refl
-suspend-started Suspended t e = absurd (cc)
-suspend-started Requeued t e = absurd (cc)
-suspend-started RequeuedHeld t e = absurd (cc)
-suspend-started Done t e = absurd (cc)
-suspend-started Failed t e = absurd (cc)
+suspend-started _ t e = absurd (cc)
 
 resume-started : (s t : JobState) → after_control s Resume ≡ Some t → is_started s ≡ true
-resume-started Undetermined t e = absurd (cc)
-resume-started Queued t e = absurd (cc)
-resume-started QueuedHeld t e = absurd (cc)
-resume-started Running t e = absurd (cc)
 resume-started Suspended t e = refl
-resume-started Requeued t e = absurd (cc)
-resume-started RequeuedHeld t e = absurd (cc)
-resume-started Done t e = absurd (cc)
-resume-started Failed t e = absurd (cc)
+resume-started _ t e = absurd (cc)
 
 -- a signal is asked for where the job is started
 asks-started : (what : Control) (course : Course) (state : JobState) (kind : SignalKind) → after_control course.state what ≡ Some state → asked_for what course ≡ Some kind → is_started course.state ≡ true
@@ -272,15 +258,9 @@ fewer-rows-fit test stops p fit = record {
 }
 
 done-stopped : (s : JobState) → has_terminated s ≡ true → is_started s ≡ false
-done-stopped Undetermined h = absurd (cc)
-done-stopped Queued h = absurd (cc)
-done-stopped QueuedHeld h = absurd (cc)
-done-stopped Running h = absurd (cc)
-done-stopped Suspended h = absurd (cc)
-done-stopped Requeued h = absurd (cc)
-done-stopped RequeuedHeld h = absurd (cc)
 done-stopped Done h = refl
 done-stopped Failed h = refl
+done-stopped _ h = absurd (cc)
 
 -- what is forgotten has ended
 pub forgotten-stopped : (meant : Row → Bool) (r : Row) → not (meant r && is_done r) ≡ false → is_started r.course.state ≡ false

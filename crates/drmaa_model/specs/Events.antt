@@ -29,8 +29,8 @@ abbrev pub is_wanted_at : ℕ → Row → Bool
 is_wanted_at x row = is_waiting row.course.state && (is_set_to x row.wants.start || is_set_to x row.wants.deadline)
 
 -- this is that, or the planned end of a job that is started
-abbrev pub turns_at : ℕ → Row → Bool
-turns_at x row = is_wanted_at x row || option_map_or (is_end_at x) row.course.planned false
+abbrev pub is_row_event : ℕ → Row → Bool
+is_row_event x row = is_wanted_at x row || option_map_or (is_end_at x) row.course.planned false
 
 -- a reservation starts or ends at this moment
 abbrev pub bounds_at : ℕ → Accepted → Bool
@@ -38,7 +38,7 @@ bounds_at x a = (a.from == x) || (a.until == x)
 
 -- time may change something at this moment
 abbrev pub is_event : Plan → ℕ → Bool
-is_event p x = list_any (turns_at x) p.rows || list_any (bounds_at x) p.reservations
+is_event p x = list_any (is_row_event x) p.rows || list_any (bounds_at x) p.reservations
 
 -- the least moment after this one that meets a test
 abbrev pub first_after : ℕ → (ℕ → Bool) → Option ℕ

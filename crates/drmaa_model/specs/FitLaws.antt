@@ -18,7 +18,7 @@ use Rattle.drmaa_types.specs.declared.identifiers.ReservationId.{ReservationId}
 use Rattle.drmaa_types.specs.declared.states.Control.{Control}
 use Rattle.drmaa_types.specs.declared.states.Control.TheVariants.{Suspend, Resume, Hold, Release, Terminate}
 use Rattle.drmaa_types.specs.declared.states.JobState.{JobState}
-use Rattle.drmaa_types.specs.declared.states.JobState.TheVariants.{Undetermined, Queued, QueuedHeld, Running, Suspended, Requeued, RequeuedHeld, Done, Failed}
+use Rattle.drmaa_types.specs.declared.states.JobState.TheVariants.{Undetermined, Queued, QueuedHeld, Running, Suspended, Requeued, RequeuedHeld}
 use Rattle.drmaa_types.specs.declared.states.Note.{Note}
 use Rattle.drmaa_types.specs.declared.states.SignalKind.{SignalKind}
 use Rattle.drmaa_model.specs.declared.courses.Course.{Course}
@@ -471,54 +471,21 @@ pub record SameKind (s t : JobState) : Type 0 where
   pub edge : may s t ≡ true
 
 pub same-kind : (what : Control) (s t : JobState) → (what ≡ Terminate → ⊥) → after_control s what ≡ Some t → SameKind s t
-same-kind Suspend Undetermined t quiet e = absurd (cc)
-same-kind Suspend Queued t quiet e = absurd (cc)
-same-kind Suspend QueuedHeld t quiet e = absurd (cc)
 same-kind Suspend Running t quiet e = (let same : Suspended ≡ t = cc in subst (SameKind Running) same (record { kind = refl; waits = refl; known = λ h. cc; edge = refl }))
-same-kind Suspend Suspended t quiet e = absurd (cc)
-same-kind Suspend Requeued t quiet e = absurd (cc)
-same-kind Suspend RequeuedHeld t quiet e = absurd (cc)
-same-kind Suspend Done t quiet e = absurd (cc)
-same-kind Suspend Failed t quiet e = absurd (cc)
-same-kind Resume Undetermined t quiet e = absurd (cc)
-same-kind Resume Queued t quiet e = absurd (cc)
-same-kind Resume QueuedHeld t quiet e = absurd (cc)
-same-kind Resume Running t quiet e = absurd (cc)
 same-kind Resume Suspended t quiet e = (let same : Running ≡ t = cc in subst (SameKind Suspended) same (record { kind = refl; waits = refl; known = λ h. cc; edge = refl }))
-same-kind Resume Requeued t quiet e = absurd (cc)
-same-kind Resume RequeuedHeld t quiet e = absurd (cc)
-same-kind Resume Done t quiet e = absurd (cc)
-same-kind Resume Failed t quiet e = absurd (cc)
-same-kind Hold Undetermined t quiet e = absurd (cc)
 same-kind Hold Queued t quiet e = (let same : QueuedHeld ≡ t = cc in subst (SameKind Queued) same (record { kind = refl; waits = refl; known = λ h. cc; edge = refl }))
-same-kind Hold QueuedHeld t quiet e = absurd (cc)
-same-kind Hold Running t quiet e = absurd (cc)
-same-kind Hold Suspended t quiet e = absurd (cc)
 same-kind Hold Requeued t quiet e = (let same : RequeuedHeld ≡ t = cc in subst (SameKind Requeued) same (record { kind = refl; waits = refl; known = λ h. cc; edge = refl }))
-same-kind Hold RequeuedHeld t quiet e = absurd (cc)
-same-kind Hold Done t quiet e = absurd (cc)
-same-kind Hold Failed t quiet e = absurd (cc)
-same-kind Release Undetermined t quiet e = absurd (cc)
-same-kind Release Queued t quiet e = absurd (cc)
 same-kind Release QueuedHeld t quiet e = (let same : Queued ≡ t = cc in subst (SameKind QueuedHeld) same (record { kind = refl; waits = refl; known = λ h. cc; edge = refl }))
-same-kind Release Running t quiet e = absurd (cc)
-same-kind Release Suspended t quiet e = absurd (cc)
-same-kind Release Requeued t quiet e = absurd (cc)
 same-kind Release RequeuedHeld t quiet e = (let same : Requeued ≡ t = cc in subst (SameKind RequeuedHeld) same (record { kind = refl; waits = refl; known = λ h. cc; edge = refl }))
-same-kind Release Done t quiet e = absurd (cc)
-same-kind Release Failed t quiet e = absurd (cc)
 same-kind Terminate s t quiet e = absurd (quiet refl)
+same-kind _ _ t quiet e = absurd (cc)
 
 pub ends-waiting : (s t : JobState) → after_control s Terminate ≡ Some t → is_started s ≡ false → is_waiting s ≡ true
-ends-waiting Undetermined t e idle = absurd (cc)
 ends-waiting Queued t e idle = refl
 ends-waiting QueuedHeld t e idle = refl
-ends-waiting Running t e idle = absurd (cc)
-ends-waiting Suspended t e idle = absurd (cc)
 ends-waiting Requeued t e idle = refl
 ends-waiting RequeuedHeld t e idle = refl
-ends-waiting Done t e idle = absurd (cc)
-ends-waiting Failed t e idle = absurd (cc)
+ends-waiting _ t e idle = absurd (cc)
 
 -- what time leaves of each row, it leaves of the sum
 pub kept-advance : (g : Row → ℕ) → ((r q : Row) → Eases r q → g q ≡ g r) → (entry at : ℕ) (p : Plan) → IsFit p → sum_by g (advance_plan entry at p).rows ≡ sum_by g p.rows

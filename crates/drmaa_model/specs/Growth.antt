@@ -33,41 +33,11 @@ is_growing Terminate = false
 abbrev pub grown : Target → Control → List Row → ℕ
 grown t what rows = length (filter (λ (row : Row). is_growing what && is_controlled t what row) rows)
 
--- A job that is submitted is promised room for one change, and one that is launched for its reports.
+-- A job that is submitted is promised room for one change, and one that is launched for its reports. Any other call may add nothing:
+-- that is what it is held to (`a_report_finds_room`).
 abbrev pub growth : World → Call → ℕ
-growth w (call.CreateJobSession name) = 0
-growth w (call.CreateReservationSession name) = 0
-growth w (call.OpenJobSession name) = 0
-growth w (call.OpenReservationSession name) = 0
-growth w (call.DestroyJobSession name) = 0
-growth w (call.DestroyReservationSession name) = 0
-growth w call.JobSessionNames = 0
-growth w call.ReservationSessionNames = 0
-growth w call.OpenMonitoring = 0
-growth w (call.CloseSession session) = 0
 growth w (call.RunJob session t) = 1
 growth w (call.RunBulk session t indices) = index_count indices
-growth w (call.GetJobs session filter) = 0
-growth w (call.GetJobArray session array) = 0
 growth w (call.Control session meant what) = grown meant what w.plan.rows
-growth w (call.Reap session meant) = 0
-growth w (call.GetState session job) = 0
-growth w (call.GetInfo session job) = 0
-growth w (call.Wait session jobs kind begun timeout) = 0
-growth w (call.RequestReservation session t) = 0
-growth w (call.GetReservation session number) = 0
-growth w (call.GetReservations session) = 0
-growth w (call.EndReservation session number) = 0
-growth w (call.AllJobs session filter) = 0
-growth w (call.AllReservations session) = 0
-growth w (call.AllQueues session) = 0
-growth w (call.AllMachines session) = 0
-growth w call.Register = 0
 growth w call.TakeLaunch = 4
-growth w (call.Started job attempt) = 0
-growth w (call.StartFailed job attempt) = 0
-growth w (call.Exited job attempt exit) = 0
-growth w (call.ExitUnknown job attempt) = 0
-growth w call.TakeSignal = 0
-growth w (call.SignalDone job attempt kind) = 0
-growth w (call.SignalFailed job attempt kind) = 0
+growth w _ = 0

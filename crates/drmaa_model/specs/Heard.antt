@@ -13,24 +13,7 @@ use Rattle.drmaa_model.specs.World.{World, opening_world}
 -- the reply registers the callback of this number
 abbrev pub registers : ℕ → Reply → Bool
 registers n (reply.Callback number) = number == n
-registers n reply.Unit = false
-registers n (reply.Session session) = false
-registers n (reply.Names names) = false
-registers n (reply.Job job) = false
-registers n (reply.Array array first count) = false
-registers n (reply.Jobs jobs) = false
-registers n (reply.State state) = false
-registers n (reply.Info info) = false
-registers n (reply.Reached job) = false
-registers n (reply.Reserved reserved) = false
-registers n (reply.Reservation info) = false
-registers n (reply.Reservations numbers) = false
-registers n (reply.Infos infos) = false
-registers n (reply.ReservationInfos infos) = false
-registers n (reply.Machine info) = false
-registers n (reply.Launch launch) = false
-registers n (reply.Signal signal) = false
-registers n (reply.Refused why) = false
+registers n _ = false
 
 -- the number of changes right after the entry that registers the callback, if there is one
 abbrev pub place_from : World → ℕ → List Entry → Option ℕ

@@ -11,7 +11,7 @@ use Rattle.drmaa_types.specs.declared.identifiers.ArrayId.{ArrayId}
 use Rattle.drmaa_types.specs.declared.identifiers.ReservationId.{ReservationId}
 use Rattle.drmaa_types.specs.declared.moments.End.{End}
 use Rattle.drmaa_types.specs.declared.states.JobState.{JobState}
-use Rattle.drmaa_types.specs.declared.states.JobState.TheVariants.{Undetermined, Queued, QueuedHeld, Running, Suspended, Requeued, RequeuedHeld, Done, Failed}
+use Rattle.drmaa_types.specs.declared.states.JobState.TheVariants.{Running}
 use Rattle.drmaa_model.specs.declared.reservations.Accepted.{Accepted}
 use Rattle.drmaa_model.specs.declared.rows.Row.{Row}
 use Rattle.drmaa_model.specs.declared.rows.Wants.{Wants}
@@ -22,22 +22,15 @@ use Rattle.drmaa_model.specs.Launching.{launch, launch_row}
 use Rattle.drmaa_model.specs.Load.{is_in_queue, in_queue, held_in_queue, names, held_inside, holds_in, is_member, in_reservation, in_array, is_ordinary, ends_after, covers, load, reservation_of, fits}
 use Rattle.drmaa_model.specs.MomentLaws.{fits-at, ends-before}
 use Rattle.drmaa_model.specs.OperationLaws.{KeepsFit, row-sound}
-use Rattle.drmaa_model.specs.Order.{next_launch, has_slots, has_slots_in, has_slots_free, has_room_in, has_turn}
+use Rattle.drmaa_model.specs.Order.{next_launch, has_slots, has_slots_in, has_slots_free, has_room_in, is_within_bound}
 use Rattle.drmaa_model.specs.OrderLaws.{IsNextLaunch, next_launch-is, ready-parts}
 use Rattle.drmaa_model.specs.Plan.{Plan}
 use Rattle.drmaa_model.specs.RowLaws.{all-implied, all-both, row_of-all, changes_with_course}
 use Rattle.drmaa_model.specs.Rows.{change_of, with_course}
 
 waits-not_running : (s : JobState) → is_waiting s ≡ true → is_state s Running ≡ false
-waits-not_running Undetermined h = refl
-waits-not_running Queued h = refl
-waits-not_running QueuedHeld h = refl
 waits-not_running Running h = absurd (cc)
-waits-not_running Suspended h = refl
-waits-not_running Requeued h = refl
-waits-not_running RequeuedHeld h = refl
-waits-not_running Done h = refl
-waits-not_running Failed h = refl
+waits-not_running _ h = refl
 
 sound-launched : (moment slots : ℕ) (row : Row) → IsSound row.wants row.course → row.wants.min ≤ slots → slots ≤ row.wants.max →
     IsSound row.wants (launched moment slots (planned_end row.wants moment) row.course)
@@ -149,7 +142,7 @@ launch-member array bound n false positive positive' low turn = omega arith
 launch-member array bound n true true positive' low turn = (let t = turn refl in omega arith)
 launch-member array bound n true false positive' low turn = omega arith
 
-launch-bound : (p : Plan) (row after r : Row) → after.wants ≡ row.wants → has_turn p.rows row ≡ true → IsBound p.rows r × IsAlike r row
+launch-bound : (p : Plan) (row after r : Row) → after.wants ≡ row.wants → is_within_bound p.rows row ≡ true → IsBound p.rows r × IsAlike r row
     → IfSome r.wants.bound (λ (bound : ℕ). IfSome r.wants.array (λ (array : ArrayId). in_array array p.rows + holds_in array after ≤ bound + holds_in array row))
 launch-bound p row after r same turn both =
     (elim r.wants.bound as (λ b. r.wants.bound ≡ b → IfSome b (λ (bound : ℕ). IfSome r.wants.array (λ (array : ArrayId). in_array array p.rows ≤ bound))

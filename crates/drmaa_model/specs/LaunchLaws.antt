@@ -77,25 +77,8 @@ run-quiet history entry quiet j c run = record {
 
 -- a reply is a launch, or hands out none
 pub launch-cases : (P : Type 0) (r : Reply) → ((l : Launch) → r ≡ reply.Launch l → P) → (((job k : ℕ) → hands_out job k r ≡ false) → P) → P
-launch-cases P (reply.Callback number) here there = there (λ j k. refl)
-launch-cases P reply.Unit here there = there (λ j k. refl)
-launch-cases P (reply.Session session) here there = there (λ j k. refl)
-launch-cases P (reply.Names names) here there = there (λ j k. refl)
-launch-cases P (reply.Job number) here there = there (λ j k. refl)
-launch-cases P (reply.Array array first count) here there = there (λ j k. refl)
-launch-cases P (reply.Jobs jobs) here there = there (λ j k. refl)
-launch-cases P (reply.State state) here there = there (λ j k. refl)
-launch-cases P (reply.Info info) here there = there (λ j k. refl)
-launch-cases P (reply.Reached number) here there = there (λ j k. refl)
-launch-cases P (reply.Reserved reserved) here there = there (λ j k. refl)
-launch-cases P (reply.Reservation info) here there = there (λ j k. refl)
-launch-cases P (reply.Reservations numbers) here there = there (λ j k. refl)
-launch-cases P (reply.Infos infos) here there = there (λ j k. refl)
-launch-cases P (reply.ReservationInfos infos) here there = there (λ j k. refl)
-launch-cases P (reply.Machine info) here there = there (λ j k. refl)
 launch-cases P (reply.Launch launch) here there = here launch refl
-launch-cases P (reply.Signal signal) here there = there (λ j k. refl)
-launch-cases P (reply.Refused why) here there = there (λ j k. refl)
+launch-cases P _ here there = there (λ j k. refl)
 
 -- ---- one step
 

@@ -1,18 +1,14 @@
 -- Laws of runs over histories: in a legal history each launch of a job is new, and a report that is accepted is of the
 -- job's last launch.
-use Rattle.std.proofs.Common.{◌≡◌, ◌≢◌, ℕ, ◌+◌, ◌<◌, ◌≤◌, Bool, true, false, cond, eqb, not, List, [], ◌∷◌, ◌++◌, Some, None, refl, sym, subst, append-nil, append_assoc}
-use Rattle.std.specs.Prelude.{is_some}
+use Rattle.std.proofs.Common.{◌≡◌, ◌≢◌, ℕ, ◌+◌, ◌<◌, ◌≤◌, true, false, eqb, not, List, [], ◌∷◌, ◌++◌, Some, None, refl, sym, subst, append-nil, append_assoc}
 use Rattle.std.specs.List.{AllByRecursion, list_any}
-use Rattle.std.specs.Option.{option_map_or}
 use Rattle.std.proofs.lemmas.Bool.{and_parts, eqb-true}
 use Rattle.drmaa_types.specs.declared.identifiers.JobId.{JobId}
-use Rattle.drmaa_types.specs.declared.refusals.Refusal.{Refusal}
 use Rattle.drmaa_types.specs.declared.states.SignalKind.{SignalKind}
 use Rattle.drmaa_model.specs.declared.calls.Call.TheVariants as call
 use Rattle.drmaa_model.specs.declared.configs.Config.{Config}
-use Rattle.drmaa_model.specs.declared.courses.Course.{Course}
 use Rattle.drmaa_model.specs.declared.courses.Phase.{Phase}
-use Rattle.drmaa_model.specs.declared.courses.Phase.TheVariants.{Idle, Launching, Alive}
+use Rattle.drmaa_model.specs.declared.courses.Phase.TheVariants.{Idle}
 use Rattle.drmaa_model.specs.declared.entries.Entry.{Entry}
 use Rattle.drmaa_model.specs.declared.replies.Launch.{Launch}
 use Rattle.drmaa_model.specs.declared.replies.Reply.TheVariants as reply
@@ -26,7 +22,7 @@ use Rattle.drmaa_model.specs.Launching.{launch_of}
 use Rattle.drmaa_model.specs.LaunchLaws.{HasRun, HasRuns, step-runs, launch-new, run-follows}
 use Rattle.drmaa_model.specs.OperationLaws.{row-sound}
 use Rattle.drmaa_model.specs.Plan.{Plan}
-use Rattle.drmaa_model.specs.ReportLaws.{told-started}
+use Rattle.drmaa_model.specs.ReportLaws.{report-finds, may_begin-busy, may_exit-busy, told-started}
 use Rattle.drmaa_model.specs.Reporting.{is_idle, is_launching, may_begin, may_exit, is_taken, may_tell, reported}
 use Rattle.drmaa_model.specs.RowLaws.{row_of-is, row_of-all}
 use Rattle.drmaa_model.specs.Rows.{row_of}
@@ -80,30 +76,6 @@ pub record IsLastLaunch (history : List Entry) (job attempt : ℕ) : Type 0 wher
   pub launched : is_launched history job attempt ≡ true
   pub last : (k : ℕ) → is_launched history job k ≡ true → k ≤ attempt
 
--- the job is kept, and the test holds of it
-pub record Finds (job : JobId) (test : Course → Bool) (p : Plan) : Type 0 where
-  pub row : Row
-  pub found : row_of job p.rows ≡ Some row
-  pub holds : test row.course ≡ true
-
-second-false : (a b : Bool) (r q : Refusal) → cond a (Some r) (cond b (Some q) None) ≡ None → b ≡ false
-second-false true b r q e = absurd (cc)
-second-false false true r q e = absurd (cc)
-second-false false false r q e = refl
-
-not-false : (b : Bool) → not b ≡ false → b ≡ true
-not-false true e = refl
-not-false false e = absurd (cc)
-
-finds : (job : JobId) (test : Plan → Course → Bool) (after : ℕ → Plan → Row → Plan) (p : Plan) → (reported test job after).refusal p ≡ None → Finds job (test p) p
-finds job test after p free =
-    let holds : option_map_or (λ (row : Row). test p row.course) (row_of job p.rows) false ≡ true =
-    not-false _ (second-false (not (is_some (row_of job p.rows))) (not (option_map_or (λ (row : Row). test p row.course) (row_of job p.rows) false)) _ _ free) in
-    (elim (row_of job p.rows) as (λ o. row_of job p.rows ≡ o → option_map_or (λ (row : Row). test p row.course) o false ≡ true → Finds job (test p) p) [
-      | None ↦ λ e h. absurd (cc)
-      | Some row ↦ λ e h. record { row = row; found = e; holds = h }
-    ]) refl holds
-
 -- a job that runs is in its last launch
 run-last : (config : Config) (history : List Entry) (at : ℕ) (job : JobId) (attempt : ℕ) → IsLegal config history
     → (row : Row) → row_of job (advance (replay config history) at).plan.rows ≡ Some row → row.course.attempt ≡ attempt → is_idle row.course.phase ≡ false → IsLastLaunch history job.0 attempt
@@ -118,35 +90,25 @@ run-last config history at job attempt legal row found same busy =
       last = λ k e. subst (λ n. k ≤ n) same (here.most k e);
     }
 
-busy-launching : (p : Phase) → is_launching p ≡ true → is_idle p ≡ false
-busy-launching Idle e = absurd (cc)
-busy-launching Launching e = refl
-busy-launching Alive e = refl
-
-not-true : (b : Bool) → not b ≡ true → b ≡ false
-not-true true e = absurd (cc)
-not-true false e = refl
-
 -- A report of a start, or that there was none, that is accepted is of the job's last launch.
 pub begin-last : (config : Config) (history : List Entry) (at : ℕ) (job : JobId) (attempt : ℕ) (after : ℕ → Plan → Row → Plan) → IsLegal config history
     → (reported (λ p. may_begin attempt) job after).refusal (advance (replay config history) at).plan ≡ None → IsLastLaunch history job.0 attempt
 begin-last config history at job attempt after legal free =
-    let f = finds job (λ p. may_begin attempt) after (advance (replay config history) at).plan free in
-    let parts = and_parts (is_launching f.row.course.phase) (eqb f.row.course.attempt attempt) f.holds in
-    run-last config history at job attempt legal f.row f.found (eqb-true f.row.course.attempt attempt parts.1) (busy-launching f.row.course.phase parts.0)
+    let f = report-finds (λ p. may_begin attempt) job after (advance (replay config history) at).plan free in
+    let same = (and_parts (is_launching f.0.course.phase) (eqb f.0.course.attempt attempt) f.2).1 in
+    run-last config history at job attempt legal f.0 f.1 (eqb-true f.0.course.attempt attempt same) (may_begin-busy attempt f.0.course f.2)
 
 -- So is a report of an end.
 pub exit-last : (config : Config) (history : List Entry) (at : ℕ) (job : JobId) (attempt : ℕ) (after : ℕ → Plan → Row → Plan) → IsLegal config history
     → (reported (λ p. may_exit attempt) job after).refusal (advance (replay config history) at).plan ≡ None → IsLastLaunch history job.0 attempt
 exit-last config history at job attempt after legal free =
-    let f = finds job (λ p. may_exit attempt) after (advance (replay config history) at).plan free in
-    let parts = and_parts (not (is_idle f.row.course.phase)) (eqb f.row.course.attempt attempt) f.holds in
-    run-last config history at job attempt legal f.row f.found (eqb-true f.row.course.attempt attempt parts.1) (not-true (is_idle f.row.course.phase) parts.0)
+    let f = report-finds (λ p. may_exit attempt) job after (advance (replay config history) at).plan free in
+    let same = (and_parts (not (is_idle f.0.course.phase)) (eqb f.0.course.attempt attempt) f.2).1 in
+    run-last config history at job attempt legal f.0 f.1 (eqb-true f.0.course.attempt attempt same) (may_exit-busy attempt f.0.course f.2)
 
 not-idle : (p : Phase) → p ≢ Idle → is_idle p ≡ false
 not-idle Idle other = absurd (other refl)
-not-idle Launching other = refl
-not-idle Alive other = refl
+not-idle _ other = refl
 
 -- So is a report of a signal, since its order is of a job that is started.
 pub tell-last : (config : Config) (history : List Entry) (at : ℕ) (job : JobId) (attempt : ℕ) (kind : SignalKind) (after : ℕ → Plan → Row → Plan) → IsLegal config history
@@ -155,8 +117,8 @@ tell-last config history at job attempt kind after legal free =
     let w = replay config history in
     let p = (advance w at).plan in
     let fit = advance-fit (w.entries + 1) at w.plan (legal-consistent config history legal).fit in
-    let f = finds job (may_tell attempt job kind) after p free in
-    let same = (and_parts (eqb f.row.course.attempt attempt) (list_any (is_taken job kind) p.orders) f.holds).0 in
-    let sound : IsSound f.row.wants f.row.course = row-sound job p f.row fit f.found in
-    let busy = (sound.started (told-started attempt job kind p f.row fit f.found f.holds)).0 in
-    run-last config history at job attempt legal f.row f.found (eqb-true f.row.course.attempt attempt same) (not-idle f.row.course.phase busy)
+    let f = report-finds (may_tell attempt job kind) job after p free in
+    let same = (and_parts (eqb f.0.course.attempt attempt) (list_any (is_taken job kind) p.orders) f.2).0 in
+    let sound : IsSound f.0.wants f.0.course = row-sound job p f.0 fit f.1 in
+    let busy = (sound.started (told-started attempt job kind p f.0 fit f.1 f.2)).0 in
+    run-last config history at job attempt legal f.0 f.1 (eqb-true f.0.course.attempt attempt same) (not-idle f.0.course.phase busy)

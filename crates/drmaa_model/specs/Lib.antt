@@ -1,3 +1,4 @@
+pub mod AfterLaws
 pub mod AnswerLaws
 pub mod BoundaryLaws
 pub mod Consistent

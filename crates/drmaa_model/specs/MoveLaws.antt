@@ -12,13 +12,13 @@ use Rattle.drmaa_model.specs.Courses.{planned_end, launched}
 use Rattle.drmaa_model.specs.Fit.{IsFit}
 use Rattle.drmaa_model.specs.Launching.{launch}
 use Rattle.drmaa_model.specs.LaunchFit.{launch-effect}
-use Rattle.drmaa_model.specs.Moving.{MovesOne, ReportMoves}
+use Rattle.drmaa_model.specs.Moving.{MovesOne, ReportMoves, job_of, course_after}
 use Rattle.drmaa_model.specs.OperationLaws.{own-job}
 use Rattle.drmaa_model.specs.Order.{next_launch}
 use Rattle.drmaa_model.specs.OrderLaws.{next_launch-is}
 use Rattle.drmaa_model.specs.Plan.{Plan}
-use Rattle.drmaa_model.specs.Reporting.{may_begin, may_exit, may_tell, start_row, unstart_row, end_row, lose_row, done_row, undone_row, reported, report_of}
-use Rattle.drmaa_model.specs.ReportLaws.{report-finds, report-effect}
+use Rattle.drmaa_model.specs.Reporting.{may_begin, may_exit, may_tell, start_row, unstart_row, end_row, lose_row, done_row, undone_row, report_of}
+use Rattle.drmaa_model.specs.ReportLaws.{report-leads}
 use Rattle.drmaa_model.specs.RowLaws.{all-implied, row_of-is, row_of-map, rising-found}
 use Rattle.drmaa_model.specs.Rows.{is_of, row_of, with_course}
 
@@ -66,45 +66,33 @@ map-same : (f : Row → Row) (rows : List Row) → AllByRecursion (λ (r : Row).
 map-same f [] all = refl
 map-same f (r ∷ rows) all = ap (λ x. x ∷ map f rows) all.0 ∙ ap (λ xs. r ∷ xs) (map-same f rows all.1)
 
-module _ (p : Plan) (job : JobId) (test : Plan → Course → Bool) (act : ℕ → Plan → Row → Plan) (entry : ℕ) where
-  -- the row that an accepted report finds, and what it leads to
-  record Acts : Type 0 where
-    row : Row
-    number : row.job ≡ job
-    found : row_of row.job p.rows ≡ Some row
-    effect : (reported test job act).effect entry p ≡ act entry p row
-
-  acts : (reported test job act).refusal p ≡ None → Acts
-  acts free =
-      let finds = report-finds test job act p free in
-      record { row = finds.0; number = same-job finds.0.job job (row_of-is job p.rows finds.0 finds.1); found = own-job job p finds.0 finds.1; effect = report-effect test job act p entry finds.0 finds.1 }
+-- the job that a report is of goes on by the course after it
+found-moves : (r : Report) (p q : Plan) (row : Row) → row_of (job_of r) p.rows ≡ Some row → q.rows ≡ map (with_course row.job (course_after p.moment r row)) p.rows
+    → q.reservations ≡ p.reservations → q.moment ≡ p.moment → ReportMoves r p q
+found-moves r p q row found rows reservations moment = record {
+  row = row;
+  number = same-job row.job (job_of r) (row_of-is (job_of r) p.rows row found);
+  moves = record { found = own-job (job_of r) p row found; rows = rows; reservations = reservations; moment = moment };
+}
 
 -- an accepted report moves the job that it is of
 pub report-moves : (r : Report) (entry : ℕ) (p : Plan) → IsFit p → (report_of r).refusal p ≡ None → ReportMoves r p ((report_of r).effect entry p)
 report-moves (report.Started job attempt) entry p fit free =
-    let a = acts p job (λ q. may_begin attempt) start_row entry free in
-    record { row = a.row; number = a.number; moves = record { found = a.found; rows = ap (λ (q : Plan). q.rows) a.effect; reservations = ap (λ (q : Plan). q.reservations) a.effect; moment = ap (λ (q : Plan). q.moment) a.effect } }
+    report-leads (ReportMoves (report.Started job attempt) p) (λ q. may_begin attempt) job start_row entry p
+    (λ row found may. found-moves (report.Started job attempt) p (start_row entry p row) row found refl refl refl) free
 report-moves (report.StartFailed job attempt) entry p fit free =
-    let a = acts p job (λ q. may_begin attempt) unstart_row entry free in
-    record { row = a.row; number = a.number; moves = record { found = a.found; rows = ap (λ (q : Plan). q.rows) a.effect; reservations = ap (λ (q : Plan). q.reservations) a.effect; moment = ap (λ (q : Plan). q.moment) a.effect } }
+    report-leads (ReportMoves (report.StartFailed job attempt) p) (λ q. may_begin attempt) job unstart_row entry p
+    (λ row found may. found-moves (report.StartFailed job attempt) p (unstart_row entry p row) row found refl refl refl) free
 report-moves (report.Exited job attempt exit) entry p fit free =
-    let a = acts p job (λ q. may_exit attempt) (end_row exit) entry free in
-    record { row = a.row; number = a.number; moves = record { found = a.found; rows = ap (λ (q : Plan). q.rows) a.effect; reservations = ap (λ (q : Plan). q.reservations) a.effect; moment = ap (λ (q : Plan). q.moment) a.effect } }
+    report-leads (ReportMoves (report.Exited job attempt exit) p) (λ q. may_exit attempt) job (end_row exit) entry p
+    (λ row found may. found-moves (report.Exited job attempt exit) p (end_row exit entry p row) row found refl refl refl) free
 report-moves (report.ExitUnknown job attempt) entry p fit free =
-    let a = acts p job (λ q. may_exit attempt) lose_row entry free in
-    record { row = a.row; number = a.number; moves = record { found = a.found; rows = ap (λ (q : Plan). q.rows) a.effect; reservations = ap (λ (q : Plan). q.reservations) a.effect; moment = ap (λ (q : Plan). q.moment) a.effect } }
+    report-leads (ReportMoves (report.ExitUnknown job attempt) p) (λ q. may_exit attempt) job lose_row entry p
+    (λ row found may. found-moves (report.ExitUnknown job attempt) p (lose_row entry p row) row found refl refl refl) free
 report-moves (report.SignalDone job attempt kind) entry p fit free =
-    let a = acts p job (may_tell attempt job kind) (done_row kind) entry free in
-    record {
-      row = a.row;
-      number = a.number;
-      moves = record {
-        found = a.found;
-        rows = ap (λ (q : Plan). q.rows) a.effect ∙ sym (map-same (with_course a.row.job a.row.course) p.rows (with_own p.rows a.row (rising-found p.rows fit.jobs.rising) a.found));
-        reservations = ap (λ (q : Plan). q.reservations) a.effect;
-        moment = ap (λ (q : Plan). q.moment) a.effect;
-      };
-    }
+    report-leads (ReportMoves (report.SignalDone job attempt kind) p) (may_tell attempt job kind) job (done_row kind) entry p
+    (λ row found may. found-moves (report.SignalDone job attempt kind) p (done_row kind entry p row) row found
+    (sym (map-same (with_course row.job row.course) p.rows (with_own p.rows row (rising-found p.rows fit.jobs.rising) (own-job job p row found)))) refl refl) free
 report-moves (report.SignalFailed job attempt kind) entry p fit free =
-    let a = acts p job (may_tell attempt job kind) (undone_row kind) entry free in
-    record { row = a.row; number = a.number; moves = record { found = a.found; rows = ap (λ (q : Plan). q.rows) a.effect; reservations = ap (λ (q : Plan). q.reservations) a.effect; moment = ap (λ (q : Plan). q.moment) a.effect } }
+    report-leads (ReportMoves (report.SignalFailed job attempt kind) p) (may_tell attempt job kind) job (undone_row kind) entry p
+    (λ row found may. found-moves (report.SignalFailed job attempt kind) p (undone_row kind entry p row) row found refl refl refl) free

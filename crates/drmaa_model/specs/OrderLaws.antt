@@ -3,13 +3,13 @@ use Rattle.std.proofs.Common.{◌≡◌, ℕ, zero, suc, ◌+◌, ◌-◌, ◌<�
 use Rattle.std.specs.Prelude.{int_lt, IsTrue, ℤ, pos, negsuc}
 use Rattle.std.specs.List.{AllByRecursion}
 use Rattle.std.specs.Option.{option_map, option_map_or}
-use Rattle.std.proofs.lemmas.Bool.{and_parts, and_from, eqb-true, eqb-false, leb-true, ltb-true, ltb-false, le-leb, false≢true}
+use Rattle.std.proofs.lemmas.Bool.{and_parts, and_from, eqb-true, eqb-false, leb-true, ltb-true, ltb-false, le-leb, not-true, false≢true}
 use Rattle.drmaa_types.specs.States.{is_started, is_waiting, may}
 use Rattle.drmaa_types.specs.declared.states.JobState.{JobState}
-use Rattle.drmaa_types.specs.declared.states.JobState.TheVariants.{Undetermined, Queued, QueuedHeld, Running, Suspended, Requeued, RequeuedHeld, Done, Failed}
+use Rattle.drmaa_types.specs.declared.states.JobState.TheVariants.{Queued, Running, Requeued}
 use Rattle.drmaa_model.specs.declared.rows.Row.{Row}
 use Rattle.drmaa_model.specs.Fit.{IsRising, IsSound, IsFit, number_of}
-use Rattle.drmaa_model.specs.Order.{held, is_queued, is_reached, has_turn, has_slots, may_come, is_ready, IsReady, better, stands_before, first_in_order, greatest_from, slots_for, next_launch}
+use Rattle.drmaa_model.specs.Order.{held, is_queued, is_reached, is_within_bound, has_slots, may_come, is_ready, IsReady, better, stands_before, first_in_order, greatest_from, slots_for, next_launch}
 use Rattle.drmaa_model.specs.Rows.{row_of}
 use Rattle.drmaa_model.specs.RowLaws.{all-filter, all-passes, all-both, all-implied, row_of-all, rising-found}
 use Rattle.drmaa_model.specs.Plan.{Plan}
@@ -73,28 +73,22 @@ pub record MayLaunch (s : JobState) : Type 0 where
   pub edge : may s Running ≡ true
 
 pub queued-may_launch : (s : JobState) → is_queued s ≡ true → MayLaunch s
-queued-may_launch Undetermined h = absurd (cc)
 queued-may_launch Queued h = record { idle = refl; waits = refl; edge = refl }
-queued-may_launch QueuedHeld h = absurd (cc)
-queued-may_launch Running h = absurd (cc)
-queued-may_launch Suspended h = absurd (cc)
 queued-may_launch Requeued h = record { idle = refl; waits = refl; edge = refl }
-queued-may_launch RequeuedHeld h = absurd (cc)
-queued-may_launch Done h = absurd (cc)
-queued-may_launch Failed h = absurd (cc)
+queued-may_launch _ h = absurd (cc)
 
 -- what readiness says of the slots and of the state
 pub record ReadyParts (w : Plan) (slots : ℕ) (row : Row) : Type 0 where
   pub queued : is_queued row.course.state ≡ true
   pub reached : is_reached w.moment row.wants.start ≡ true
-  pub turn : has_turn w.rows row ≡ true
+  pub turn : is_within_bound w.rows row ≡ true
   pub free : held w.rows + slots ≤ w.total
   pub has : has_slots w slots row ≡ true
 
 pub ready-parts : (w : Plan) (slots : ℕ) (row : Row) → is_ready w slots row ≡ true → ReadyParts w slots row
 ready-parts w slots row ready =
     let a = and_parts (may_come w row) (leb (held w.rows + slots) w.total && has_slots w slots row) ready in
-    let b = and_parts (is_queued row.course.state && is_reached w.moment row.wants.start) (has_turn w.rows row) a.0 in
+    let b = and_parts (is_queued row.course.state && is_reached w.moment row.wants.start) (is_within_bound w.rows row) a.0 in
     let c = and_parts (is_queued row.course.state) (is_reached w.moment row.wants.start) b.0 in
     let d = and_parts (leb (held w.rows + slots) w.total) (has_slots w slots row) a.1 in
     record { queued = c.0; reached = c.1; turn = b.1; free = leb-true (held w.rows + slots) w.total d.0; has = d.1 }
@@ -166,10 +160,6 @@ int_lt-other (pos a) (pos b) h = (let p = ltb-true a b h in ge-ltb b a (omega ar
 int_lt-other (pos a) (negsuc b) h = absurd (false≢true h)
 int_lt-other (negsuc a) (pos b) h = refl
 int_lt-other (negsuc a) (negsuc b) h = (let p = ltb-true b a h in ge-ltb a b (omega arith))
-
-not-true : (b : Bool) → not b ≡ true → b ≡ false
-not-true true h = absurd (cc)
-not-true false h = refl
 
 first_in_order-none : (rows : List Row) → first_in_order rows ≡ None → rows ≡ []
 first_in_order-none [] is = refl

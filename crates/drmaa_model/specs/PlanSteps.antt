@@ -21,7 +21,7 @@ use Rattle.drmaa_types.specs.declared.refusals.Limit.TheVariants as resource
 use Rattle.drmaa_types.specs.declared.states.Control.{Control}
 use Rattle.drmaa_types.specs.declared.states.Control.TheVariants.{Suspend, Resume, Hold, Release, Terminate}
 use Rattle.drmaa_types.specs.declared.states.JobState.{JobState}
-use Rattle.drmaa_types.specs.declared.states.JobState.TheVariants.{Undetermined, Queued, QueuedHeld, Running, Suspended, Requeued, RequeuedHeld, Done, Failed}
+use Rattle.drmaa_types.specs.declared.states.JobState.TheVariants.{Undetermined, Queued, QueuedHeld, Running, Suspended, Requeued, RequeuedHeld, Failed}
 use Rattle.drmaa_types.specs.declared.states.Note.TheVariants as note
 use Rattle.drmaa_model.specs.declared.calls.Indices.{Indices}
 use Rattle.drmaa_model.specs.declared.calls.Report.{Report}
@@ -43,8 +43,8 @@ use Rattle.drmaa_model.specs.Order.{next_launch}
 use Rattle.drmaa_model.specs.OrderLaws.{next_launch-is}
 use Rattle.drmaa_model.specs.OperationLaws.{refusal-append, no_test, own-job, row-sound}
 use Rattle.drmaa_model.specs.Plan.{Plan}
-use Rattle.drmaa_model.specs.Reporting.{is_idle, may_begin, may_exit, may_tell, is_taken, orders_without, drop_first, start_row, over_row, unstart_row, end_row, lose_row, done_row, undone_row, reported, report_of}
-use Rattle.drmaa_model.specs.ReportLaws.{IsOver, Stops, failed-marks, unstarted-stops, exited-stops, lost-stops, report-finds, report-effect, not_idle-started, may_begin-busy, may_exit-busy}
+use Rattle.drmaa_model.specs.Reporting.{is_idle, may_begin, may_exit, may_tell, is_taken, orders_without, drop_first, start_row, over_row, unstart_row, end_row, lose_row, done_row, undone_row, report_of}
+use Rattle.drmaa_model.specs.ReportLaws.{IsOver, Stops, failed-marks, unstarted-stops, exited-stops, lost-stops, report-leads, not_idle-started, may_begin-busy, may_exit-busy}
 use Rattle.drmaa_model.specs.Requests.{most_reservations, denied_at, start_in, accepted_at, chosen_start, request, without_reservation, is_other, end_reservation}
 use Rattle.drmaa_model.specs.Rows.{is_of, row_of, change_of, change_rows, with_course, go_on}
 use Rattle.drmaa_model.specs.RowLaws.{all-each, all-both, all-implied, is_state-same, rising-found}
@@ -97,15 +97,11 @@ rows-edges entry p f rising goes = record {
 }
 
 waits-edge : (s : JobState) → is_waiting s ≡ true → may s Failed ≡ true
-waits-edge Undetermined h = absurd (cc)
 waits-edge Queued h = refl
 waits-edge QueuedHeld h = refl
-waits-edge Running h = absurd (cc)
-waits-edge Suspended h = absurd (cc)
 waits-edge Requeued h = refl
 waits-edge RequeuedHeld h = refl
-waits-edge Done h = absurd (cc)
-waits-edge Failed h = absurd (cc)
+waits-edge _ h = absurd (cc)
 
 goes-lapsed : (moment : ℕ) (rs : List Accepted) (r : Row) → Goes r (lapsed moment rs r)
 goes-lapsed moment rs r = lapsed-cases Goes moment rs r (λ h. goes-same r r refl) (λ h waits n. record { edge = λ e. waits-edge r.course.state waits })
@@ -144,15 +140,9 @@ goes-course job rows row next found goes r own =
     ]) refl
 
 over-edge : (s t : JobState) (asked : Bool) → is_started s ≡ true → IsOver t asked → may s t ≡ true
-over-edge Undetermined t asked started over = absurd (cc)
-over-edge Queued t asked started over = absurd (cc)
-over-edge QueuedHeld t asked started over = absurd (cc)
 over-edge Running t asked started over = over.running
 over-edge Suspended t asked started over = over.suspended
-over-edge Requeued t asked started over = absurd (cc)
-over-edge RequeuedHeld t asked started over = absurd (cc)
-over-edge Done t asked started over = absurd (cc)
-over-edge Failed t asked started over = absurd (cc)
+over-edge _ t asked started over = absurd (cc)
 
 -- ---- how many are kept
 
@@ -263,25 +253,18 @@ over-step entry p job row next fit found busy stops =
     go_on-step entry p job row next (orders_without row.job p.orders) fit found
     (record { edge = λ e. over-edge row.course.state next.state (is_asked row.course.kill) (started-row job p row fit found busy) stops.over })
 
-reported-step : (test : Plan → Course → Bool) (job : JobId) (effect : ℕ → Plan → Row → Plan) (entry : ℕ) (p : Plan)
-    → ((row : Row) → row_of job p.rows ≡ Some row → test p row.course ≡ true → PlanStep entry p (effect entry p row))
-    → (reported test job effect).refusal p ≡ None → PlanStep entry p ((reported test job effect).effect entry p)
-reported-step test job effect entry p steps free =
-    let finds = report-finds test job effect p free in
-    subst (PlanStep entry p) (sym (report-effect test job effect p entry finds.0 finds.1)) (steps finds.0 finds.1 finds.2)
-
 pub report-step : (r : Report) (entry : ℕ) (p : Plan) → IsFit p → (report_of r).refusal p ≡ None → PlanStep entry p ((report_of r).effect entry p)
-report-step (report.Started job attempt) entry p fit free = reported-step (λ p. may_begin attempt) job start_row entry p
+report-step (report.Started job attempt) entry p fit free = report-leads (PlanStep entry p) (λ p. may_begin attempt) job start_row entry p
     (λ row found may. go_on-step entry p job row (begun row.course) p.orders fit found (goes-same row (record row { course = begun row.course }) refl)) free
-report-step (report.StartFailed job attempt) entry p fit free = reported-step (λ p. may_begin attempt) job unstart_row entry p
+report-step (report.StartFailed job attempt) entry p fit free = report-leads (PlanStep entry p) (λ p. may_begin attempt) job unstart_row entry p
     (λ row found may. over-step entry p job row (unstarted p.moment row.wants.rerunnable row.course) fit found (may_begin-busy attempt row.course may) (unstarted-stops p.moment row.wants.rerunnable row.course)) free
-report-step (report.Exited job attempt exit) entry p fit free = reported-step (λ p. may_exit attempt) job (end_row exit) entry p
+report-step (report.Exited job attempt exit) entry p fit free = report-leads (PlanStep entry p) (λ p. may_exit attempt) job (end_row exit) entry p
     (λ row found may. over-step entry p job row (exited p.moment exit row.wants.rerunnable row.course) fit found (may_exit-busy attempt row.course may) (exited-stops p.moment exit row.wants.rerunnable row.course)) free
-report-step (report.ExitUnknown job attempt) entry p fit free = reported-step (λ p. may_exit attempt) job lose_row entry p
+report-step (report.ExitUnknown job attempt) entry p fit free = report-leads (PlanStep entry p) (λ p. may_exit attempt) job lose_row entry p
     (λ row found may. over-step entry p job row (lost p.moment row.wants.rerunnable row.course) fit found (may_exit-busy attempt row.course may) (lost-stops p.moment row.wants.rerunnable row.course)) free
-report-step (report.SignalDone job attempt k) entry p fit free = reported-step (may_tell attempt job k) job (done_row k) entry p
+report-step (report.SignalDone job attempt k) entry p fit free = report-leads (PlanStep entry p) (may_tell attempt job k) job (done_row k) entry p
     (λ row found may. orders-step entry p (drop_first (is_taken row.job k) p.orders)) free
-report-step (report.SignalFailed job attempt k) entry p fit free = reported-step (may_tell attempt job k) job (undone_row k) entry p
+report-step (report.SignalFailed job attempt k) entry p fit free = report-leads (PlanStep entry p) (may_tell attempt job k) job (undone_row k) entry p
     (λ row found may. go_on-step entry p job row (signal_failed k row.course) (drop_first (is_taken row.job k) p.orders) fit found
     (goes-same row (record row { course = signal_failed k row.course }) (failed-marks k row.course).state)) free
 

@@ -73,15 +73,19 @@ module _ (test : Plan → Course → Bool) (job : JobId) (effect : ℕ → Plan 
             ]) refl h
       ]) refl free
 
+-- what is true of the plan after a report's row has gone on is true of it after a report that is not refused
+pub report-leads : (Q : Plan → Type 0) (test : Plan → Course → Bool) (job : JobId) (effect : ℕ → Plan → Row → Plan) (entry : ℕ) (p : Plan)
+    → ((row : Row) → row_of job p.rows ≡ Some row → test p row.course ≡ true → Q (effect entry p row))
+    → (reported test job effect).refusal p ≡ None → Q ((reported test job effect).effect entry p)
+report-leads Q test job effect entry p leads free =
+    let finds = report-finds test job effect p free in
+    subst Q (sym (report-effect test job effect p entry finds.0 finds.1)) (leads finds.0 finds.1 finds.2)
+
 -- a report keeps a plan fit where it does so at its row
 reported-keeps : (test : Plan → Course → Bool) (job : JobId) (effect : ℕ → Plan → Row → Plan)
     → ((entry : ℕ) (p : Plan) (row : Row) → IsFit p → row_of job p.rows ≡ Some row → test p row.course ≡ true → IsFit (effect entry p row))
     → KeepsFit (reported test job effect)
-reported-keeps test job effect keeps = record {
-  keeps = λ entry p fit free.
-      (let finds = report-finds test job effect p free in
-      subst IsFit (sym (report-effect test job effect p entry finds.0 finds.1)) (keeps entry p finds.0 fit finds.1 finds.2));
-}
+reported-keeps test job effect keeps = record { keeps = λ entry p fit free. report-leads IsFit test job effect entry p (λ row. keeps entry p row fit) free }
 
 -- ---- whose process is there
 

@@ -1,10 +1,9 @@
 -- Each step of the machine leads to a world that rests.
-use Rattle.std.proofs.Common.{◌≡◌, ℕ, ◌+◌, ◌≤◌, length, Bool, true, false, cond, eqb, leb, ltb, not, ◌&&◌, ◌||◌, inl, inr, List, [], ◌∷◌, ◌++◌, map, filter, Option, Some, None, refl, sym, ◌∙◌, ap, subst, arith}
+use Rattle.std.proofs.Common.{◌≡◌, ℕ, ◌+◌, ◌≤◌, length, Bool, true, false, cond, eqb, leb, ltb, not, ◌&&◌, ◌||◌, inl, inr, List, [], ◌∷◌, ◌++◌, map, filter, Option, Some, None, refl, ◌∙◌, ap, arith}
 use Rattle.std.specs.Prelude.{find, is_some}
 use Rattle.std.specs.List.{AllByRecursion}
-use Rattle.std.specs.Option.{option_map, option_map_or}
+use Rattle.std.specs.Option.{option_map_or}
 use Rattle.std.proofs.lemmas.Bool.{and_parts, and_cases, and_left, and_right, or_parts, or_from, lt-ltb, not-false, not_from_true}
-use Rattle.session_table.specs.Sessions.{destroyed, home_of}
 use Rattle.job_template.specs.declared.templates.JobTemplate.{JobTemplate}
 use Rattle.job_template.specs.declared.templates.ReservationTemplate.{ReservationTemplate}
 use Rattle.job_template.specs.Expand.{expanded}
@@ -17,15 +16,12 @@ use Rattle.drmaa_types.specs.declared.identifiers.ReservationId.{ReservationId}
 use Rattle.drmaa_types.specs.declared.identifiers.JobId.{JobId}
 use Rattle.drmaa_types.specs.declared.queues.QueueSpec.{QueueSpec}
 use Rattle.drmaa_types.specs.declared.refusals.Refusal.{Refusal}
-use Rattle.drmaa_types.specs.declared.refusals.Refusal.TheVariants.{DeniedByDrms, InvalidArgument, OutOfResource, Timeout}
+use Rattle.drmaa_types.specs.declared.refusals.Refusal.TheVariants.{DeniedByDrms, InvalidArgument, OutOfResource}
 use Rattle.drmaa_types.specs.declared.refusals.Limit.TheVariants as resource
 use Rattle.drmaa_types.specs.declared.refusals.Which.TheVariants as which
-use Rattle.drmaa_types.specs.declared.sessions.SessionKind.{SessionKind}
-use Rattle.drmaa_types.specs.declared.sessions.SessionKind.TheVariants.{Jobs, Reservations}
 use Rattle.drmaa_types.specs.declared.states.Control.{Control}
 use Rattle.drmaa_types.specs.declared.states.SignalKind.{SignalKind}
 use Rattle.drmaa_model.specs.declared.calls.Call.{Call}
-use Rattle.drmaa_model.specs.declared.calls.Call.TheVariants as call
 use Rattle.drmaa_model.specs.declared.calls.Indices.{Indices}
 use Rattle.drmaa_model.specs.declared.calls.Report.{Report}
 use Rattle.drmaa_model.specs.declared.calls.Report.TheVariants as report
@@ -33,42 +29,36 @@ use Rattle.drmaa_model.specs.declared.calls.Target.{Target}
 use Rattle.drmaa_model.specs.declared.configs.Config.{Config}
 use Rattle.drmaa_model.specs.declared.courses.Course.{Course}
 use Rattle.drmaa_model.specs.declared.entries.Entry.{Entry}
-use Rattle.drmaa_model.specs.declared.replies.Reply.{Reply}
-use Rattle.drmaa_model.specs.declared.replies.Reply.TheVariants as reply
 use Rattle.drmaa_model.specs.declared.reservations.Accepted.{Accepted}
 use Rattle.drmaa_model.specs.declared.rows.Row.{Row}
-use Rattle.drmaa_model.specs.AnswerLaws.{answer-cases}
+use Rattle.drmaa_model.specs.AfterLaws.{HoldsAfter, answer-leads}
 use Rattle.drmaa_model.specs.Consistent.{IsConsistent}
 use Rattle.drmaa_model.specs.Controlling.{control_step, control, is_done}
 use Rattle.drmaa_model.specs.Courses.{is_unasked, planned_end, launched, begun, unstarted, exited, lost, signal_failed, submitted_course}
-use Rattle.drmaa_model.specs.Effects.{StepAnswer, gives, nothing, not_yet, makes, left_by, is_forgotten, forget_home, destroy, effect, wait_answer}
+use Rattle.drmaa_model.specs.Effects.{left_by, is_forgotten, forget_home}
 use Rattle.drmaa_model.specs.Fit.{IsFit}
 use Rattle.drmaa_model.specs.FitLaws.{all-append}
 use Rattle.drmaa_model.specs.FrameLaws.{frame-is}
 use Rattle.drmaa_model.specs.History.{replay, IsLegal}
 use Rattle.drmaa_model.specs.HistoryLaws.{legal-keeps}
-use Rattle.drmaa_model.specs.Homes.{session_test, home_number}
-use Rattle.drmaa_model.specs.Launching.{launch_of, launch_row, signal, next_signal, signal_of}
+use Rattle.drmaa_model.specs.Launching.{launch_row}
 use Rattle.drmaa_model.specs.OperationLaws.{no_test, refusal-append, own-job, row-sound}
-use Rattle.drmaa_model.specs.Order.{next_launch}
 use Rattle.drmaa_model.specs.OrderLaws.{IsNextLaunch, next_launch-is}
 use Rattle.drmaa_model.specs.Plan.{Plan}
-use Rattle.drmaa_model.specs.Refusals.{refusal}
-use Rattle.drmaa_model.specs.Reporting.{may_begin, may_exit, may_tell, start_row, over_row, unstart_row, end_row, lose_row, done_row, undone_row, reported, report_of}
-use Rattle.drmaa_model.specs.ReportLaws.{Stops, report-finds, report-effect, not_idle-started, may_begin-busy, may_exit-busy, unstarted-stops, exited-stops, lost-stops}
+use Rattle.drmaa_model.specs.Reporting.{may_begin, may_exit, may_tell, start_row, over_row, unstart_row, end_row, lose_row, done_row, undone_row, report_of}
+use Rattle.drmaa_model.specs.ReportLaws.{Stops, report-leads, not_idle-started, may_begin-busy, may_exit-busy, unstarted-stops, exited-stops, lost-stops}
 use Rattle.drmaa_model.specs.Requests.{most_reservations, start_in, denied_at, accepted_at, chosen_start, request, request_tests, is_other, end_reservation}
 use Rattle.drmaa_model.specs.RequestLaws.{start-is, request-start}
 use Rattle.drmaa_model.specs.Resting.{Rests, IsCapped, IsResting}
 use Rattle.drmaa_model.specs.RestLaws.{GoesOnResting, runs-free, launched-resting, stopped-resting, marked-resting, control-resting, both-of, resting-from, all-timed, advance-rests, resting-still}
 use Rattle.drmaa_model.specs.RowLaws.{all-each, all-implied, all-map, all-filter, all-push, row_of-all, all_with_course}
 use Rattle.drmaa_model.specs.Rows.{row_of, go_on}
-use Rattle.drmaa_model.specs.Steps.{answer_now, answer, IsStep}
+use Rattle.drmaa_model.specs.Steps.{IsStep}
 use Rattle.drmaa_model.specs.StepLaws.{advance-consistent, opening-consistent, step-consistent}
 use Rattle.drmaa_model.specs.Submitting.{Member, members, membership, indices_of, new_row, new_rows, submit, submit_tests}
 use Rattle.drmaa_model.specs.SubmitLaws.{MaySubmit, may-submit}
 use Rattle.drmaa_model.specs.Targets.{is_meant}
 use Rattle.drmaa_model.specs.Time.{lasts, is_late, is_over, is_accepted, is_stranded, is_due, advance_plan, advance}
-use Rattle.drmaa_model.specs.Waiting.{first_reached, is_timed_out}
 use Rattle.drmaa_model.specs.World.{World}
 
 -- ---- one job goes on
@@ -108,32 +98,26 @@ undone-resting job k entry p row fit rests found =
     let moved = goes-resting entry p row (signal_failed k row.course) fit (own-job job p row found) rests (marked-resting p row k (row-rests p job row rests found) (row-capped p job row rests found)) in
     record { rows = moved.rows; lasting = moved.lasting; capped = moved.capped }
 
-report-resting : (test : Plan → Course → Bool) (job : JobId) (act : ℕ → Plan → Row → Plan) (entry : ℕ) (p : Plan)
-    → ((row : Row) → row_of job p.rows ≡ Some row → test p row.course ≡ true → IsResting (act entry p row)) → (reported test job act).refusal p ≡ None → IsResting ((reported test job act).effect entry p)
-report-resting test job act entry p keeps free =
-    let finds = report-finds test job act p free in
-    subst IsResting (sym (report-effect test job act p entry finds.0 finds.1)) (keeps finds.0 finds.1 finds.2)
-
 busy-started : (p : Plan) (job : JobId) (row : Row) (attempt : ℕ) → IsFit p → row_of job p.rows ≡ Some row → may_exit attempt row.course ≡ true → is_started row.course.state ≡ true
 busy-started p job row attempt fit found may = not_idle-started row.wants row.course (row-sound job p row fit found) (may_exit-busy attempt row.course may)
 
 reports-rest : (r : Report) (entry : ℕ) (p : Plan) → IsFit p → IsResting p → (report_of r).refusal p ≡ None → IsResting ((report_of r).effect entry p)
 reports-rest (report.Started job attempt) entry p fit rests free =
-    report-resting (λ q. may_begin attempt) job start_row entry p (λ row found may. start-resting job entry p row fit rests found) free
+    report-leads IsResting (λ q. may_begin attempt) job start_row entry p (λ row found may. start-resting job entry p row fit rests found) free
 reports-rest (report.StartFailed job attempt) entry p fit rests free =
-    report-resting (λ q. may_begin attempt) job unstart_row entry p
+    report-leads IsResting (λ q. may_begin attempt) job unstart_row entry p
     (λ row found may. over-resting job entry p row (unstarted p.moment row.wants.rerunnable row.course) fit rests found
     (not_idle-started row.wants row.course (row-sound job p row fit found) (may_begin-busy attempt row.course may)) (unstarted-stops p.moment row.wants.rerunnable row.course)) free
 reports-rest (report.Exited job attempt exit) entry p fit rests free =
-    report-resting (λ q. may_exit attempt) job (end_row exit) entry p
+    report-leads IsResting (λ q. may_exit attempt) job (end_row exit) entry p
     (λ row found may. over-resting job entry p row (exited p.moment exit row.wants.rerunnable row.course) fit rests found (busy-started p job row attempt fit found may) (exited-stops p.moment exit row.wants.rerunnable row.course)) free
 reports-rest (report.ExitUnknown job attempt) entry p fit rests free =
-    report-resting (λ q. may_exit attempt) job lose_row entry p
+    report-leads IsResting (λ q. may_exit attempt) job lose_row entry p
     (λ row found may. over-resting job entry p row (lost p.moment row.wants.rerunnable row.course) fit rests found (busy-started p job row attempt fit found may) (lost-stops p.moment row.wants.rerunnable row.course)) free
 reports-rest (report.SignalDone job attempt kind) entry p fit rests free =
-    report-resting (may_tell attempt job kind) job (done_row kind) entry p (λ row found may. record { rows = rests.rows; lasting = rests.lasting; capped = rests.capped }) free
+    report-leads IsResting (may_tell attempt job kind) job (done_row kind) entry p (λ row found may. record { rows = rests.rows; lasting = rests.lasting; capped = rests.capped }) free
 reports-rest (report.SignalFailed job attempt kind) entry p fit rests free =
-    report-resting (may_tell attempt job kind) job (undone_row kind) entry p (λ row found may. undone-resting job kind entry p row fit rests found) free
+    report-leads IsResting (may_tell attempt job kind) job (undone_row kind) entry p (λ row found may. undone-resting job kind entry p row fit rests found) free
 
 -- ---- control calls, and what is forgotten
 
@@ -298,96 +282,26 @@ ends-rest number entry p rests =
 
 -- ---- steps
 
--- what is true of an answer: where it makes an entry, the world that it leads to rests
-LeadsToRest : StepAnswer → Type 0
-LeadsToRest (gives r next) = IsResting next.plan
-LeadsToRest nothing = Unit {0}
-LeadsToRest not_yet = Unit {0}
-
-module _ (v : World) (ok : IsConsistent v) (rests : IsResting v.plan) where
-  -- the plan has other orders, or none of its parts changes
-  destroy-rests : (kind : SessionKind) (name : List ℕ) → IsResting (destroy kind name v).plan
-  destroy-rests kind name =
-      elim (home_of kind name v.sessions.named) as (λ o. IsResting (option_map_or (λ (home : ℕ). record v { sessions = destroyed home v.sessions; plan = forget_home home v.plan }) o v).plan) [
-        | None ↦ rests
-        | Some home ↦ forget-rests home v.plan rests
-      ]
-
-  launches-rest : LeadsToRest (effect 0 v call.TakeLaunch)
-  unfolding LeadsToRest
-  launches-rest =
-      (elim (next_launch v.plan) as (λ o. next_launch v.plan ≡ o →
-      LeadsToRest (option_map_or (λ told. makes (reply.Launch told) (record v { plan = option_map_or (λ (n : Row × ℕ). launch_row (v.entries + 1) n.0 n.1 v.plan) o v.plan })) (option_map (λ (n : Row × ℕ). launch_of n.0 n.1) o) nothing)) [
-        | None ↦ λ is. tt
-        | Some next ↦ λ is. launch-resting (v.entries + 1) v.plan next.0 next.1 ok.fit (next_launch-is v.plan next ok.fit.jobs.rising is) rests
-      ]) refl
-
-  signals-rest : LeadsToRest (effect 0 v call.TakeSignal)
-  unfolding LeadsToRest
-  signals-rest =
-      elim (next_signal v.plan) as (λ o. LeadsToRest (option_map_or (λ told. makes (reply.Signal told) (record v { plan = signal.effect (v.entries + 1) v.plan })) (option_map (signal_of v.plan) o) nothing)) [
-        | None ↦ tt
-        | Some order ↦ record { rows = rests.rows; lasting = rests.lasting; capped = rests.capped }
-      ]
-
-  waits-rest : (o : Option ℕ) (over : Bool) → LeadsToRest (wait_answer o over v)
-  unfolding LeadsToRest
-  waits-rest None over = elim over as (λ b. LeadsToRest (cond b (makes (reply.Refused Timeout) v) not_yet)) [ true ↦ rests | false ↦ tt ]
-  waits-rest (Some job) over = rests
-
-  served : (at : ℕ) (c : Call) → refusal v c ≡ None → LeadsToRest (effect at v c)
-  unfolding LeadsToRest
-  served at (call.CreateJobSession name) free = rests
-  served at (call.CreateReservationSession name) free = rests
-  served at (call.OpenJobSession name) free = rests
-  served at (call.OpenReservationSession name) free = rests
-  served at (call.DestroyJobSession name) free = destroy-rests Jobs name
-  served at (call.DestroyReservationSession name) free = destroy-rests Reservations name
-  served at call.JobSessionNames free = rests
-  served at call.ReservationSessionNames free = rests
-  served at call.OpenMonitoring free = rests
-  served at (call.CloseSession session) free = rests
-  served at (call.RunJob session t) free = submits-rest (home_number session v) t None (v.entries + 1) v.plan rests (no_test (session_test (Jobs ∷ []) session v) (submit_tests t None v.plan) free).1
-  served at (call.RunBulk session t indices) free = submits-rest (home_number session v) t (Some indices) (v.entries + 1) v.plan rests (no_test (session_test (Jobs ∷ []) session v) (submit_tests t (Some indices) v.plan) free).1
-  served at (call.GetJobs session f) free = rests
-  served at (call.GetJobArray session array) free = rests
-  served at (call.Control session meant what) free = controls-rest meant what (v.entries + 1) v.plan rests
-  served at (call.Reap session meant) free = fewer-rest (λ (row : Row). not (is_meant meant row && is_done row)) v.plan rests
-  served at (call.GetState session job) free = rests
-  served at (call.GetInfo session job) free = rests
-  served at (call.Wait session jobs kind begun timeout) free = waits-rest (first_reached kind v.plan.rows jobs) (is_timed_out at begun timeout)
-  served at (call.RequestReservation session t) free = requests-rest (home_number session v) t (v.entries + 1) v.plan rests (no_test (session_test (Reservations ∷ []) session v) (request_tests t v.plan) free).1
-  served at (call.GetReservation session number) free = rests
-  served at (call.GetReservations session) free = rests
-  served at (call.EndReservation session number) free = ends-rest number (v.entries + 1) v.plan rests
-  served at (call.AllJobs session f) free = rests
-  served at (call.AllReservations session) free = rests
-  served at (call.AllQueues session) free = rests
-  served at (call.AllMachines session) free = rests
-  served at call.Register free = rests
-  served at call.TakeLaunch free = launches-rest
-  served at (call.Started job attempt) free = reports-rest (report.Started job attempt) (v.entries + 1) v.plan ok.fit rests free
-  served at (call.StartFailed job attempt) free = reports-rest (report.StartFailed job attempt) (v.entries + 1) v.plan ok.fit rests free
-  served at (call.Exited job attempt exit) free = reports-rest (report.Exited job attempt exit) (v.entries + 1) v.plan ok.fit rests free
-  served at (call.ExitUnknown job attempt) free = reports-rest (report.ExitUnknown job attempt) (v.entries + 1) v.plan ok.fit rests free
-  served at call.TakeSignal free = signals-rest
-  served at (call.SignalDone job attempt kind) free = reports-rest (report.SignalDone job attempt kind) (v.entries + 1) v.plan ok.fit rests free
-  served at (call.SignalFailed job attempt kind) free = reports-rest (report.SignalFailed job attempt kind) (v.entries + 1) v.plan ok.fit rests free
-
-  answers-rest : (at : ℕ) (c : Call) → LeadsToRest (answer_now at v c)
-  unfolding LeadsToRest
-  answers-rest at c = answer-cases at v c LeadsToRest (λ why is. rests) (λ free. served at c free)
-
-given-rests : (r : Reply) (next : World) (a : StepAnswer) → a ≡ gives r next → LeadsToRest a → IsResting next.plan
-unfolding LeadsToRest
-given-rests r next a same leads = subst LeadsToRest same leads
+-- each operation leads to a plan that rests
+after-rests : (v : World) (c : Call) → IsConsistent v → IsResting v.plan → HoldsAfter v c IsResting
+after-rests v c ok rests = record {
+  same = rests;
+  forgets = λ home. forget-rests home v.plan rests;
+  submits = λ home t indices free. submits-rest home t indices (v.entries + 1) v.plan rests free;
+  controls = λ meant what. controls-rest meant what (v.entries + 1) v.plan rests;
+  reaps = λ meant. fewer-rest (λ (row : Row). not (is_meant meant row && is_done row)) v.plan rests;
+  requests = λ home t free. requests-rest home t (v.entries + 1) v.plan rests free;
+  ends = λ number. ends-rest number (v.entries + 1) v.plan rests;
+  launches = λ asked next is. launch-resting (v.entries + 1) v.plan next.0 next.1 ok.fit (next_launch-is v.plan next ok.fit.jobs.rising is) rests;
+  signals = record { rows = rests.rows; lasting = rests.lasting; capped = rests.capped };
+  reports = λ r free. reports-rest r (v.entries + 1) v.plan ok.fit rests free;
+}
 
 -- a step from a world that rests leads to one that rests
 pub step-rests : (w : World) (entry : Entry) (next : World) → IsConsistent w → IsResting w.plan → IsStep w entry next → IsResting next.plan
 step-rests w entry next ok rests step =
     let v = advance w entry.at in
-    given-rests entry.reply next (answer w entry.at entry.call) step.answered
-    (answers-rest v (advance-consistent w entry.at ok) (advance-rests (w.entries + 1) entry.at w.plan rests.capped) entry.at entry.call)
+    answer-leads entry.at v entry.call IsResting (after-rests v entry.call (advance-consistent w entry.at ok) (advance-rests (w.entries + 1) entry.at w.plan rests.capped)) entry.reply next step.answered
 
 pub legal-rests : (config : Config) (history : List Entry) → IsLegal config history → IsResting (replay config history).plan
 legal-rests config history legal =

@@ -70,43 +70,27 @@ module _ (v : World) (fit : IsFit v.plan) where
         | Some order ↦ omega arith
       ]
 
+  grows-report : (r : Report) → (report_of r).refusal v.plan ≡ None → Grows v 0 (through unit (report_of r) v)
+  grows-report r free = (let less = report-weight r (v.entries + 1) v.plan fit free in omega arith)
+
   grows : (at : ℕ) (c : Call) → refusal v c ≡ None → Grows v (growth v c) (effect at v c)
-  grows at (call.CreateJobSession name) free = omega arith
-  grows at (call.CreateReservationSession name) free = omega arith
-  grows at (call.OpenJobSession name) free = omega arith
-  grows at (call.OpenReservationSession name) free = omega arith
   grows at (call.DestroyJobSession name) free = grows-destroy Jobs name
   grows at (call.DestroyReservationSession name) free = grows-destroy Reservations name
-  grows at call.JobSessionNames free = omega arith
-  grows at call.ReservationSessionNames free = omega arith
-  grows at call.OpenMonitoring free = omega arith
-  grows at (call.CloseSession session) free = omega arith
   grows at (call.RunJob session t) free = (let more = submit-weight (home_number session v) t None (v.entries + 1) v.plan in omega arith)
   grows at (call.RunBulk session t indices) free = (let more = submit-weight (home_number session v) t (Some indices) (v.entries + 1) v.plan in let count = length-members t indices v.plan in omega arith)
-  grows at (call.GetJobs session filter) free = omega arith
-  grows at (call.GetJobArray session array) free = omega arith
   grows at (call.Control session meant what) free = (let more = control-weight meant what (v.entries + 1) v.plan in omega arith)
   grows at (call.Reap session meant) free = (let same = reap-weight meant (v.entries + 1) v.plan fit in omega arith)
-  grows at (call.GetState session job) free = omega arith
-  grows at (call.GetInfo session job) free = omega arith
   grows at (call.Wait session jobs kind begun timeout) free = grows-wait (first_reached kind v.plan.rows jobs) (is_timed_out at begun timeout)
-  grows at (call.RequestReservation session t) free = omega arith
-  grows at (call.GetReservation session number) free = omega arith
-  grows at (call.GetReservations session) free = omega arith
   grows at (call.EndReservation session number) free = (let same = end-weight number (v.entries + 1) v.plan in omega arith)
-  grows at (call.AllJobs session filter) free = omega arith
-  grows at (call.AllReservations session) free = omega arith
-  grows at (call.AllQueues session) free = omega arith
-  grows at (call.AllMachines session) free = omega arith
-  grows at call.Register free = omega arith
   grows at call.TakeLaunch free = grows-launch
-  grows at (call.Started job attempt) free = (let less = report-weight (report.Started job attempt) (v.entries + 1) v.plan fit free in omega arith)
-  grows at (call.StartFailed job attempt) free = (let less = report-weight (report.StartFailed job attempt) (v.entries + 1) v.plan fit free in omega arith)
-  grows at (call.Exited job attempt exit) free = (let less = report-weight (report.Exited job attempt exit) (v.entries + 1) v.plan fit free in omega arith)
-  grows at (call.ExitUnknown job attempt) free = (let less = report-weight (report.ExitUnknown job attempt) (v.entries + 1) v.plan fit free in omega arith)
+  grows at (call.Started job attempt) free = grows-report (report.Started job attempt) free
+  grows at (call.StartFailed job attempt) free = grows-report (report.StartFailed job attempt) free
+  grows at (call.Exited job attempt exit) free = grows-report (report.Exited job attempt exit) free
+  grows at (call.ExitUnknown job attempt) free = grows-report (report.ExitUnknown job attempt) free
   grows at call.TakeSignal free = grows-signal
-  grows at (call.SignalDone job attempt kind) free = (let less = report-weight (report.SignalDone job attempt kind) (v.entries + 1) v.plan fit free in omega arith)
-  grows at (call.SignalFailed job attempt kind) free = (let less = report-weight (report.SignalFailed job attempt kind) (v.entries + 1) v.plan fit free in omega arith)
+  grows at (call.SignalDone job attempt kind) free = grows-report (report.SignalDone job attempt kind) free
+  grows at (call.SignalFailed job attempt kind) free = grows-report (report.SignalFailed job attempt kind) free
+  grows at _ free = omega arith
 
   grown : (at : ℕ) (c : Call) → Grows v (growth v c) (answer_now at v c)
   grown at c = answer-cases at v c (Grows v (growth v c)) (λ why is. omega arith) (λ free. grows at c free)

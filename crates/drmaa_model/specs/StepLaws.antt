@@ -196,8 +196,6 @@ module _ (v : World) (ok : IsConsistent v) where
   served at (call.OpenReservationSession name) free = sits v ok (opened Reservations (home_of Reservations name v.sessions.named) v.sessions) (opened-step Reservations name v.sessions ok.sessions free)
   served at (call.DestroyJobSession name) free = destroys v ok Jobs name
   served at (call.DestroyReservationSession name) free = destroys v ok Reservations name
-  served at call.JobSessionNames free = stays v ok
-  served at call.ReservationSessionNames free = stays v ok
   served at call.OpenMonitoring free = sits v ok (opened Monitoring None v.sessions) (monitor-step v.sessions ok.sessions free)
   served at (call.CloseSession session) free = sits v ok (closed session.0 v.sessions) (record { sound = IsSound-closed v.sessions session.0 ok.sessions; numbers = omega arith; homes = omega arith })
   served at (call.RunJob session t) free =
@@ -208,24 +206,14 @@ module _ (v : World) (ok : IsConsistent v) where
       (let tests = (no_test (session_test (Jobs ∷ []) session v) (submit_tests t (Some indices) v.plan) free).1 in
       let op = submit (home_number session v) t (Some indices) in
       goes v ok (op.effect (v.entries + 1) v.plan) ((submit-keeps (home_number session v) t (Some indices)).keeps (v.entries + 1) v.plan ok.fit tests) (submit-step (home_number session v) t (Some indices) (v.entries + 1) v.plan tests))
-  served at (call.GetJobs session f) free = stays v ok
-  served at (call.GetJobArray session array) free = stays v ok
   served at (call.Control session meant what) free = goes v ok ((control meant what).effect (v.entries + 1) v.plan) (control-fit meant what (v.entries + 1) v.plan ok.fit) (control-step meant what (v.entries + 1) v.plan ok.fit)
   served at (call.Reap session meant) free = goes v ok ((reap meant).effect (v.entries + 1) v.plan) (reap-fit meant (v.entries + 1) v.plan ok.fit) (reap-step meant (v.entries + 1) v.plan)
-  served at (call.GetState session job) free = stays v ok
-  served at (call.GetInfo session job) free = stays v ok
   served at (call.Wait session jobs kind begun timeout) free = keeps-wait (first_reached kind v.plan.rows jobs) (is_timed_out at begun timeout)
   served at (call.RequestReservation session t) free =
       (let tests = (no_test (session_test (Reservations ∷ []) session v) (request_tests t v.plan) free).1 in
       let op = request (home_number session v) t in
       goes v ok (op.effect (v.entries + 1) v.plan) ((request-keeps (home_number session v) t).keeps (v.entries + 1) v.plan ok.fit tests) (request-step (home_number session v) t (v.entries + 1) v.plan tests))
-  served at (call.GetReservation session number) free = stays v ok
-  served at (call.GetReservations session) free = stays v ok
   served at (call.EndReservation session number) free = goes v ok ((end_reservation number).effect (v.entries + 1) v.plan) (end-fit number (v.entries + 1) v.plan ok.fit) (end-step number (v.entries + 1) v.plan ok.fit)
-  served at (call.AllJobs session f) free = stays v ok
-  served at (call.AllReservations session) free = stays v ok
-  served at (call.AllQueues session) free = stays v ok
-  served at (call.AllMachines session) free = stays v ok
   served at call.Register free =
       (let below = leb-false most_callbacks v.registrations (no_test (leb most_callbacks v.registrations, OutOfResource resource.Callbacks) [] free).0 in
       moves v ok v.plan v.sessions (v.registrations + 1) ok.fit (same-step (v.entries + 1) v.plan) (same-sessions v ok) (omega arith) (omega arith))
@@ -237,6 +225,7 @@ module _ (v : World) (ok : IsConsistent v) where
   served at call.TakeSignal free = keeps-signal
   served at (call.SignalDone job attempt kind) free = reports (report.SignalDone job attempt kind) free
   served at (call.SignalFailed job attempt kind) free = reports (report.SignalFailed job attempt kind) free
+  served at _ free = stays v ok
 
   answers : (at : ℕ) (c : Call) → Keeps v (answer_now at v c)
   unfolding Keeps

@@ -3,7 +3,7 @@ use Rattle.std.proofs.Common.{◌≡◌, ℕ, zero, suc, ◌+◌, ◌<◌, ◌�
 use Rattle.std.specs.Prelude.{IfSome, is_some, find}
 use Rattle.std.specs.List.{AllByRecursion}
 use Rattle.std.specs.Option.{option_map, option_map_or}
-use Rattle.std.proofs.lemmas.Bool.{eqb-true, eqb-false, ltb-false, not-false}
+use Rattle.std.proofs.lemmas.Bool.{eqb-true, eqb-false, ltb-false, not-false, or_parts}
 use Rattle.std.proofs.lemmas.List.{length-map}
 use Rattle.std.proofs.lemmas.List.Sums.{sum_by_push, sum_by-cons}
 use Rattle.job_template.specs.declared.templates.JobTemplate.{JobTemplate}
@@ -229,10 +229,6 @@ module _ (home : ℕ) (p : Plan) where
 
 -- ---- what is not refused
 
-or-false : (a b : Bool) → (a || b) ≡ false → (a ≡ false) × (b ≡ false)
-or-false true b h = absurd (cc)
-or-false false b h = (refl, h)
-
 -- what is known of a submission that is not refused
 pub record MaySubmit (t : JobTemplate) (indices : Option Indices) (p : Plan) : Type 0 where
   pub bulk : first_refusal (bulk_tests indices) ≡ None
@@ -265,7 +261,7 @@ ask-slots slots queues now t free =
     let second : Bool × Refusal = (ltb (max_slots t) (min_slots t), InvalidArgument which.MaxSlots) in
     let one = no_test (is_bad_least slots queues t, InvalidArgument which.MinSlots) (second ∷ third ∷ []) free in
     let two = no_test second (third ∷ []) one.1 in
-    let some = eqb-false (min_slots t) 0 (or-false (eqb (min_slots t) 0) (ltb slots (min_slots t)) (or-false ((eqb (min_slots t) 0) || ltb slots (min_slots t)) (option_map_or (λ (limit : ℕ). ltb limit (min_slots t)) (queue_limit queues t) false) one.0).0).0 in
+    let some = eqb-false (min_slots t) 0 (or_parts (eqb (min_slots t) 0) (ltb slots (min_slots t)) (or_parts ((eqb (min_slots t) 0) || ltb slots (min_slots t)) (option_map_or (λ (limit : ℕ). ltb limit (min_slots t)) (queue_limit queues t) false) one.0).0).0 in
     record { least = omega arith; order = ltb-false (max_slots t) (min_slots t) two.0 }
 
 limit-some : (ls : List ResourceLimit) → first_refusal (limit_tests false ls) ≡ None → IfSome (option_map (λ (l : ResourceLimit). l.value) (find is_wallclock ls)) (λ (seconds : ℕ). 1 ≤ seconds)
@@ -276,7 +272,7 @@ limit-some (l ∷ ls) free =
     let one = no_test (not (is_wallclock l), other_limit l.name) (second ∷ more) free in
     let two = no_test second more one.1 in
     let is : is_wallclock l ≡ true = not-false (is_wallclock l) one.0 in
-    let some = eqb-false l.value 0 (or-false (eqb l.value 0) false two.0).0 in
+    let some = eqb-false l.value 0 (or_parts (eqb l.value 0) false two.0).0 in
     let least : 1 ≤ l.value = omega arith in
     subst (λ (b : Bool). IfSome (option_map (λ (k : ResourceLimit). k.value) (cond b (Some l) (find is_wallclock ls))) (λ (seconds : ℕ). 1 ≤ seconds)) (sym is) least
 

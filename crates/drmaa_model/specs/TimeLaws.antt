@@ -10,7 +10,7 @@ use Rattle.drmaa_types.specs.States.{is_state, is_waiting, is_started}
 use Rattle.drmaa_types.specs.declared.changes.Change.{Change}
 use Rattle.drmaa_types.specs.declared.identifiers.JobId.{JobId}
 use Rattle.drmaa_types.specs.declared.states.JobState.{JobState}
-use Rattle.drmaa_types.specs.declared.states.JobState.TheVariants.{Undetermined, Queued, QueuedHeld, Running, Suspended, Requeued, RequeuedHeld, Done, Failed}
+use Rattle.drmaa_types.specs.declared.states.JobState.TheVariants.{Running, Suspended, Failed}
 use Rattle.drmaa_types.specs.declared.states.Note.{Note}
 use Rattle.drmaa_types.specs.declared.states.Note.TheVariants as note
 use Rattle.drmaa_model.specs.declared.reservations.Accepted.{Accepted}
@@ -40,37 +40,18 @@ sum-kept g f each (r ∷ rows) = omega (arith, each r, sum-kept g f each rows, s
 -- states
 
 pub waits-not_started : (s : JobState) → is_waiting s ≡ true → is_started s ≡ false
-waits-not_started Undetermined h = refl
-waits-not_started Queued h = refl
-waits-not_started QueuedHeld h = refl
 waits-not_started Running h = absurd (cc)
 waits-not_started Suspended h = absurd (cc)
-waits-not_started Requeued h = refl
-waits-not_started RequeuedHeld h = refl
-waits-not_started Done h = refl
-waits-not_started Failed h = refl
+waits-not_started _ h = refl
 
 pub started-waits : (s : JobState) → is_started s ≡ true → is_waiting s ≡ false
-started-waits Undetermined h = absurd (cc)
-started-waits Queued h = absurd (cc)
-started-waits QueuedHeld h = absurd (cc)
 started-waits Running h = refl
 started-waits Suspended h = refl
-started-waits Requeued h = absurd (cc)
-started-waits RequeuedHeld h = absurd (cc)
-started-waits Done h = absurd (cc)
-started-waits Failed h = absurd (cc)
+started-waits _ h = absurd (cc)
 
 pub waits-not_failed : (s : JobState) → is_waiting s ≡ true → is_state s Failed ≡ false
-waits-not_failed Undetermined h = refl
-waits-not_failed Queued h = refl
-waits-not_failed QueuedHeld h = refl
-waits-not_failed Running h = refl
-waits-not_failed Suspended h = refl
-waits-not_failed Requeued h = refl
-waits-not_failed RequeuedHeld h = refl
-waits-not_failed Done h = refl
 waits-not_failed Failed h = absurd (cc)
+waits-not_failed _ h = refl
 
 -- a row lapses, or it stays
 pub lapsed-cases : (Q : Row → Row → Type 0) (moment : ℕ) (rs : List Accepted) (r : Row) → (lapses moment rs r ≡ false → Q r r)

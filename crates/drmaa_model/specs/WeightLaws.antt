@@ -2,6 +2,7 @@
 use Rattle.std.proofs.Common.{◌≡◌, ℕ, ◌+◌, ◌≤◌, Bool, true, false, cond, eqb, not, ◌&&◌, List, [], ◌∷◌, ◌++◌, map, filter, length, sum_by, Option, Some, None, refl, sym, ◌∙◌, ap, subst, arith, length-append}
 use Rattle.std.specs.List.{AllByRecursion, flat_map}
 use Rattle.std.specs.Option.{option_map_or}
+use Rattle.std.proofs.Math.Bool.{and-true}
 use Rattle.std.proofs.lemmas.Bool.{and_parts, not-false}
 use Rattle.std.proofs.lemmas.List.Sums.{sum_by-cons, sum_by-append, length-filter}
 use Rattle.job_template.specs.declared.templates.JobTemplate.{JobTemplate}
@@ -12,7 +13,7 @@ use Rattle.drmaa_types.specs.declared.identifiers.ReservationId.{ReservationId}
 use Rattle.drmaa_types.specs.declared.states.Control.{Control}
 use Rattle.drmaa_types.specs.declared.states.Control.TheVariants.{Suspend, Resume, Hold, Release, Terminate}
 use Rattle.drmaa_types.specs.declared.states.JobState.{JobState}
-use Rattle.drmaa_types.specs.declared.states.JobState.TheVariants.{Undetermined, Queued, QueuedHeld, Running, Suspended, Requeued, RequeuedHeld, Done, Failed}
+use Rattle.drmaa_types.specs.declared.states.JobState.TheVariants.{Done, Failed}
 use Rattle.drmaa_types.specs.declared.states.Note.TheVariants as note
 use Rattle.drmaa_types.specs.declared.states.SignalKind.{SignalKind}
 use Rattle.drmaa_types.specs.declared.states.SignalKind.TheVariants.{Stop, Cont, Kill}
@@ -36,8 +37,8 @@ use Rattle.drmaa_model.specs.Order.{next_launch}
 use Rattle.drmaa_model.specs.OrderLaws.{next_launch-is}
 use Rattle.drmaa_model.specs.OperationLaws.{own-job, row-sound}
 use Rattle.drmaa_model.specs.Plan.{Plan}
-use Rattle.drmaa_model.specs.Reporting.{is_idle, is_launching, may_begin, may_exit, may_tell, start_row, over_row, unstart_row, end_row, lose_row, done_row, undone_row, reported, report_of}
-use Rattle.drmaa_model.specs.ReportLaws.{Stops, failed-marks, unstarted-stops, exited-stops, lost-stops, report-finds, report-effect, not_idle-started, may_begin-busy, may_exit-busy}
+use Rattle.drmaa_model.specs.Reporting.{is_idle, is_launching, may_begin, may_exit, may_tell, start_row, over_row, unstart_row, end_row, lose_row, done_row, undone_row, report_of}
+use Rattle.drmaa_model.specs.ReportLaws.{Stops, failed-marks, unstarted-stops, exited-stops, lost-stops, report-leads, not_idle-started, may_begin-busy, may_exit-busy}
 use Rattle.drmaa_model.specs.Requests.{without_reservation, end_reservation}
 use Rattle.drmaa_model.specs.Rows.{row_of, change_of, go_on}
 use Rattle.drmaa_model.specs.RowLaws.{all-each, all-implied, is_state-same, sum_with_course, changes_with_course}
@@ -136,35 +137,27 @@ undone-weight job k entry p row fit found =
     let same = failed-room k row.course in
     omega (arith, sum, none, same)
 
-reported-weight : (test : Plan → Course → Bool) (job : JobId) (effect : ℕ → Plan → Row → Plan) (entry k : ℕ) (p : Plan)
-    → ((row : Row) → row_of job p.rows ≡ Some row → test p row.course ≡ true → weight (effect entry p row) + k ≤ weight p)
-    → (reported test job effect).refusal p ≡ None → weight ((reported test job effect).effect entry p) + k ≤ weight p
-reported-weight test job effect entry k p each free =
-    let finds = report-finds test job effect p free in
-    subst (λ (q : Plan). weight q + k ≤ weight p) (sym (report-effect test job effect p entry finds.0 finds.1)) (each finds.0 finds.1 finds.2)
+-- the second plan weighs less
+abbrev Lightens : Plan → Plan → Type 0
+Lightens p q = weight q + 1 ≤ weight p
 
 -- an accepted report of a run and its entry add nothing to the size
 pub run-weight : (r : Report) (entry : ℕ) (p : Plan) → is_of_run r ≡ true → IsFit p → (report_of r).refusal p ≡ None → weight ((report_of r).effect entry p) + 1 ≤ weight p
-run-weight (report.Started job attempt) entry p run fit free = reported-weight (λ p. may_begin attempt) job start_row entry 1 p (λ row found may. start-weight job attempt entry p row fit found may) free
-run-weight (report.StartFailed job attempt) entry p run fit free = reported-weight (λ p. may_begin attempt) job unstart_row entry 1 p
+run-weight (report.Started job attempt) entry p run fit free = report-leads (Lightens p) (λ p. may_begin attempt) job start_row entry p (λ row found may. start-weight job attempt entry p row fit found may) free
+run-weight (report.StartFailed job attempt) entry p run fit free = report-leads (Lightens p) (λ p. may_begin attempt) job unstart_row entry p
     (λ row found may. over-weight job entry p row (unstarted p.moment row.wants.rerunnable row.course) fit found (may_begin-busy attempt row.course may) (unstarted-stops p.moment row.wants.rerunnable row.course)) free
-run-weight (report.Exited job attempt exit) entry p run fit free = reported-weight (λ p. may_exit attempt) job (end_row exit) entry 1 p
+run-weight (report.Exited job attempt exit) entry p run fit free = report-leads (Lightens p) (λ p. may_exit attempt) job (end_row exit) entry p
     (λ row found may. over-weight job entry p row (exited p.moment exit row.wants.rerunnable row.course) fit found (may_exit-busy attempt row.course may) (exited-stops p.moment exit row.wants.rerunnable row.course)) free
-run-weight (report.ExitUnknown job attempt) entry p run fit free = reported-weight (λ p. may_exit attempt) job lose_row entry 1 p
+run-weight (report.ExitUnknown job attempt) entry p run fit free = report-leads (Lightens p) (λ p. may_exit attempt) job lose_row entry p
     (λ row found may. over-weight job entry p row (lost p.moment row.wants.rerunnable row.course) fit found (may_exit-busy attempt row.course may) (lost-stops p.moment row.wants.rerunnable row.course)) free
-run-weight (report.SignalDone job attempt k) entry p run fit free = absurd (cc)
-run-weight (report.SignalFailed job attempt k) entry p run fit free = absurd (cc)
+run-weight _ entry p run fit free = absurd (cc)
 
 -- no report raises the weight
 pub report-weight : (r : Report) (entry : ℕ) (p : Plan) → IsFit p → (report_of r).refusal p ≡ None → weight ((report_of r).effect entry p) ≤ weight p
-report-weight (report.Started job attempt) entry p fit free = (let less = run-weight (report.Started job attempt) entry p refl fit free in omega arith)
-report-weight (report.StartFailed job attempt) entry p fit free = (let less = run-weight (report.StartFailed job attempt) entry p refl fit free in omega arith)
-report-weight (report.Exited job attempt exit) entry p fit free = (let less = run-weight (report.Exited job attempt exit) entry p refl fit free in omega arith)
-report-weight (report.ExitUnknown job attempt) entry p fit free = (let less = run-weight (report.ExitUnknown job attempt) entry p refl fit free in omega arith)
-report-weight (report.SignalDone job attempt k) entry p fit free =
-    (let same = reported-weight (may_tell attempt job k) job (done_row k) entry 0 p (λ row found may. omega arith) free in omega arith)
+report-weight (report.SignalDone job attempt k) entry p fit free = report-leads (λ (q : Plan). weight q ≤ weight p) (may_tell attempt job k) job (done_row k) entry p (λ row found may. omega arith) free
 report-weight (report.SignalFailed job attempt k) entry p fit free =
-    (let same = reported-weight (may_tell attempt job k) job (undone_row k) entry 0 p (λ row found may. (let less = undone-weight job k entry p row fit found in omega arith)) free in omega arith)
+    report-leads (λ (q : Plan). weight q ≤ weight p) (may_tell attempt job k) job (undone_row k) entry p (λ row found may. undone-weight job k entry p row fit found) free
+report-weight r entry p fit free = (let less = run-weight r entry p refl fit free in omega arith)
 
 -- ---- control
 
@@ -217,10 +210,6 @@ controlled-room entry moment Hold r state permits = state-room entry r state (sa
 controlled-room entry moment Release r state permits = state-room entry r state (same-kind Release r.course.state state (λ e. cc) permits)
 controlled-room entry moment Terminate r state permits = (let less = terminated-room entry moment r state permits in omega arith)
 
-and-true : (b : Bool) → (b && true) ≡ b
-and-true true = refl
-and-true false = refl
-
 control-room : (entry moment : ℕ) (t : Target) (what : Control) (r : Row)
     → room_of (control_step moment t what r).course + length (change_of entry r (control_step moment t what r)) ≤ room_of r.course + cond {A = ℕ} (is_growing what && is_controlled t what r) 1 0
 control-room entry moment t what r =
@@ -263,15 +252,9 @@ record IsDone (s : JobState) : Type 0 where
   waits : is_waiting s ≡ false
 
 done-is : (s : JobState) → has_terminated s ≡ true → IsDone s
-done-is Undetermined h = absurd (cc)
-done-is Queued h = absurd (cc)
-done-is QueuedHeld h = absurd (cc)
-done-is Running h = absurd (cc)
-done-is Suspended h = absurd (cc)
-done-is Requeued h = absurd (cc)
-done-is RequeuedHeld h = absurd (cc)
 done-is Done h = record { stopped = refl; waits = refl }
 done-is Failed h = record { stopped = refl; waits = refl }
+done-is _ h = absurd (cc)
 
 forgotten-room : (meant : Row → Bool) (r : Row) → IsSound r.wants r.course → not (meant r && is_done r) ≡ false → room_of r.course ≡ 0
 forgotten-room meant r sound h =

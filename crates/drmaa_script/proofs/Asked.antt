@@ -4,11 +4,11 @@ use Rattle.std.specs.Prelude.{IfSome, MatchBool, MatchOption}
 use Rattle.command_words.specs.Commands.{AsksFor}
 use Rattle.command_words.specs.CommandLaws.{one_command}
 use Rattle.command_words.specs.declared.commands.Command.{Command}
-use Rattle.command_words.specs.declared.commands.Command.TheVariants.{Serial, Threads, Table, Check, Migrate, Json, Forecast, Continue, Recur, Soak}
+use Rattle.command_words.specs.declared.commands.Command.TheVariants.{Serial, Threads, Table, Forecast, Continue, Recur, Soak}
 use Rattle.drmaa_types.specs.Readings.{Readings}
 use Rattle.drmaa_types.specs.declared.changes.Notification.{Notification}
 use Rattle.journal_commands.specs.declared.status.Status.{Status}
-use Rattle.journal_commands.specs.declared.status.Status.TheVariants.{Done, Text, Words, ReadFault, WriteFault, Memory, JournalFull, NotLegal}
+use Rattle.journal_commands.specs.declared.status.Status.TheVariants.{Done, Memory, JournalFull}
 use Rattle.script_asks.specs.Plays.{serial_play}
 use Rattle.script_play.specs.Callbacks.{HearFront}
 use Rattle.script_text.specs.declared.scripts.Mode.TheVariants as mode
@@ -40,13 +40,9 @@ memory_whole : (command : Command) (callbacks : ℕ) (bytes : List ℕ) → IsWh
 memory_whole Serial callbacks bytes = record { script = λ s t. inr refl; other = λ none. tt }
 memory_whole Threads callbacks bytes = record { script = λ s t enough. tt; few = λ s t few. inr refl; other = λ none. tt }
 memory_whole Table callbacks bytes = record { script = λ s t. inr refl; other = λ none. tt }
-memory_whole Check callbacks bytes = record { journal = λ j t. inl refl; other = λ none. tt }
-memory_whole Migrate callbacks bytes = record { journal = λ j t. inl refl; other = λ none. tt }
-memory_whole Json callbacks bytes = record { journal = λ j t. inl refl; other = λ none. tt }
-memory_whole Forecast callbacks bytes = record { journal = λ j t. inl refl; other = λ none. tt }
 memory_whole Continue callbacks bytes = record { text = λ c t. inl refl; other = λ none. tt }
-memory_whole (Recur words) callbacks bytes = record { journal = λ j t. inl refl; other = λ none. tt }
 memory_whole (Soak words) callbacks bytes = tt
+memory_whole _ callbacks bytes = record { journal = λ j t. inl refl; other = λ none. tt }
 
 pub short_whole : (left : Option (List ℕ)) (command : Command) (callbacks : ℕ) (status : Status) → status ≡ Memory → IfSome left (λ (bytes : List ℕ). IsWhole command callbacks bytes status)
 short_whole None command callbacks status is = tt
@@ -54,16 +50,9 @@ short_whole (Some bytes) command callbacks status is = subst (λ (s : Status). I
 
 -- any command may lack memory
 memory_possible : (command : Command) → MayEnd command Memory
-memory_possible Serial = tt
-memory_possible Threads = tt
-memory_possible Table = tt
-memory_possible Check = tt
-memory_possible Migrate = tt
-memory_possible Json = tt
 memory_possible Forecast = λ e. cc
-memory_possible Continue = tt
 memory_possible (Recur words) = λ e. cc
-memory_possible (Soak words) = tt
+memory_possible _ = tt
 
 pub short_possible : (command : Command) (status : Status) → status ≡ Memory → MayEnd command status
 short_possible command status is = subst (MayEnd command) (sym is) (memory_possible command)
@@ -75,23 +64,9 @@ short_front counted told (Some bytes) callbacks after same = λ script t. same_f
 
 -- whether clocks come back
 hands_or_not : (command : Command) (status : Status) → HandsClocks command status ⊎ (HandsClocks command status → ⊥)
-hands_or_not Serial status = inr (λ hands. hands)
 hands_or_not Threads Done = inl tt
-hands_or_not Threads (Text line) = inr (λ hands. hands)
-hands_or_not Threads Words = inr (λ hands. hands)
-hands_or_not Threads ReadFault = inr (λ hands. hands)
-hands_or_not Threads WriteFault = inr (λ hands. hands)
-hands_or_not Threads Memory = inr (λ hands. hands)
 hands_or_not Threads (JournalFull size) = inl tt
-hands_or_not Threads (NotLegal entry given machine) = inr (λ hands. hands)
-hands_or_not Table status = inr (λ hands. hands)
-hands_or_not Check status = inr (λ hands. hands)
-hands_or_not Migrate status = inr (λ hands. hands)
-hands_or_not Json status = inr (λ hands. hands)
-hands_or_not Forecast status = inr (λ hands. hands)
-hands_or_not Continue status = inr (λ hands. hands)
-hands_or_not (Recur words) status = inr (λ hands. hands)
-hands_or_not (Soak words) status = inr (λ hands. hands)
+hands_or_not _ _ = inr (λ hands. hands)
 
 -- those that come back are their callers', and where none do all are
 pub all_whose : {C : Type 0} (given : C → Readings) (clocks : List C) (command : Command) (status : Status) → ((HandsClocks command status → ⊥) → clocks ≡ []) → (HandsClocks command status → AreCallersClocks given clocks) → AreCallersClocks given clocks

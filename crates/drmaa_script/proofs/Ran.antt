@@ -41,13 +41,9 @@ module _ {C : Type 0} (given : C → Readings) (s : Script) (old new : Option (L
   pub ran_heard : (callbacks : ℕ) (first then : List Entry → Type 0) (status : Status) → ((history : List Entry) → first history → then history)
       → RanEnds given s callbacks first old new asked asked_after fate clocks status → RanEnds given s callbacks then old new asked asked_after fate clocks status
   ran_heard callbacks first then Done on (enough, w) = (enough, record { history = w.history; written = w.written; run = w.run; heard = on w.history w.heard })
-  ran_heard callbacks first then (Text line) on ends = ends
-  ran_heard callbacks first then Words on ends = ends
-  ran_heard callbacks first then ReadFault on ends = ends
   ran_heard callbacks first then WriteFault on (enough, w) = (enough, record { history = w.history; clocks = w.clocks; full = w.full; written = w.written; run = w.run; heard = on w.history w.heard })
-  ran_heard callbacks first then Memory on ends = ends
   ran_heard callbacks first then (JournalFull size) on (enough, w) = (enough, record { history = w.history; written = w.written; run = w.run; heard = on w.history w.heard })
-  ran_heard callbacks first then (NotLegal entry was machine) on ends = ends
+  ran_heard callbacks first then _ on ends = ends
 
   -- from the script that was read to the bytes that spell it
   pub ran_ends : {B : Type 0} (counted : B → ℕ) (told : B → Option (List Notification)) (bytes : List ℕ) (before after : List B) (status : Status) → IsScriptText mode.Threads bytes s
@@ -79,27 +75,21 @@ module _ {C : Type 0} (given : C → Readings) (s : Script) (old new : Option (L
         enough = enough;
         heard = w.heard;
       }
-  ran_ends counted told bytes before after (Text line) spelled ends = absurd ends
   ran_ends counted told bytes before after Words spelled ends = record { script = s; spelled = spelled; few = ends }
-  ran_ends counted told bytes before after ReadFault spelled ends = absurd ends
   ran_ends counted told bytes before after WriteFault spelled (enough, w) =
       record { script = s; spelled = spelled; history = w.history; clocks = w.clocks; full = w.full; written = w.written; run = w.run; enough = enough; heard = w.heard }
   ran_ends counted told bytes before after Memory spelled ends = tt
   ran_ends counted told bytes before after (JournalFull size) spelled (enough, w) =
       record { script = s; spelled = spelled; history = w.history; written = w.written; run = w.run; enough = enough; heard = w.heard }
-  ran_ends counted told bytes before after (NotLegal entry was machine) spelled ends = absurd ends
+  ran_ends counted told bytes before after _ spelled ends = absurd ends
 
 -- why a script for threads was not run
 pub unread_run : {B C : Type 0} (counted : B → ℕ) (told : B → Option (List Notification)) (given : C → Readings) (bytes : List ℕ) (old new : Option (List ℕ)) (asked asked_after : Option (List Asked)) (fate : ℕ → Fate) (clocks : List C) (before after : List B) (status : Status) → IsUnread status
     → ((n : ℕ) → status ≡ Text n → RunEnds counted told given bytes old new asked asked_after fate clocks before after (Text n)) → RunEnds counted told given bytes old new asked asked_after fate clocks before after status
-unread_run counted told given bytes old new asked asked_after fate clocks before after Done is line = absurd is
 unread_run counted told given bytes old new asked asked_after fate clocks before after (Text n) is line = line n refl
-unread_run counted told given bytes old new asked asked_after fate clocks before after Words is line = absurd is
 unread_run counted told given bytes old new asked asked_after fate clocks before after ReadFault is line = tt
-unread_run counted told given bytes old new asked asked_after fate clocks before after WriteFault is line = absurd is
 unread_run counted told given bytes old new asked asked_after fate clocks before after Memory is line = tt
-unread_run counted told given bytes old new asked asked_after fate clocks before after (JournalFull size) is line = absurd is
-unread_run counted told given bytes old new asked asked_after fate clocks before after (NotLegal entry was machine) is line = absurd is
+unread_run counted told given bytes old new asked asked_after fate clocks before after _ is line = absurd is
 
 -- what the callbacks of a hub that followed a run heard, once they are back
 pub hub_hears : {B : Type 0} (counted : B → ℕ) (told : B → Option (List Notification)) (config : Config) (hub : Following B) (before back : List B) → hub.ears.begun ≡ before → HaveHeard counted told hub.ears
@@ -119,13 +109,8 @@ module _ {C : Type 0} (given : C → Readings) (s : Script) (old new : Option (L
   -- whose clocks a run hands back
   pub ran_whose : (status : Status) → RanEnds given s callbacks hears old new asked asked_after fate clocks status → ((LeavesClocks status → ⊥) → clocks ≡ []) → AreCallersClocks given clocks
   ran_whose Done (enough, w) none = λ caller clock at. (w.run.run.timed caller clock at).caller
-  ran_whose (Text line) ends none = none_whose given clocks (none (λ leaves. leaves))
-  ran_whose Words ends none = none_whose given clocks (none (λ leaves. leaves))
-  ran_whose ReadFault ends none = none_whose given clocks (none (λ leaves. leaves))
-  ran_whose WriteFault ends none = none_whose given clocks (none (λ leaves. leaves))
-  ran_whose Memory ends none = none_whose given clocks (none (λ leaves. leaves))
   ran_whose (JournalFull size) (enough, w) none = λ caller clock at. (w.run.run.timed caller clock at).caller
-  ran_whose (NotLegal entry was machine) ends none = none_whose given clocks (none (λ leaves. leaves))
+  ran_whose _ ends none = none_whose given clocks (none (λ leaves. leaves))
 
   stopped_callers : (history : List Entry) (size : ℕ) → IsStopped given clocks s history asked asked_after size → (length clocks ≡ 1) ⊎ (4 ≤ length clocks)
   stopped_callers history size (in_setup cut alone unasked callers) = inl callers
@@ -134,24 +119,14 @@ module _ {C : Type 0} (given : C → Readings) (s : Script) (old new : Option (L
   -- and how many
   pub ran_callers : (status : Status) → RanEnds given s callbacks hears old new asked asked_after fate clocks status → ((LeavesClocks status → ⊥) → clocks ≡ []) → HadCallers status (length clocks)
   ran_callers Done (enough, w) none = (let whole : IsWhole given s w.history asked asked_after fate clocks = w.run.run.ends in let callers = whole.callers in omega arith)
-  ran_callers (Text line) ends none = ap length (none (λ leaves. leaves))
-  ran_callers Words ends none = ap length (none (λ leaves. leaves))
-  ran_callers ReadFault ends none = ap length (none (λ leaves. leaves))
-  ran_callers WriteFault ends none = ap length (none (λ leaves. leaves))
-  ran_callers Memory ends none = ap length (none (λ leaves. leaves))
   ran_callers (JournalFull size) (enough, w) none = stopped_callers w.history size w.run.run.ends
-  ran_callers (NotLegal entry was machine) ends none = ap length (none (λ leaves. leaves))
+  ran_callers _ ends none = ap length (none (λ leaves. leaves))
 
 -- a script that was not read leaves none
 pub unread_callers : (status : Status) (n : ℕ) → IsUnread status → n ≡ 0 → HadCallers status n
 unread_callers Done n is none = absurd is
-unread_callers (Text line) n is none = none
-unread_callers Words n is none = none
-unread_callers ReadFault n is none = none
-unread_callers WriteFault n is none = none
-unread_callers Memory n is none = none
 unread_callers (JournalFull size) n is none = absurd is
-unread_callers (NotLegal entry was machine) n is none = none
+unread_callers _ n is none = none
 
 -- what is true of a run whose journal was written
 pub ended_run : (full : Option ℕ) → IsRunEnd (ended_as full)
@@ -168,11 +143,5 @@ ran_no_fault given s old new asked asked_after fate clocks callbacks hears statu
 
 pub ran_possible : {C : Type 0} (given : C → Readings) (s : Script) (old new : Option (List ℕ)) (asked asked_after : Option (List Asked)) (fate : ℕ → Fate) (clocks : List C) (callbacks : ℕ) (hears : List Entry → Type 0) (status : Status)
     → RanEnds given s callbacks hears old new asked asked_after fate clocks status → IsOfScript status
-ran_possible given s old new asked asked_after fate clocks callbacks hears Done ends = tt
-ran_possible given s old new asked asked_after fate clocks callbacks hears (Text line) ends = tt
-ran_possible given s old new asked asked_after fate clocks callbacks hears Words ends = tt
-ran_possible given s old new asked asked_after fate clocks callbacks hears ReadFault ends = tt
-ran_possible given s old new asked asked_after fate clocks callbacks hears WriteFault ends = tt
-ran_possible given s old new asked asked_after fate clocks callbacks hears Memory ends = tt
-ran_possible given s old new asked asked_after fate clocks callbacks hears (JournalFull size) ends = tt
 ran_possible given s old new asked asked_after fate clocks callbacks hears (NotLegal entry was machine) ends = ends
+ran_possible given s old new asked asked_after fate clocks callbacks hears _ ends = tt

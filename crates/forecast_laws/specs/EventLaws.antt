@@ -15,12 +15,12 @@ use Rattle.drmaa_model.specs.declared.rows.Row.{Row}
 use Rattle.drmaa_model.specs.declared.rows.Wants.{Wants}
 use Rattle.drmaa_model.specs.Consistent.{IsConsistent}
 use Rattle.drmaa_model.specs.Courses.{planned_end, limit_end, lesser_end, optional_end, is_asked}
-use Rattle.drmaa_model.specs.Events.{turns_at, bounds_at, is_event}
+use Rattle.drmaa_model.specs.Events.{is_row_event, bounds_at, is_event}
 use Rattle.drmaa_model.specs.Fit.{IsFit, IsSound}
 use Rattle.drmaa_model.specs.FitLaws.{load-let_go}
 use Rattle.drmaa_model.specs.Load.{ends_after, covers, slots_at, uses_at, load, bound_of, in_reservation, in_array, reservation_of, fits}
 use Rattle.drmaa_model.specs.MomentLaws.{ends-before, fits-at, fits-from}
-use Rattle.drmaa_model.specs.Order.{is_queued, is_reached, has_turn, has_slots_in, has_room_in, has_slots, may_come, is_ready, first_in_order, slots_for, next_launch}
+use Rattle.drmaa_model.specs.Order.{is_queued, is_reached, is_within_bound, has_slots_in, has_room_in, has_slots, may_come, is_ready, first_in_order, slots_for, next_launch}
 use Rattle.drmaa_model.specs.OrderLaws.{ready-parts, ready-from, next_launch-none, queued-may_launch}
 use Rattle.drmaa_model.specs.Plan.{Plan}
 use Rattle.drmaa_model.specs.ReadyLaws.{ready-same, seen-advance, planned-ahead, not-late}
@@ -110,14 +110,14 @@ room_for p slots w =
 module _ (entry other x y : ℕ) (p : Plan) (fit : IsFit p) (order : max p.moment x ≤ max p.moment y) (within : max p.moment y ≤ greatest)
     (quiet : NoneBetween (max p.moment x) (max p.moment y) (is_event p)) where
   jobs-stay : AllByRecursion (JobStays (max p.moment x) (max p.moment y) order) p.rows
-  jobs-stay = all-implied (λ (r : Row). NoneBetween (max p.moment x) (max p.moment y) (λ m. turns_at m r)) (JobStays (max p.moment x) (max p.moment y) order)
+  jobs-stay = all-implied (λ (r : Row). NoneBetween (max p.moment x) (max p.moment y) (λ m. is_row_event m r)) (JobStays (max p.moment x) (max p.moment y) order)
       (job-stays (max p.moment x) (max p.moment y) order) p.rows
-      (each-quiet turns_at (max p.moment x) (max p.moment y) p.rows (first-quiet (λ m. list_any (turns_at m) p.rows) (λ m. list_any (bounds_at m) p.reservations) (max p.moment x) (max p.moment y) quiet))
+      (each-quiet is_row_event (max p.moment x) (max p.moment y) p.rows (first-quiet (λ m. list_any (is_row_event m) p.rows) (λ m. list_any (bounds_at m) p.reservations) (max p.moment x) (max p.moment y) quiet))
 
   books-stay : AllByRecursion (BookStays (max p.moment x) (max p.moment y) order) p.reservations
   books-stay = all-implied (λ (a : Accepted). NoneBetween (max p.moment x) (max p.moment y) (λ m. bounds_at m a)) (BookStays (max p.moment x) (max p.moment y) order)
       (book-stays (max p.moment x) (max p.moment y) order) p.reservations
-      (each-quiet bounds_at (max p.moment x) (max p.moment y) p.reservations (second-quiet (λ m. list_any (turns_at m) p.rows) (λ m. list_any (bounds_at m) p.reservations) (max p.moment x) (max p.moment y) quiet))
+      (each-quiet bounds_at (max p.moment x) (max p.moment y) p.reservations (second-quiet (λ m. list_any (is_row_event m) p.rows) (λ m. list_any (bounds_at m) p.reservations) (max p.moment x) (max p.moment y) quiet))
 
   same-books : (let_go (come_to x p)).reservations ≡ (let_go (come_to y p)).reservations
   same-books = filter-same (lasts (max p.moment x)) (lasts (max p.moment y)) p.reservations
@@ -185,15 +185,15 @@ module _ (entry other x y : ℕ) (p : Plan) (fit : IsFit p) (order : max p.momen
       let ahead = planned-ahead r.wants (max p.moment y) sound.limit late in
       let reached : is_reached (max p.moment x) a.wants.start ≡ true =
       ap (λ (t : Wants). is_reached (max p.moment x) t.start) earlier ∙ stays.reached waited ∙ sym (ap (λ (t : Wants). is_reached (max p.moment y) t.start) later) ∙ parts.reached in
-      let turn : has_turn p.rows a ≡ true = sym (turn-of p.rows a b alike.wants) ∙ parts.turn in
+      let turn : is_within_bound p.rows a ≡ true = sym (turn-of p.rows a b alike.wants) ∙ parts.turn in
       let queued : is_queued a.course.state ≡ true = sym (ap is_queued alike.state) ∙ parts.queued in
       let has : has_slots (let_go (come_to x p)) k a ≡ true =
       subst (λ (t : Wants). room_for (let_go (come_to x p)) k t ≡ true) (sym earlier)
       (room-back k r.wants ahead (subst (λ (t : Wants). room_for (let_go (come_to y p)) k t ≡ true) later parts.has)) in
-      let come : may_come (let_go (come_to x p)) a ≡ true = and_from (is_queued a.course.state && is_reached (max p.moment x) a.wants.start) (has_turn p.rows a)
+      let come : may_come (let_go (come_to x p)) a ≡ true = and_from (is_queued a.course.state && is_reached (max p.moment x) a.wants.start) (is_within_bound p.rows a)
       (and_from (is_queued a.course.state) (is_reached (max p.moment x) a.wants.start) queued reached) turn in
       ready-same (advance_plan entry x p) (let_go (come_to x p)) k a (seen-advance entry x p fit) ∙ ready-from (let_go (come_to x p)) k a come parts.free has where
-        turn-of : (rows : List Row) (a b : Row) → b.wants ≡ a.wants → has_turn rows b ≡ has_turn rows a
+        turn-of : (rows : List Row) (a b : Row) → b.wants ≡ a.wants → is_within_bound rows b ≡ is_within_bound rows a
         turn-of rows a b same = ap (λ (t : Wants). option_map_or (λ (bound : ℕ). option_map_or (λ (array : ArrayId). ltb (in_array array rows) bound) t.array true) t.bound true) same
 
   -- Where nothing is left to do at a moment, and no event comes up to a later one, nothing is left to do then.

@@ -15,7 +15,7 @@ use Rattle.drmaa_model.specs.StepLaws.{step-consistent, step-moment}
 use Rattle.drmaa_model.specs.Steps.{IsStep}
 use Rattle.drmaa_model.specs.World.{World}
 use Rattle.forecast_laws.specs.EventLaws.{done-between}
-use Rattle.forecast_laws.specs.Forecasts.{IsDone, IsForeseen, AreForeseen, Precedes, AreInTurn, world_by, IsForecast, IsForecastUpTo}
+use Rattle.forecast_laws.specs.Forecasts.{IsDone, IsForeseen, AreForeseen, Precedes, AreInSequence, world_by, IsForecast, IsForecastUpTo}
 
 -- ---- where it begins
 
@@ -33,7 +33,7 @@ foreseen-append : (w : World) (xs ys : List Entry) → AreForeseen w xs → AreF
 foreseen-append w [] ys front back = back
 foreseen-append w (x ∷ xs) ys front back = (front.0, foreseen-append (after_entry w x) xs ys front.1 back)
 
-turns-push : (es : List Entry) (e : Entry) → AreInTurn es → AllByRecursion (λ (f : Entry). Precedes f e) es → AreInTurn (es ++ e ∷ [])
+turns-push : (es : List Entry) (e : Entry) → AreInSequence es → AllByRecursion (λ (f : Entry). Precedes f e) es → AreInSequence (es ++ e ∷ [])
 turns-push [] e turns all = (tt, tt)
 turns-push (f ∷ es) e turns all = (all-push (Precedes f) es e turns.0 all.0, turns-push es e turns.1 all.1)
 

@@ -11,7 +11,7 @@ use Rattle.drmaa_types.specs.declared.states.Note.TheVariants as note
 use Rattle.drmaa_model.specs.declared.reservations.Accepted.{Accepted}
 use Rattle.drmaa_model.specs.declared.rows.Row.{Row}
 use Rattle.drmaa_model.specs.Courses.{failed, called, is_unasked}
-use Rattle.drmaa_model.specs.Events.{is_set_to, is_end_at, is_wanted_at, turns_at, bounds_at}
+use Rattle.drmaa_model.specs.Events.{is_set_to, is_end_at, is_wanted_at, is_row_event, bounds_at}
 use Rattle.drmaa_model.specs.Load.{ends_after, covers, is_using, uses_at}
 use Rattle.drmaa_model.specs.Order.{is_reached}
 use Rattle.drmaa_model.specs.Time.{lasts, is_late, is_past, is_over, is_stranded, lapses, is_due, called_in}
@@ -107,7 +107,7 @@ module _ (u v : ℕ) (order : u ≤ v) where
     pub over : is_over u row ≡ is_over v row
     pub uses : (z : ℕ) → u ≤ z → z ≤ v → uses_at z row ≡ uses_at v row
 
-  pub job-stays : (row : Row) → NoneBetween u v (λ m. turns_at m row) → JobStays row
+  pub job-stays : (row : Row) → NoneBetween u v (λ m. is_row_event m row) → JobStays row
   job-stays row quiet =
       let planned = second-quiet (λ m. is_wanted_at m row) (λ m. option_map_or (is_end_at m) row.course.planned false) u v quiet in
       let set : is_waiting row.course.state ≡ true → NoneBetween u v (λ m. is_set_to m row.wants.start || is_set_to m row.wants.deadline) =

@@ -23,7 +23,7 @@ use Rattle.drmaa_model.specs.Steps.{answer, IsStep}
 use Rattle.drmaa_model.specs.Time.{advance}
 use Rattle.drmaa_model.specs.World.{World}
 use Rattle.forecast_laws.specs.EventLaws.{filter-none}
-use Rattle.forecast_laws.specs.Forecasts.{IsDone, IsForeseen, ends, launches, AreForeseen, EndsBefore, Precedes, AreInTurn, world_by, IsForecast}
+use Rattle.forecast_laws.specs.Forecasts.{IsDone, IsForeseen, ends, launches, AreForeseen, EndsBefore, Precedes, AreInSequence, world_by, IsForecast}
 use Rattle.forecast_laws.specs.ForeseenLaws.{is_ending_in, none-of, ending-advance, same-job, IsEndOf, answer-of, exit-of, step-ending, end-ending}
 
 -- ---- the entries at one moment
@@ -54,14 +54,14 @@ cut-all : (x : ℕ) (e : Entry) (es : List Entry) → x < e.at → AllByRecursio
 cut-all x e es later turns = ap (λ b. cond b (e ∷ filter (up_to x) es) (filter (up_to x) es)) (lt-leb e.at x later) ∙ cut-none x e es later turns
 
 -- they are legal and foreseen, as the first ones
-cut-legal : (x : ℕ) (w : World) (es : List Entry) → AreInTurn es → IsLegalFrom w es → IsLegalFrom w (filter (up_to x) es)
+cut-legal : (x : ℕ) (w : World) (es : List Entry) → AreInSequence es → IsLegalFrom w es → IsLegalFrom w (filter (up_to x) es)
 cut-legal x w [] turns legal = tt
 cut-legal x w (e ∷ es) turns legal = elim (cases_lt x e.at) [
   | inl later ↦ subst (IsLegalFrom w) (sym (cut-all x e es later turns.0)) tt
   | inr early ↦ subst (IsLegalFrom w) (sym (cut-front x e es early)) (legal.0, cut-legal x (after_entry w e) es turns.1 legal.1)
 ]
 
-cut-foreseen : (x : ℕ) (w : World) (es : List Entry) → AreInTurn es → AreForeseen w es → AreForeseen w (filter (up_to x) es)
+cut-foreseen : (x : ℕ) (w : World) (es : List Entry) → AreInSequence es → AreForeseen w es → AreForeseen w (filter (up_to x) es)
 cut-foreseen x w [] turns all = tt
 cut-foreseen x w (e ∷ es) turns all = elim (cases_lt x e.at) [
   | inl later ↦ subst (AreForeseen w) (sym (cut-all x e es later turns.0)) tt

@@ -4,10 +4,12 @@ use Rattle.drmaa_types.specs.declared.states.Control.TheVariants as control
 use Rattle.drmaa_types.specs.declared.states.WaitKind.TheVariants as wait
 use Rattle.drmaa_types.specs.declared.moments.Timeout.{Timeout}
 use Rattle.drmaa_types.specs.declared.moments.Timeout.TheVariants.{Seconds, Infinite}
+use Rattle.job_template.specs.declared.templates.JobTemplate.{JobTemplate}
+use Rattle.job_template.specs.declared.templates.ReservationTemplate.{ReservationTemplate}
 use Rattle.drmaa_model.specs.declared.calls.Call.{Call}
 use Rattle.drmaa_model.specs.declared.calls.Call.TheVariants as call
 use Rattle.drmaa_model.specs.declared.calls.Target.TheVariants as target
-use Rattle.text_codec.specs.Formats.{IsFormat, number, moment}
+use Rattle.text_codec.specs.Formats.{Format, IsFormat, number, moment}
 use Rattle.text_codec.specs.Fields.{AreFields, IsFormatUpTo, field, always, no_more}
 use Rattle.text_codec.specs.FormatLaws.{pair_laws, mapped_laws, or_else_laws}
 use Rattle.text_codec.specs.FieldLaws.{no_more_laws, field_laws, always_laws, list_laws}
@@ -65,17 +67,18 @@ pub of_reservation_laws : IsFormat of_reservation
 unfolding of_reservation
 of_reservation_laws = pair_laws session_id reservation_id session_id_laws reservation_id_laws
 
-pub running_laws : IsFormat (running template)
+-- however templates are spelled
+pub running_laws : (T : Format JobTemplate) → IsFormat T → IsFormat (running T)
 unfolding running
-running_laws = pair_laws session_id template session_id_laws template_laws
+running_laws T laws = pair_laws session_id T session_id_laws laws
 
-pub bulk_laws : IsFormat (bulk template)
+pub bulk_laws : (T : Format JobTemplate) → IsFormat T → IsFormat (bulk T)
 unfolding bulk
-bulk_laws = pair_laws session_id _ session_id_laws (pair_laws template indices template_laws indices_laws)
+bulk_laws T laws = pair_laws session_id _ session_id_laws (pair_laws T indices laws indices_laws)
 
-pub requested_laws : IsFormat (requested frame)
+pub requested_laws : (F : Format ReservationTemplate) → IsFormat F → IsFormat (requested F)
 unfolding requested
-requested_laws = pair_laws session_id frame session_id_laws frame_laws
+requested_laws F laws = pair_laws session_id F session_id_laws laws
 
 pub waiting_laws : IsFormat waiting
 unfolding waiting
@@ -109,8 +112,8 @@ found word.NamesJobs = alone_found (call_form template frame) (call_word word.Na
 found word.NamesReservations = alone_found (call_form template frame) (call_word word.NamesReservations) call.ReservationSessionNames refl
 found word.Monitor = alone_found (call_form template frame) (call_word word.Monitor) call.OpenMonitoring refl
 found word.Close = keyed_found (call_form template frame) (call_word word.Close) session_id call.CloseSession session_id_laws (λ x. refl)
-found word.Run = keyed_found (call_form template frame) (call_word word.Run) (running template) (λ p. call.RunJob p.0 p.1) running_laws (λ x. refl)
-found word.Bulk = keyed_found (call_form template frame) (call_word word.Bulk) (bulk template) (λ p. call.RunBulk p.0 p.1.0 p.1.1) bulk_laws (λ x. refl)
+found word.Run = keyed_found (call_form template frame) (call_word word.Run) (running template) (λ p. call.RunJob p.0 p.1) (running_laws template template_laws) (λ x. refl)
+found word.Bulk = keyed_found (call_form template frame) (call_word word.Bulk) (bulk template) (λ p. call.RunBulk p.0 p.1.0 p.1.1) (bulk_laws template template_laws) (λ x. refl)
 found word.Jobs = fielded_found (call_form template frame) (call_word word.Jobs) sought (λ p. call.GetJobs p.0 (make_filter p.1)) sought_laws (λ x. refl)
 found word.Array = keyed_found (call_form template frame) (call_word word.Array) of_array (λ p. call.GetJobArray p.0 p.1) of_array_laws (λ x. refl)
 found word.Suspend = keyed_found (call_form template frame) (call_word word.Suspend) of_job (λ p. call.Control p.0 (target.Job p.1) control.Suspend) of_job_laws (λ x. refl)
@@ -129,7 +132,7 @@ found word.State = keyed_found (call_form template frame) (call_word word.State)
 found word.Info = keyed_found (call_form template frame) (call_word word.Info) of_job (λ p. call.GetInfo p.0 p.1) of_job_laws (λ x. refl)
 found word.WaitStarted = keyed_found (call_form template frame) (call_word word.WaitStarted) waiting (λ p. call.Wait p.0 p.1.1.1 wait.Started p.1.0 p.1.1.0) waiting_laws (λ x. refl)
 found word.WaitTerminated = keyed_found (call_form template frame) (call_word word.WaitTerminated) waiting (λ p. call.Wait p.0 p.1.1.1 wait.Terminated p.1.0 p.1.1.0) waiting_laws (λ x. refl)
-found word.Reserve = keyed_found (call_form template frame) (call_word word.Reserve) (requested frame) (λ p. call.RequestReservation p.0 p.1) requested_laws (λ x. refl)
+found word.Reserve = keyed_found (call_form template frame) (call_word word.Reserve) (requested frame) (λ p. call.RequestReservation p.0 p.1) (requested_laws frame frame_laws) (λ x. refl)
 found word.Reservation = keyed_found (call_form template frame) (call_word word.Reservation) of_reservation (λ p. call.GetReservation p.0 p.1) of_reservation_laws (λ x. refl)
 found word.Reservations = keyed_found (call_form template frame) (call_word word.Reservations) session_id call.GetReservations session_id_laws (λ x. refl)
 found word.Cancel = keyed_found (call_form template frame) (call_word word.Cancel) of_reservation (λ p. call.EndReservation p.0 p.1) of_reservation_laws (λ x. refl)
@@ -160,8 +163,8 @@ stands call.JobSessionNames = alone_stands call_word CALL_WORDS (call_arms templ
 stands call.ReservationSessionNames = alone_stands call_word CALL_WORDS (call_arms template frame) barred word.NamesReservations call.ReservationSessionNames refl refl (λ bs. refl)
 stands call.OpenMonitoring = alone_stands call_word CALL_WORDS (call_arms template frame) barred word.Monitor call.OpenMonitoring refl refl (λ bs. refl)
 stands (call.CloseSession session) = keyed_stands call_word CALL_WORDS (call_arms template frame) barred word.Close session_id call.CloseSession session_id_laws session refl refl (λ bs. refl)
-stands (call.RunJob session t) = keyed_stands call_word CALL_WORDS (call_arms template frame) barred word.Run (running template) (λ p. call.RunJob p.0 p.1) running_laws (session, t) refl refl (λ bs. refl)
-stands (call.RunBulk session t listed) = keyed_stands call_word CALL_WORDS (call_arms template frame) barred word.Bulk (bulk template) (λ p. call.RunBulk p.0 p.1.0 p.1.1) bulk_laws (session, (t, listed)) refl refl (λ bs. refl)
+stands (call.RunJob session t) = keyed_stands call_word CALL_WORDS (call_arms template frame) barred word.Run (running template) (λ p. call.RunJob p.0 p.1) (running_laws template template_laws) (session, t) refl refl (λ bs. refl)
+stands (call.RunBulk session t listed) = keyed_stands call_word CALL_WORDS (call_arms template frame) barred word.Bulk (bulk template) (λ p. call.RunBulk p.0 p.1.0 p.1.1) (bulk_laws template template_laws) (session, (t, listed)) refl refl (λ bs. refl)
 stands (call.GetJobs session filter) = fielded_stands call_word CALL_WORDS (call_arms template frame) barred word.Jobs sought (λ p. call.GetJobs p.0 (make_filter p.1)) sought_laws (session, filter_parts filter) refl refl (λ bs. refl) refl
 stands (call.GetJobArray session array) = keyed_stands call_word CALL_WORDS (call_arms template frame) barred word.Array of_array (λ p. call.GetJobArray p.0 p.1) of_array_laws (session, array) refl refl (λ bs. refl)
 stands (call.Control session (target.Job job) control.Suspend) = keyed_stands call_word CALL_WORDS (call_arms template frame) barred word.Suspend of_job (λ p. call.Control p.0 (target.Job p.1) control.Suspend) of_job_laws (session, job) refl refl (λ bs. refl)
@@ -180,7 +183,7 @@ stands (call.GetState session job) = keyed_stands call_word CALL_WORDS (call_arm
 stands (call.GetInfo session job) = keyed_stands call_word CALL_WORDS (call_arms template frame) barred word.Info of_job (λ p. call.GetInfo p.0 p.1) of_job_laws (session, job) refl refl (λ bs. refl)
 stands (call.Wait session jobs wait.Started begun lasts) = keyed_stands call_word CALL_WORDS (call_arms template frame) barred word.WaitStarted waiting (λ p. call.Wait p.0 p.1.1.1 wait.Started p.1.0 p.1.1.0) waiting_laws (session, (begun, (lasts, jobs))) refl refl (λ bs. refl)
 stands (call.Wait session jobs wait.Terminated begun lasts) = keyed_stands call_word CALL_WORDS (call_arms template frame) barred word.WaitTerminated waiting (λ p. call.Wait p.0 p.1.1.1 wait.Terminated p.1.0 p.1.1.0) waiting_laws (session, (begun, (lasts, jobs))) refl refl (λ bs. refl)
-stands (call.RequestReservation session t) = keyed_stands call_word CALL_WORDS (call_arms template frame) barred word.Reserve (requested frame) (λ p. call.RequestReservation p.0 p.1) requested_laws (session, t) refl refl (λ bs. refl)
+stands (call.RequestReservation session t) = keyed_stands call_word CALL_WORDS (call_arms template frame) barred word.Reserve (requested frame) (λ p. call.RequestReservation p.0 p.1) (requested_laws frame frame_laws) (session, t) refl refl (λ bs. refl)
 stands (call.GetReservation session number) = keyed_stands call_word CALL_WORDS (call_arms template frame) barred word.Reservation of_reservation (λ p. call.GetReservation p.0 p.1) of_reservation_laws (session, number) refl refl (λ bs. refl)
 stands (call.GetReservations session) = keyed_stands call_word CALL_WORDS (call_arms template frame) barred word.Reservations session_id call.GetReservations session_id_laws session refl refl (λ bs. refl)
 stands (call.EndReservation session number) = keyed_stands call_word CALL_WORDS (call_arms template frame) barred word.Cancel of_reservation (λ p. call.EndReservation p.0 p.1) of_reservation_laws (session, number) refl refl (λ bs. refl)

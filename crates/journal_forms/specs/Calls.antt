@@ -215,41 +215,9 @@ calls_with T F = sum_of call_word CALL_WORDS (call_arms T F) (call_form T F) bar
 unfoldable pub calls : Fields Call
 calls = calls_with template frame
 
--- whether each template has under `other` what journals have there
+-- whether each template has under `other` what journals have there; no other call has a template
 abbrev pub has_others : Call → Bool
-has_others (call.CreateJobSession name) = true
-has_others (call.CreateReservationSession name) = true
-has_others (call.OpenJobSession name) = true
-has_others (call.OpenReservationSession name) = true
-has_others (call.DestroyJobSession name) = true
-has_others (call.DestroyReservationSession name) = true
-has_others call.JobSessionNames = true
-has_others call.ReservationSessionNames = true
-has_others call.OpenMonitoring = true
-has_others (call.CloseSession session) = true
 has_others (call.RunJob session t) = list_all is_other t.others
 has_others (call.RunBulk session t listed) = list_all is_other t.others
-has_others (call.GetJobs session filter) = true
-has_others (call.GetJobArray session array) = true
-has_others (call.Control session meant what) = true
-has_others (call.Reap session meant) = true
-has_others (call.GetState session job) = true
-has_others (call.GetInfo session job) = true
-has_others (call.Wait session jobs kind begun lasts) = true
 has_others (call.RequestReservation session t) = list_all is_other t.others
-has_others (call.GetReservation session number) = true
-has_others (call.GetReservations session) = true
-has_others (call.EndReservation session number) = true
-has_others (call.AllJobs session filter) = true
-has_others (call.AllReservations session) = true
-has_others (call.AllQueues session) = true
-has_others (call.AllMachines session) = true
-has_others call.Register = true
-has_others call.TakeLaunch = true
-has_others (call.Started job attempt) = true
-has_others (call.StartFailed job attempt) = true
-has_others (call.Exited job attempt how) = true
-has_others (call.ExitUnknown job attempt) = true
-has_others call.TakeSignal = true
-has_others (call.SignalDone job attempt kind) = true
-has_others (call.SignalFailed job attempt kind) = true
+has_others _ = true

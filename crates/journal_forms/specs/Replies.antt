@@ -135,22 +135,5 @@ replies = reply_sum.body
 
 -- whether a journal may have it: all but some refusals
 abbrev pub may_answer : Reply → Bool
-may_answer reply.Unit = true
-may_answer (reply.Session session) = true
-may_answer (reply.Names names) = true
-may_answer (reply.Job job) = true
-may_answer (reply.Array array first count) = true
-may_answer (reply.Jobs jobs) = true
-may_answer (reply.State state) = true
-may_answer (reply.Info info) = true
-may_answer (reply.Reached job) = true
-may_answer (reply.Reserved booked) = true
-may_answer (reply.Reservation info) = true
-may_answer (reply.Reservations reservations) = true
-may_answer (reply.Infos list) = true
-may_answer (reply.ReservationInfos list) = true
-may_answer (reply.Machine info) = true
-may_answer (reply.Callback n) = true
-may_answer (reply.Launch l) = true
-may_answer (reply.Signal s) = true
 may_answer (reply.Refused why) = may_stand why
+may_answer _ = true

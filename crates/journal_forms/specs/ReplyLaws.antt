@@ -26,24 +26,7 @@ use Rattle.journal_forms.specs.Replies.{reply_word, ids, texts, infos, reservati
 -- each word of a reply stands in the table, and is no other's
 pub reply_word_stands : (x : ReplyWord) → first_spelled reply_word REPLY_WORDS (reply_word x) ≡ Some x
 reply_word_stands told.Ok = refl
-reply_word_stands told.Session = refl
-reply_word_stands told.Names = refl
-reply_word_stands told.Job = refl
-reply_word_stands told.Array = refl
-reply_word_stands told.Jobs = refl
-reply_word_stands told.State = refl
-reply_word_stands told.Info = refl
-reply_word_stands told.Reached = refl
-reply_word_stands told.Reserved = refl
-reply_word_stands told.Reservation = refl
-reply_word_stands told.Reservations = refl
-reply_word_stands told.Infos = refl
-reply_word_stands told.ReservationInfos = refl
-reply_word_stands told.Machine = refl
-reply_word_stands told.Callback = refl
-reply_word_stands told.Launch = refl
-reply_word_stands told.Signal = refl
-reply_word_stands told.Refused = refl
+reply_word_stands _ = refl
 
 pub ids_laws : IsFormat ids
 unfolding ids

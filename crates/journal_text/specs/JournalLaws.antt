@@ -6,6 +6,7 @@ use Rattle.std.proofs.lemmas.Bool.Decides.{nat_tests}
 use Rattle.std.proofs.lemmas.Option.{none-some, same_Some, cond_some}
 use Rattle.drmaa_model.specs.declared.configs.Config.{Config}
 use Rattle.drmaa_model.specs.declared.entries.Entry.{Entry}
+use Rattle.drmaa_model.specs.RowLaws.{all-push}
 use Rattle.text_codec.specs.Lexical.{IsClean}
 use Rattle.text_codec.specs.Formats.{strip, number, pair, list_of, behind, checked, read_line}
 use Rattle.text_codec.specs.Quotes.{text}
@@ -55,10 +56,6 @@ lines_more n (x ∷ xs) e =
     let here : n + 1 + length xs ≡ n + length (x ∷ xs) = omega arith in
     ap (λ ls. entry.spell (n, x) ∷ ls) (lines_more (n + 1) xs e ∙ ap (λ k. entry_lines (n + 1) xs ++ entry.spell (k, e) ∷ []) here)
 
-each_more : (es : List Entry) (e : Entry) → AllByRecursion IsEntry es → IsEntry e → AllByRecursion IsEntry (es ++ e ∷ [])
-each_more [] e h v = (v, tt)
-each_more (x ∷ xs) e h v = (h.0, each_more xs e h.1 v)
-
 same_number : (n m : ℕ) → (n == m) ≡ true → n ≡ m
 same_number n m e = grind (arith, nat_tests)
 
@@ -103,7 +100,7 @@ going_more ls l t c es s g = chosen (strip (codes "end ") l) _ _ _ g
     let small = entry_number p.0 p.1 h.0 in
     subst (Behind (ls ++ l ∷ [])) k.1 (record {
       config = s.config;
-      each = each_more es p.1 s.each (entry_is p.0 p.1 h.0);
+      each = all-push IsEntry es p.1 s.each (entry_is p.0 p.1 h.0);
       few = omega (arith, small, number, length-append es (p.1 ∷ []));
       first = s.first;
       version = s.version;

@@ -11,7 +11,7 @@ use Rattle.drmaa_model.specs.declared.entries.Entry.{Entry}
 use Rattle.drmaa_model.specs.KeptCalls.{kept, kept_template, kept_limit}
 use Rattle.job_template.specs.declared.templates.JobTemplate.{JobTemplate}
 use Rattle.job_template.specs.declared.templates.ResourceLimit.{ResourceLimit}
-use Rattle.text_codec.specs.Formats.{pair, mapped, checked, number, first_spelled}
+use Rattle.text_codec.specs.Formats.{pair, mapped, checked, first_spelled}
 use Rattle.text_codec.specs.Fields.{field, flag, repeated, in_braces, joined}
 use Rattle.text_codec.specs.Sums.{sum_of}
 use Rattle.text_codec.specs.Words.{capitals}
@@ -27,44 +27,9 @@ use Rattle.journal_text.specs.Printing.{any_entry, IsRanged, MayStand, IsPrintab
 -- a call is spelled alike whatever attributes its template has
 pub same_text : (c : Call) → (call_form any_template any_frame c).text ≡ (call_form template frame c).text
 unfolding template frame checked running bulk requested pair
-same_text (call.CreateJobSession name) = refl
-same_text (call.CreateReservationSession name) = refl
-same_text (call.OpenJobSession name) = refl
-same_text (call.OpenReservationSession name) = refl
-same_text (call.DestroyJobSession name) = refl
-same_text (call.DestroyReservationSession name) = refl
-same_text call.JobSessionNames = refl
-same_text call.ReservationSessionNames = refl
-same_text call.OpenMonitoring = refl
-same_text (call.CloseSession session) = refl
-same_text (call.RunJob session t) = refl
-same_text (call.RunBulk session t listed) = refl
-same_text (call.GetJobs session filter) = refl
-same_text (call.GetJobArray session array) = refl
 same_text (call.Control session (target.Job job) what) = refl
-same_text (call.Control session (target.Array array) what) = refl
 same_text (call.Reap session (target.Job job)) = refl
-same_text (call.Reap session (target.Array array)) = refl
-same_text (call.GetState session job) = refl
-same_text (call.GetInfo session job) = refl
-same_text (call.Wait session jobs kind begun lasts) = refl
-same_text (call.RequestReservation session t) = refl
-same_text (call.GetReservation session number) = refl
-same_text (call.GetReservations session) = refl
-same_text (call.EndReservation session number) = refl
-same_text (call.AllJobs session filter) = refl
-same_text (call.AllReservations session) = refl
-same_text (call.AllQueues session) = refl
-same_text (call.AllMachines session) = refl
-same_text call.Register = refl
-same_text call.TakeLaunch = refl
-same_text (call.Started job attempt) = refl
-same_text (call.StartFailed job attempt) = refl
-same_text (call.Exited job attempt how) = refl
-same_text (call.ExitUnknown job attempt) = refl
-same_text call.TakeSignal = refl
-same_text (call.SignalDone job attempt kind) = refl
-same_text (call.SignalFailed job attempt kind) = refl
+same_text _ = refl
 
 pub same_entry : (n : ℕ) (e : Entry) → any_entry.spell (n, e) ≡ entry.spell (n, e)
 unfolding any_entry entry entry_with mapped pair answered joined calls calls_with sum_of
@@ -73,44 +38,12 @@ same_entry n e = ap (λ (t : List ℕ). stamp.spell (n, (e.caller, e.at)) ++ 32 
 -- and it is one of a journal where those attributes are
 more_valid : (c : Call) → has_others c ≡ true → (call_form any_template any_frame c).valid → (call_form template frame c).valid
 unfolding template frame checked running bulk requested pair
-more_valid (call.CreateJobSession name) h v = v
-more_valid (call.CreateReservationSession name) h v = v
-more_valid (call.OpenJobSession name) h v = v
-more_valid (call.OpenReservationSession name) h v = v
-more_valid (call.DestroyJobSession name) h v = v
-more_valid (call.DestroyReservationSession name) h v = v
-more_valid call.JobSessionNames h v = v
-more_valid call.ReservationSessionNames h v = v
-more_valid call.OpenMonitoring h v = v
-more_valid (call.CloseSession session) h v = v
 more_valid (call.RunJob session t) h v = (v.0, (v.1, h))
 more_valid (call.RunBulk session t listed) h v = (v.0, ((v.1.0, h), v.1.1))
-more_valid (call.GetJobs session filter) h v = v
-more_valid (call.GetJobArray session array) h v = v
 more_valid (call.Control session (target.Job job) what) h v = v
-more_valid (call.Control session (target.Array array) what) h v = v
 more_valid (call.Reap session (target.Job job)) h v = v
-more_valid (call.Reap session (target.Array array)) h v = v
-more_valid (call.GetState session job) h v = v
-more_valid (call.GetInfo session job) h v = v
-more_valid (call.Wait session jobs kind begun lasts) h v = v
 more_valid (call.RequestReservation session t) h v = (v.0, (v.1, h))
-more_valid (call.GetReservation session number) h v = v
-more_valid (call.GetReservations session) h v = v
-more_valid (call.EndReservation session number) h v = v
-more_valid (call.AllJobs session filter) h v = v
-more_valid (call.AllReservations session) h v = v
-more_valid (call.AllQueues session) h v = v
-more_valid (call.AllMachines session) h v = v
-more_valid call.Register h v = v
-more_valid call.TakeLaunch h v = v
-more_valid (call.Started job attempt) h v = v
-more_valid (call.StartFailed job attempt) h v = v
-more_valid (call.Exited job attempt how) h v = v
-more_valid (call.ExitUnknown job attempt) h v = v
-more_valid call.TakeSignal h v = v
-more_valid (call.SignalDone job attempt kind) h v = v
-more_valid (call.SignalFailed job attempt kind) h v = v
+more_valid _ h v = v
 
 pub is_entry : (e : Entry) → IsRanged e → MayStand e → IsEntry e
 unfolding calls calls_with replies reply_sum sum_of
@@ -178,44 +111,9 @@ template_kept t v =
 
 call_kept : (c : Call) → (call_form template frame c).valid → kept c ≡ c
 unfolding running bulk pair
-call_kept (call.CreateJobSession name) v = refl
-call_kept (call.CreateReservationSession name) v = refl
-call_kept (call.OpenJobSession name) v = refl
-call_kept (call.OpenReservationSession name) v = refl
-call_kept (call.DestroyJobSession name) v = refl
-call_kept (call.DestroyReservationSession name) v = refl
-call_kept call.JobSessionNames v = refl
-call_kept call.ReservationSessionNames v = refl
-call_kept call.OpenMonitoring v = refl
-call_kept (call.CloseSession session) v = refl
 call_kept (call.RunJob session t) v = ap (λ k. call.RunJob session k) (template_kept t v.1)
 call_kept (call.RunBulk session t listed) v = ap (λ k. call.RunBulk session k listed) (template_kept t v.1.0)
-call_kept (call.GetJobs session filter) v = refl
-call_kept (call.GetJobArray session array) v = refl
-call_kept (call.Control session (target.Job job) what) v = refl
-call_kept (call.Control session (target.Array array) what) v = refl
-call_kept (call.Reap session (target.Job job)) v = refl
-call_kept (call.Reap session (target.Array array)) v = refl
-call_kept (call.GetState session job) v = refl
-call_kept (call.GetInfo session job) v = refl
-call_kept (call.Wait session jobs kind begun lasts) v = refl
-call_kept (call.RequestReservation session t) v = refl
-call_kept (call.GetReservation session number) v = refl
-call_kept (call.GetReservations session) v = refl
-call_kept (call.EndReservation session number) v = refl
-call_kept (call.AllJobs session filter) v = refl
-call_kept (call.AllReservations session) v = refl
-call_kept (call.AllQueues session) v = refl
-call_kept (call.AllMachines session) v = refl
-call_kept call.Register v = refl
-call_kept call.TakeLaunch v = refl
-call_kept (call.Started job attempt) v = refl
-call_kept (call.StartFailed job attempt) v = refl
-call_kept (call.Exited job attempt how) v = refl
-call_kept (call.ExitUnknown job attempt) v = refl
-call_kept call.TakeSignal v = refl
-call_kept (call.SignalDone job attempt kind) v = refl
-call_kept (call.SignalFailed job attempt kind) v = refl
+call_kept _ v = refl
 
 pub entries_kept : (es : List Entry) → AllByRecursion IsEntry es → AllByRecursion (λ e. kept e.call ≡ e.call) es
 unfolding calls calls_with sum_of

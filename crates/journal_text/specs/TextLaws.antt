@@ -13,7 +13,7 @@ use Rattle.drmaa_model.specs.declared.entries.Entry.{Entry}
 use Rattle.drmaa_model.specs.declared.replies.Reply.{Reply}
 use Rattle.drmaa_model.specs.declared.replies.Reply.TheVariants as reply
 use Rattle.text_codec.specs.Lexical.{IsClean}
-use Rattle.text_codec.specs.Formats.{IsFormat, number, pair, mapped, behind, checked}
+use Rattle.text_codec.specs.Formats.{number, pair, mapped, behind, checked}
 use Rattle.text_codec.specs.Fields.{joined}
 use Rattle.text_codec.specs.FormatLaws.{pair_laws}
 use Rattle.text_codec.specs.CleanLaws.{clean_both, clean_behind, plain_clean}
@@ -22,15 +22,13 @@ use Rattle.text_codec.specs.SumLaws.{keyed_stands}
 use Rattle.text_codec.specs.declared.call_words.CallWord.TheVariants as word
 use Rattle.text_codec.specs.declared.call_words.TheConstants.{CALL_WORDS}
 use Rattle.text_codec.specs.CallWords.{call_word}
-use Rattle.text_codec.specs.Numbers.{session_id}
-use Rattle.text_codec.specs.NumberLaws.{session_id_laws}
 use Rattle.text_codec.specs.ValueWords.{limit_form}
 use Rattle.text_forms.specs.Refusals.{refusals, refusal_sum, may_stand}
 use Rattle.text_forms.specs.Templates.{any_template, any_frame}
 use Rattle.text_forms.specs.TemplateLaws.{any_template_laws, any_frame_laws}
 use Rattle.text_lines.specs.LineLaws.{ended_utf8}
-use Rattle.journal_forms.specs.Calls.{indices, running, bulk, requested, call_form, call_arms, barred, calls_with, calls}
-use Rattle.journal_forms.specs.CallLaws.{indices_laws, calls_laws}
+use Rattle.journal_forms.specs.Calls.{running, bulk, requested, call_form, call_arms, barred, calls_with, calls}
+use Rattle.journal_forms.specs.CallLaws.{running_laws, bulk_laws, requested_laws, calls_laws}
 use Rattle.journal_forms.specs.Replies.{reply_form, reply_sum, replies, may_answer}
 use Rattle.journal_forms.specs.ReplyLaws.{replies_laws}
 use Rattle.journal_text.specs.Journals.{machine, title, title_of, header, stamp, answered, entry_with, entry, closing, entry_lines, journal_lines, journal_text}
@@ -49,27 +47,13 @@ title_clean c v =
     ((pair_laws machine queues machine_laws queues_laws).clean (title_of c) v)
 
 -- a call, whatever attributes its template has under `other`
-running_laws : IsFormat (running any_template)
-unfolding running
-running_laws = pair_laws session_id any_template session_id_laws any_template_laws
-
-bulk_laws : IsFormat (bulk any_template)
-unfolding bulk
-bulk_laws = pair_laws session_id _ session_id_laws (pair_laws any_template indices any_template_laws indices_laws)
-
-requested_laws : IsFormat (requested any_frame)
-unfolding requested
-requested_laws = pair_laws session_id any_frame session_id_laws any_frame_laws
-
 pub call_clean : (c : Call) → (call_form any_template any_frame c).valid → IsClean (call_form any_template any_frame c).text
 unfolding calls calls_with sum_of
-call_clean (call.RunJob session t) v = (keyed_stands call_word CALL_WORDS (call_arms any_template any_frame) barred word.Run (running any_template) (λ p. call.RunJob p.0 p.1) running_laws (session, t) refl refl (λ bs. refl)).clean v
-call_clean (call.RunBulk session t listed) v = (keyed_stands call_word CALL_WORDS (call_arms any_template any_frame) barred word.Bulk (bulk any_template) (λ p. call.RunBulk p.0 p.1.0 p.1.1) bulk_laws (session, (t, listed)) refl refl (λ bs. refl)).clean v
-call_clean (call.RequestReservation session t) v = (keyed_stands call_word CALL_WORDS (call_arms any_template any_frame) barred word.Reserve (requested any_frame) (λ p. call.RequestReservation p.0 p.1) requested_laws (session, t) refl refl (λ bs. refl)).clean v
+call_clean (call.RunJob session t) v = (keyed_stands call_word CALL_WORDS (call_arms any_template any_frame) barred word.Run (running any_template) (λ p. call.RunJob p.0 p.1) (running_laws any_template any_template_laws) (session, t) refl refl (λ bs. refl)).clean v
+call_clean (call.RunBulk session t listed) v = (keyed_stands call_word CALL_WORDS (call_arms any_template any_frame) barred word.Bulk (bulk any_template) (λ p. call.RunBulk p.0 p.1.0 p.1.1) (bulk_laws any_template any_template_laws) (session, (t, listed)) refl refl (λ bs. refl)).clean v
+call_clean (call.RequestReservation session t) v = (keyed_stands call_word CALL_WORDS (call_arms any_template any_frame) barred word.Reserve (requested any_frame) (λ p. call.RequestReservation p.0 p.1) (requested_laws any_frame any_frame_laws) (session, t) refl refl (λ bs. refl)).clean v
 call_clean (call.Control session (target.Job job) what) v = calls_laws.clean (call.Control session (target.Job job) what) v
-call_clean (call.Control session (target.Array array) what) v = calls_laws.clean (call.Control session (target.Array array) what) v
 call_clean (call.Reap session (target.Job job)) v = calls_laws.clean (call.Reap session (target.Job job)) v
-call_clean (call.Reap session (target.Array array)) v = calls_laws.clean (call.Reap session (target.Array array)) v
 call_clean c v = calls_laws.clean c v
 
 -- a reply, and a refusal that no journal has

@@ -1,4 +1,4 @@
--- An operation of the core, after the limit was found.
+-- An operation of the core, after its occasion was found.
 use Rattle.std.proofs.Common.{◌≡◌, ℕ, ◌+◌, ◌<◌, ◌≤◌, true, refl, sym, ◌∙◌, ap, subst, arith}
 use Rattle.std.specs.Prelude.{Result, Ok, Err, IfErr, OnOk, vec_len, vec_capacity}
 use Rattle.drmaa_types.specs.declared.refusals.Refusal.{Refusal}
@@ -14,6 +14,8 @@ use Rattle.drmaa_model.specs.Operation.Meets.{served, full, short}
 use Rattle.drmaa_model.specs.Plan.{Plan}
 use Rattle.drmaa_model.specs.Time.{advance_plan}
 use Rattle.drmaa_model.specs.World.{World}
+use Rattle.plan_book.specs.declared.occasions.Occasion.{Occasion}
+use Rattle.plan_book.specs.Occasions.{plan_at, MeetsAt}
 use Rattle.scheduler_core.specs.Facts.{reports_to_come}
 use Rattle.machine_readings.specs.declared.store.Store.{Store}
 use Rattle.machine_readings.specs.Stores.{world_of, world_at}
@@ -22,6 +24,18 @@ use Rattle.machine_calls.specs.Serving.{Comes, Concludes, HasPlace, is_sized_fir
 use Rattle.machine_calls.proofs.Dues.{advance-due}
 use Rattle.machine_calls.proofs.Sizes.{Planned, short-of}
 use Rattle.machine_calls.proofs.Through.{IsThrough, op-comes, op-comes-sized, op-remembers, op-due, op-place}
+
+-- an operation of the core on the occasion of an entry of this number, at this moment
+module _ {A : Type 0} (op : Operation A) (o : Occasion) {at entry : ℕ} (then : o.at ≡ at) (number : o.entry ≡ entry) where
+  pub met-on : {p new : Plan} {done : Result A Refusal} → MeetsAt o op p done new → Meets (outcome op entry (advance_plan entry at p)) p entry o.limit done new
+  met-on {p} {new} {done} met =
+      subst (λ (m : ℕ). Meets (outcome op entry (advance_plan entry m p)) p entry o.limit done new) then
+      (subst (λ (n : ℕ). Meets (outcome op n (advance_plan n o.at p)) p n o.limit done new) number met)
+
+  pub within-on : (p : Plan) → size_at o.entry (outcome op o.entry (plan_at o p)).plan ≤ o.limit → size_at entry (outcome op entry (advance_plan entry at p)).plan ≤ o.limit
+  within-on p within =
+      subst (λ (m : ℕ). size_at entry (outcome op entry (advance_plan entry m p)).plan ≤ o.limit) then
+      (subst (λ (n : ℕ). size_at n (outcome op n (advance_plan n o.at p)).plan ≤ o.limit) number within)
 
 -- what is served is no want of memory
 served-other : {A : Type 0} (o : Outcome A) (entry limit : ℕ) (done : Result A Refusal) (new : Plan) → IsServed o entry limit done new → done ≡ Err OutOfMemory → ⊥

@@ -13,6 +13,7 @@ use crate::replies::Replies;
 use drmaa_model::{Launch, NoEntry, Reply};
 use drmaa_types::Moment;
 use machine_readings::Store;
+use plan_book::Occasion;
 
 /// What a launch adds to the journal's size beside its entry: the change of its job, and three more that are promised to it.
 const ADDED: u32 = 4;
@@ -57,7 +58,7 @@ fn hand_out(store: &mut Store, at: Moment, next: Launch) -> Result<Replies, NoEn
 {
     let entry = store.entries + 1;
     let limit = store.config.journal;
-    match store.core.take_launch(at, entry, limit) {
+    match store.core.take_launch(Occasion { at, entry, limit }) {
         Ok(Some(told)) => {
             store.entries = entry;
             Ok(Replies {

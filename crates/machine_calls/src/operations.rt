@@ -6,7 +6,7 @@ ghost use Rattle.machine_readings.specs.Stores.{world_of, IsKept};
 ghost use Rattle.machine_calls.specs.Serving.{Comes, Keeps, HasPlace, spare_of, left_of};
 
 use crate::concludes::conclude;
-use crate::places::limit_for;
+use crate::places::occasion_for;
 use crate::replies::Replies;
 use crate::settles::refuse;
 use drmaa_model::{NoEntry, Target};
@@ -29,9 +29,8 @@ pub fn reap(
     match store.reap_refusal(at, session, &target) {
         Some(why) => refuse(store, at, &why),
         None => {
-            let limit = limit_for(store);
-            let entry = store.entries + 1;
-            let done = store.core.reap(at, entry, limit, target);
+            let occasion = occasion_for(store, at);
+            let done = store.core.reap(occasion, target);
             conclude(store, done)
         }
     }
@@ -57,9 +56,8 @@ pub fn control(
     match store.control_refusal(at, session, &target, what) {
         Some(why) => refuse(store, at, &why),
         None => {
-            let limit = limit_for(store);
-            let entry = store.entries + 1;
-            let done = store.core.control(at, entry, limit, target, what);
+            let occasion = occasion_for(store, at);
+            let done = store.core.control(occasion, target, what);
             conclude(store, done)
         }
     }
@@ -81,9 +79,8 @@ pub fn end_reservation(
     match store.reservation_refusal(at, session, number) {
         Some(why) => refuse(store, at, &why),
         None => {
-            let limit = limit_for(store);
-            let entry = store.entries + 1;
-            let done = store.core.end_reservation(at, entry, limit, number);
+            let occasion = occasion_for(store, at);
+            let done = store.core.end_reservation(occasion, number);
             conclude(store, done)
         }
     }

@@ -1,4 +1,4 @@
-//! The journal's room and the memory for entries, and the limit that an operation of the core is given.
+//! The journal's room and the memory for entries, and the occasion of an operation of the core.
 ghost use Rattle.std.specs.Prelude.{◌≡◌, ◌≢◌, ◌+◌, ◌<◌, ◌≤◌, OnOk, IsOk, IfErr};
 ghost use Rattle.drmaa_model.specs.Size.{weight};
 ghost use Rattle.machine_readings.specs.Stores.{world_of, IsKept};
@@ -6,8 +6,9 @@ ghost use Rattle.machine_calls.specs.Serving.{Keeps, HasPlace, places, spare_of,
 
 use crate::replies::Replies;
 use drmaa_model::NoEntry;
-use drmaa_types::{Limit, Refusal};
+use drmaa_types::{Limit, Moment, Refusal};
 use machine_readings::Store;
+use plan_book::Occasion;
 use std::alloc::AllocError;
 
 /// Takes the memory for an entry, and for so many more that reports will make.
@@ -24,23 +25,32 @@ fn make_place(store: &mut Store, more: u32) -> Result<(), AllocError>
     store.history.reserve(wanted)
 }
 
-/// The limit of the journal, once there is memory for an entry; 0 where there is none, so that an operation with this limit
-/// tells its size and changes nothing.
-pub fn limit_for(store: &mut Store) -> u64
+/// The occasion of the next entry at this moment. Its limit is the journal's, once there is memory for an entry; 0 where there is
+/// none, so that an operation on this occasion tells its size and changes nothing.
+pub fn occasion_for(store: &mut Store, at: Moment) -> Occasion
     requires kept { IsKept store.old }
     ensures world { world_of store.new ≡ world_of store.old }
     ensures core { store.new.core ≡ store.old.core }
     ensures keeps { Keeps store.old store.new }
     ensures spare { spare_of store.old ≤ spare_of store.new }
-    ensures placed { 0 < result → result ≡ store.old.config.journal }
-    ensures place { 0 < result → HasPlace 1 store.new }
-    ensures small { result ≤ 4_000_000 }
-    ensures succeeds { 1 ≤ places store.old → result ≡ store.old.config.journal }
+    ensures at { result.at ≡ at }
+    ensures entry { result.entry ≡ store.new.entries + 1 }
+    ensures placed { 0 < result.limit → result.limit ≡ store.old.config.journal }
+    ensures place { 0 < result.limit → HasPlace 1 store.new }
+    ensures succeeds { 1 ≤ places store.old → result.limit ≡ store.old.config.journal }
 {
-    if make_place(store, 0).is_err() {
-        return 0;
+    match make_place(store, 0) {
+        Ok(()) => Occasion {
+            at,
+            entry: store.entries + 1,
+            limit: store.config.journal,
+        },
+        Err(_) => Occasion {
+            at,
+            entry: store.entries + 1,
+            limit: 0,
+        },
     }
-    store.config.journal
 }
 
 /// Takes the memory for an entry, and for so many more that reports will make, where the journal has room for the entry and for

@@ -9,11 +9,12 @@ ghost use Rattle.machine_calls.specs.Reports.{call_of, has_course, is_promised};
 ghost use Rattle.machine_calls.specs.Serving.{Comes, Keeps, HasPlace, spare_of, left_of};
 
 use crate::concludes::conclude;
-use crate::places::limit_for;
+use crate::places::occasion_for;
 use crate::replies::Replies;
 use drmaa_model::{NoEntry, Phase, Report};
 use drmaa_types::{JobId, Moment};
 use machine_readings::Store;
+use plan_book::Occasion;
 use scheduler_core::RowFacts;
 
 /// Takes a report of launcher or reaper. One of a start or of an end that may come of its job always makes its entry: the room
@@ -44,9 +45,9 @@ fn take_promised(store: &mut Store, at: Moment, report: Report) -> Result<Replie
     ensures taken { IsOk result }
     ensures spare { spare_of store.old ≤ left_of store.new }
 {
-    let limit = store.config.journal;
     let entry = store.entries + 1;
-    let done = store.core.report(at, entry, limit, report);
+    let limit = store.config.journal;
+    let done = store.core.report(Occasion { at, entry, limit }, report);
     conclude(store, done)
 }
 
@@ -57,9 +58,8 @@ fn take_other(store: &mut Store, at: Moment, report: Report) -> Result<Replies, 
     ensures place { OnOk result (HasPlace 1 store.new) }
     ensures spare { spare_of store.old ≤ spare_of store.new }
 {
-    let limit = limit_for(store);
-    let entry = store.entries + 1;
-    let done = store.core.report(at, entry, limit, report);
+    let occasion = occasion_for(store, at);
+    let done = store.core.report(occasion, report);
     conclude(store, done)
 }
 

@@ -14,6 +14,7 @@ use crate::replies::Replies;
 use drmaa_model::{NoEntry, Signal};
 use drmaa_types::Moment;
 use machine_readings::Store;
+use plan_book::Occasion;
 
 /// Hands out the signal that is next: the first in order of asking that was not handed out and whose job has a process.
 ///
@@ -52,7 +53,7 @@ fn hand_out(store: &mut Store, at: Moment, next: Signal) -> Replies
 {
     let entry = store.entries + 1;
     let limit = store.config.journal;
-    let _ = store.core.take_signal(at, entry, limit);
+    let _ = store.core.take_signal(Occasion { at, entry, limit });
     store.entries = entry;
     Replies::signal(next)
 }

@@ -9,13 +9,14 @@ ghost use Rattle.machine_calls.specs.Runs.{run_call};
 ghost use Rattle.machine_calls.specs.Serving.{Comes, Keeps, HasPlace, spare_of};
 
 use crate::concludes::{conclude_reserved, conclude_submitted};
-use crate::places::{hindrance, limit_for, make_room, size_with};
+use crate::places::{hindrance, make_room, occasion_for, size_with};
 use crate::replies::Replies;
 use crate::settles::refuse;
 use drmaa_model::{Indices, NoEntry};
 use drmaa_types::{Moment, SessionId};
 use job_template::{JobTemplate, ReservationTemplate};
 use machine_readings::Store;
+use plan_book::Occasion;
 
 /// Submits a job, or with indices an array of jobs. Memory is asked for before it is known whether the journal has room.
 pub fn submit(
@@ -56,9 +57,8 @@ fn submit_now(
     ensures unspent { OnErr result (spare_of store.old ≤ spare_of store.new) }
 {
     let home = home_number(store, session);
-    let limit = limit_for(store);
-    let entry = store.entries + 1;
-    let done = store.core.submit(at, entry, limit, home, template, indices);
+    let occasion = occasion_for(store, at);
+    let done = store.core.submit(occasion, home, template, indices);
     conclude_submitted(store, done)
 }
 
@@ -102,11 +102,10 @@ fn request_now(
     let home = home_number(store, session);
     match make_room(store, 0, 0) {
         Ok(()) => {
-            let limit = store.config.journal;
             let entry = store.entries + 1;
-            let done = store
-                .core
-                .request_reservation(at, entry, limit, home, template);
+            let limit = store.config.journal;
+            let occasion = Occasion { at, entry, limit };
+            let done = store.core.request_reservation(occasion, home, template);
             conclude_reserved(store, done)
         }
         Err(why) => Err(why),

@@ -42,6 +42,17 @@ module _ {B : Type 0} {counted : B → ℕ} {told : B → Option (List Notificat
     made_is = omega arith;
   }
 
+  -- a slice that is the batch was handed over
+  pub as-batch : (old new : Listening B) (from made : ℕ) (slice batch : List Change) → slice ≡ batch → new ≡ record old { callbacks = new.callbacks; handed = old.handed ++ slice }
+      → EachHeard counted told (due from slice) old.places old.callbacks new.callbacks → (HaveHeard counted told old → HaveHeard counted told new) → made ≡ calls_for old from slice
+      → IsHanded counted told old new from batch made
+  as-batch old new from made slice batch is handed hears heard answer = subst (λ (b : List Change). IsHanded counted told old new from b made) is (record {
+    handed = handed;
+    hears = hears;
+    heard = heard;
+    answer = answer;
+  })
+
   -- the calls that were made in all
   calls-handed : (old new : Listening B) (from made : ℕ) (batch : List Change) → IsHanded counted told old new from batch made → from ≡ length old.handed → calls_made new ≡ calls_made old + made
   calls-handed old new from made batch h is =

@@ -1,5 +1,6 @@
 -- What a Register that a client makes comes to.
 use Rattle.std.proofs.Common.{◌≡◌, ℕ, ◌<◌, ◌≤◌, inl, inr, List, [], ◌∷◌, ◌++◌, length, refl, sym, ap, ◌∙◌, subst, arith, Some, Result, Ok, Err, IfOk, IfErr, IfSome}
+use Rattle.std.proofs.lemmas.Result.{IfOk-weaker}
 use Rattle.drmaa_types.specs.declared.refusals.Refusal.{Refusal}
 use Rattle.drmaa_model.specs.AnswerLaws.{answer-cases, reply-kind}
 use Rattle.drmaa_model.specs.declared.calls.Call.TheVariants as call
@@ -89,13 +90,9 @@ pub registers-new : (config : Config) (before after : Dial) (old new : Seat) (n 
 registers-new config before after old new n legal s =
     new-of config (seen_of old) (seen_of new) (entry_by (number_of old) s.at call.Register (reply.Callback n)) n (ends config before after old new (reply.Callback n) s legal) refl
 
-if_ok : {A E : Type 0} (r : Result A E) (P Q : A → Type 0) → IfOk r P → ((a : A) → P a → Q a) → IfOk r Q
-if_ok (Ok a) P Q h f = f a h
-if_ok (Err e) P Q h f = tt
-
 pub told-new : (config : Config) (before after : Dial) (old new : Seat) (r : Result (ℕ × ℕ) Refusal) → IsLegal config (seen_of new)
     → IfOk r (λ t. IsServed before old call.Register (reply.Callback t.1) after new) → IfOk r (λ t. IsNew config (seen_of old) t.1 (seen_of new))
-told-new config before after old new r legal h = if_ok r _ _ h (λ t s. registers-new config before after old new t.1 legal s)
+told-new config before after old new r legal h = IfOk-weaker r _ _ (λ t s. registers-new config before after old new t.1 legal s) h
 
 -- ---- a Register that registers nothing
 

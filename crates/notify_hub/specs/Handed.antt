@@ -1,16 +1,13 @@
 -- What was handed over so far: our profile.
-use Rattle.std.specs.Prelude.{ℕ, ◌+◌, List, [], ◌++◌}
+use Rattle.std.specs.Prelude.{ℕ, ◌+◌, List, [], ◌∷◌, ◌++◌, Option, Some, None}
 use Rattle.drmaa_types.specs.declared.changes.Change.{Change}
 
--- in how many batches the changes came, and the changes
-pub record Batches : Type 0 where
+-- how many changes, and the changes
+pub record HandedOver : Type 0 where
   pub count : ℕ
   pub changes : List Change
 
--- before the first batch
-abbrev pub no_batch : Batches
-no_batch = record { count = 0; changes = [] }
-
--- one batch more
-abbrev pub with_batch : Batches → List Change → Batches
-with_batch batches batch = record { count = batches.count + 1; changes = batches.changes ++ batch }
+-- nothing where nothing stands before, and else one change more
+abbrev pub one_more : Option HandedOver → Change → HandedOver
+one_more None change = record { count = 0; changes = [] }
+one_more (Some before) change = record { count = before.count + 1; changes = before.changes ++ change ∷ [] }

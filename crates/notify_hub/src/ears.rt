@@ -9,7 +9,7 @@ ghost use Rattle.notify_hub.specs.Places.{changes_of, HaveHeardAll};
 use crate::handed::Handed;
 use crate::handing::tell_all;
 use crate::{Callback, Callbacks};
-use drmaa_types::ChangeBatch;
+use drmaa_types::Change;
 use std::alloc::Global;
 use std::marker::Model;
 use std::snapshot::Snapshot;
@@ -95,18 +95,19 @@ impl<B: Callback> Ears<B> {
         self.places.iter().any(|place| place.is_some())
     }
 
-    /// Hands over a batch of changes, of which the first has the place `from`, the number of changes
+    /// Hands over at most 64 changes, of which the first has the place `from`, the number of changes
     /// handed over so far. Each placed callback hears those that stand at its place or later, in
     /// order. Answers the number of calls. It takes no memory.
-    pub fn hand(&mut self, from: u64, batch: &ChangeBatch) -> u64
-        requires { from ≡ length self.old.handed }
-        ensures handed { self.new ≡ record self.old { callbacks = self.new.callbacks; handed = self.old.handed ++ batch.now } }
-        ensures hears { EachHeard B.counted B.told (due from batch.now) self.old.places self.old.callbacks self.new.callbacks }
+    pub fn hand(&mut self, from: u64, changes: &[Change]) -> u64
+        requires from { from ≡ length self.old.handed }
+        requires few { length changes.now ≤ 64 }
+        ensures handed { self.new ≡ record self.old { callbacks = self.new.callbacks; handed = self.old.handed ++ changes.now } }
+        ensures hears { EachHeard B.counted B.told (due from changes.now) self.old.places self.old.callbacks self.new.callbacks }
         ensures heard { HaveHeard B.counted B.told self.old → HaveHeard B.counted B.told self.new }
-        ensures answer { result ≡ calls_for self.old from batch.now }
+        ensures answer { result ≡ calls_for self.old from changes.now }
     {
-        let calls = tell_all(&mut self.callbacks, &self.places, from, batch.as_slice());
-        self.handed = self.handed.followed_by(batch);
+        let calls = tell_all(&mut self.callbacks, &self.places, from, changes);
+        self.handed.follow(changes);
         calls
     }
 

@@ -1,26 +1,26 @@
-//! What was handed over so far, known to contracts alone: it has no bytes.
-ghost use Rattle.std.specs.Prelude.{◌≡◌, [], ◌++◌};
+//! What was handed over so far, known to contracts alone.
+ghost use Rattle.std.specs.Prelude.{◌≡◌, [], ◌∷◌, ◌++◌};
 
-use drmaa_types::ChangeBatch;
+use drmaa_types::Change;
 use std::marker::Model;
 use std::snapshot::Snapshot;
 
-/// The changes handed over so far: those before the last batch, and that batch.
+/// The changes handed over so far: those before the last one, and that one. Nothing was handed over where there are none before.
 #[derive(Drop)]
 pub(crate) struct Handed {
     before: Option<Snapshot<Handed>>,
-    batch: Snapshot<ChangeBatch>,
+    last: Snapshot<Change>,
 }
 
 impl Model for Handed {
-    ghost use Rattle.std.specs.Prelude.{unwrap_or, option_map};
-    ghost use Rattle.notify_hub.specs.Handed.{Batches, no_batch, with_batch};
+    ghost use Rattle.std.specs.Option.{option_map};
+    ghost use Rattle.notify_hub.specs.Handed.{HandedOver, one_more};
 
-    ghost Value = { Batches };
+    ghost Value = { HandedOver };
 
-    ghost view = { λ h. with_batch (unwrap_or (option_map (λ b. b.value) h.before) no_batch) h.batch.value };
+    ghost view = { λ h. one_more (option_map (λ b. b.value) h.before) h.last.value };
 
-    ghost size = { λ batches. batches.count };
+    ghost size = { λ over. over.count };
 }
 
 impl Handed {
@@ -30,17 +30,26 @@ impl Handed {
     {
         Handed {
             before: None,
-            batch: Snapshot::of(&ChangeBatch::new()),
+            last: Snapshot::of(&Change::default()),
         }
     }
 
-    /// These changes, and a batch after them.
-    pub(crate) fn followed_by(&self, batch: &ChangeBatch) -> Handed
-        ensures { result.changes ≡ self.now.changes ++ batch.now }
+    /// These changes, and one after them.
+    fn with(&self, change: &Change) -> Handed
+        ensures { result.changes ≡ self.now.changes ++ change.now ∷ [] }
     {
         Handed {
             before: Some(Snapshot::of(self)),
-            batch: Snapshot::of(batch),
+            last: Snapshot::of(change),
+        }
+    }
+
+    /// Further changes were handed over.
+    pub(crate) fn follow(&mut self, changes: &[Change])
+        ensures { self.new.changes ≡ self.old.changes ++ changes.now }
+    {
+        for change in changes {
+            *self = self.with(change);
         }
     }
 }

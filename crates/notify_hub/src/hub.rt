@@ -224,11 +224,12 @@ fn hand_all<R: Wait, C: Clock, B: Callback>(
     let mut calls: u64 = 0;
     for _ in rt.forever() {
         let batch = changes_from(rt, shared, client, clock, handed);
-        let count = batch.as_slice().len() as u64;
+        let changes = batch.as_slice();
+        let count = changes.len() as u64;
         let Some(next) = handed.checked_add(count) else {
             return (handed, calls);
         };
-        calls = calls.saturating_add(ears.hand(handed, &batch));
+        calls = calls.saturating_add(ears.hand(handed, changes));
         handed = next;
         if count < LOOK {
             return (handed, calls);

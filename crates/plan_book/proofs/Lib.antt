@@ -7,7 +7,7 @@ pub mod MeantLaws
 pub mod MoveLaws
 pub mod OpenLaws
 pub mod PartLaws
-pub mod PassLaws
+pub mod LapseLaws
 pub mod QuietLaws
 pub mod RoomLaws
 pub mod Searched

@@ -24,7 +24,7 @@ use Rattle.drmaa_model.specs.TimeLaws.{expiry, timed}
 use Rattle.plan_book.specs.declared.sums.Sums.{Sums}
 use Rattle.plan_book.specs.Open.{is_over}
 use Rattle.plan_book.specs.Owed.{owes, may_ask, reports_due}
-use Rattle.plan_book.specs.Passes.{ends, kills, kills_then}
+use Rattle.plan_book.specs.Lapses.{ends, kills, kills_then}
 use Rattle.plan_book.specs.Quiet.{IsLeftUntil}
 use Rattle.plan_book.specs.Settled.{is_settled, AreSettled}
 use Rattle.plan_book.specs.Sums.{AreSums}

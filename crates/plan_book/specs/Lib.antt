@@ -6,9 +6,10 @@ pub mod GoneLaws
 pub mod Meant
 pub mod MeetLaws
 pub mod Numbers
+pub mod Occasions
 pub mod Open
 pub mod Owed
-pub mod Passes
+pub mod Lapses
 pub mod Places
 pub mod Quiet
 pub mod Settled

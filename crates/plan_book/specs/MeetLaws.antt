@@ -1,5 +1,5 @@
 -- How a refusal is met, and the same answer with another value.
-use Rattle.std.proofs.Common.{◌≡◌, ◌≢◌, ℕ, true, Some, refl, sym, ◌∙◌, ap, subst}
+use Rattle.std.proofs.Common.{◌≡◌, ◌≢◌, ◌<◌, ℕ, true, Some, refl, sym, ◌∙◌, ap, subst}
 use Rattle.std.specs.Prelude.{Result, Ok, Err}
 use Rattle.drmaa_types.specs.declared.refusals.Refusal.{Refusal}
 use Rattle.drmaa_types.specs.declared.refusals.Refusal.TheVariants.{OutOfResource, OutOfMemory}
@@ -35,6 +35,14 @@ refused-never entry limit p q new why told met = λ same.
       | refuses is answers plan within ↦ (let none : why ≡ OutOfMemory = sym is ∙ short in let not : is_answer OutOfMemory ≡ true = subst (λ (r : Refusal). is_answer r ≡ true) none answers in absurd (cc))
       | overfull is above plan ↦ absurd (cc)
     ])
+
+-- nothing changes where the journal would be too large
+pub full-meets : {A : Type 0} (o : Outcome A) (p : Plan) (entry limit size : ℕ) (why : Refusal) → limit < size → why ≡ OutOfResource (Journal size) → size ≡ size_at entry o.plan → Meets o p entry limit (Err why) p
+full-meets {A} o p entry limit size why above told same = full (record {
+  answered = ap (λ (r : Refusal). let x : Result A Refusal = Err r in x) (told ∙ ap (λ (n : ℕ). OutOfResource (Journal n)) same);
+  above = subst (λ (n : ℕ). limit < n) same above;
+  plan = refl;
+})
 
 -- the same answer with another value
 pub ok-meets : {A B : Type 0} (a x : A) (b : B) (entry limit : ℕ) (p n new : Plan) (result : Result A Refusal) → result ≡ Ok x

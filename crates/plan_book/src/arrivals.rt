@@ -1,12 +1,11 @@
 //! Jobs that come in, and ended ones that are forgotten.
-ghost use Rattle.std.specs.Prelude.{◌≡◌, ◌≢◌, ◌+◌, ◌^◌, ◌<◌, ◌≤◌, ◌&&◌, ◌++◌, not, filter, length, vec_len, vec_capacity, Ok, Err, OnOk, OnErr};
+ghost use Rattle.std.specs.Prelude.{◌≡◌, ◌≢◌, ◌+◌, ◌^◌, ◌<◌, ◌≤◌, ◌&&◌, ◌++◌, not, filter, length, vec_len, vec_capacity, Err, OnOk, OnErr};
 ghost use Rattle.drmaa_model.specs.declared.rows.Row.{Row};
 ghost use Rattle.drmaa_model.specs.Controlling.{reap, is_done};
 ghost use Rattle.drmaa_model.specs.Fit.{IsFit};
-ghost use Rattle.drmaa_model.specs.Operation.{Meets};
 ghost use Rattle.drmaa_model.specs.Targets.{is_meant};
-ghost use Rattle.drmaa_model.specs.Time.{advance_plan};
 ghost use Rattle.plan_book.specs.Book.{plan_of, HasRoom, IsKept, joined, spare, spare_rows};
+ghost use Rattle.plan_book.specs.Occasions.{plan_at, StepsAt};
 ghost use Rattle.plan_book.specs.Places.{AreInOrder};
 ghost use Rattle.plan_book.specs.Quiet.{IsQuiet};
 ghost use Rattle.plan_book.specs.Waiting.{AreWaiting};
@@ -14,13 +13,14 @@ ghost use Rattle.plan_book.specs.Waiting.{AreWaiting};
 use crate::alarms::soonest_of;
 use crate::book::Book;
 use crate::courses::lesser_end;
+use crate::occasions::Occasion;
 use crate::targets::{is_done, is_meant};
 use drmaa_model::{Row, Target};
-use drmaa_types::{Limit, Moment, Refusal};
+use drmaa_types::Refusal;
 use std::alloc::AllocError;
 
 impl Book {
-    /// Takes jobs in at a moment, where the journal and the memory have room for them. They wait, and have the next numbers;
+    /// Takes jobs in on an occasion, where the journal and the memory have room for them. They wait, and have the next numbers;
     /// `arrays` says how many array numbers they use.
     ///
     /// # Errors
@@ -28,34 +28,26 @@ impl Book {
     /// A journal that would be too large, and want of memory. Nothing has changed then.
     pub fn push_rows(
         &mut self,
-        at: Moment,
-        entry: u64,
-        limit: u64,
+        occasion: Occasion,
         rows: Vec<Row>,
         arrays: u64,
     ) -> Result<(), Refusal>
         requires kept { IsKept self.old }
-        requires entry { entry ≤ 4_000_001 }
-        requires limit { limit ≤ 4_000_000 }
         requires few { length rows.items < 2 ^ 32 }
         requires waits { AreWaiting rows.items }
         requires next_job { (plan_of self.old).next_job + length rows.items < 2 ^ 64 }
         requires next_array { (plan_of self.old).next_array + arrays < 2 ^ 64 }
-        requires fit { IsFit (joined rows.items arrays (advance_plan entry at (plan_of self.old))) }
-        ensures meets { Meets (record { answer = Ok tt; plan = joined rows.items arrays (advance_plan entry at (plan_of self.old)) })
-            (plan_of self.old) entry limit result (plan_of self.new) }
+        requires fit { IsFit (joined rows.items arrays (plan_at occasion (plan_of self.old))) }
+        ensures meets { StepsAt occasion (joined rows.items arrays) (plan_of self.old) result (plan_of self.new) }
         ensures kept { IsKept self.new }
         ensures spare { spare self.old ≤ spare self.new + length rows.items }
         ensures err { OnErr result (spare self.old ≤ spare self.new) }
     {
-        let size = entry + self.weight() + rows.len() as u64;
-        if size > limit {
-            return Err(Refusal::OutOfResource(Limit::Journal { size }));
-        }
+        occasion.admit(self.weight() + rows.len() as u64)?;
         if self.make_seats(rows.len()).is_err() {
             return Err(Refusal::OutOfMemory);
         }
-        self.advance(at, entry);
+        self.advance(occasion.at, occasion.entry);
         self.put_rows(rows, arrays);
         Ok(())
     }
@@ -97,32 +89,20 @@ impl Book {
         self.rows.append_rows(rows);
     }
 
-    /// Forgets the ended ones of the jobs that are meant, at a moment, where the journal has room for that. It takes no memory.
+    /// Forgets the ended ones of the jobs that are meant, on an occasion, where the journal has room for that. It takes no memory.
     ///
     /// # Errors
     ///
     /// A journal that would be too large. Nothing has changed then.
-    pub fn drop_rows(
-        &mut self,
-        at: Moment,
-        entry: u64,
-        limit: u64,
-        target: &Target,
-    ) -> Result<(), Refusal>
+    pub fn drop_rows(&mut self, occasion: Occasion, target: &Target) -> Result<(), Refusal>
         requires kept { IsKept self.old }
-        requires entry { entry ≤ 4_000_001 }
-        requires limit { limit ≤ 4_000_000 }
-        ensures meets { Meets (record { answer = Ok tt; plan = (reap target.now).effect entry (advance_plan entry at (plan_of self.old)) })
-            (plan_of self.old) entry limit result (plan_of self.new) }
+        ensures meets { StepsAt occasion ((reap target.now).effect occasion.entry) (plan_of self.old) result (plan_of self.new) }
         ensures kept { IsKept self.new }
         ensures spare { spare self.new ≡ spare self.old }
         ensures memory { result ≢ Err Refusal.OutOfMemory }
     {
-        let size = entry + self.weight();
-        if size > limit {
-            return Err(Refusal::OutOfResource(Limit::Journal { size }));
-        }
-        self.advance(at, entry);
+        occasion.admit(self.weight())?;
+        self.advance(occasion.at, occasion.entry);
         self.rows.drop_done(target);
         Ok(())
     }

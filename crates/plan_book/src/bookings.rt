@@ -1,57 +1,45 @@
 //! Reservations that come and go, each with its booking in the calendar.
-ghost use Rattle.std.specs.Prelude.{◌≡◌, ◌≢◌, ◌+◌, ◌^◌, ◌<◌, ◌≤◌, ◌++◌, ◌∷◌, [], filter, Ok, Err, OnOk, OnErr, IfErr};
+ghost use Rattle.std.specs.Prelude.{◌≡◌, ◌≢◌, ◌+◌, ◌^◌, ◌<◌, ◌≤◌, ◌++◌, ◌∷◌, [], filter, Err, OnOk, OnErr, IfErr};
 ghost use Rattle.drmaa_model.specs.Fit.{IsFit};
-ghost use Rattle.drmaa_model.specs.Operation.{Meets};
 ghost use Rattle.drmaa_model.specs.Requests.{is_other, end_reservation, with_reservation, without_reservation};
-ghost use Rattle.drmaa_model.specs.Time.{advance_plan};
 ghost use Rattle.reservation_calendar.specs.Schedules.{without};
 ghost use Rattle.plan_book.specs.Book.{plan_of, calendar_of, HasPlace, HasRoom, IsKept, spare};
+ghost use Rattle.plan_book.specs.Occasions.{plan_at, StepsAt};
 ghost use Rattle.plan_book.specs.Places.{AreInOrder};
 ghost use Rattle.plan_book.specs.Quiet.{IsQuiet};
 ghost use Rattle.plan_book.specs.Ties.{IsFree, booked_for};
 
 use crate::book::Book;
 use crate::courses::lesser_end;
+use crate::occasions::Occasion;
 use drmaa_model::Accepted;
-use drmaa_types::{End, Limit, Moment, Refusal, ReservationId};
+use drmaa_types::{End, Refusal, ReservationId};
 use reservation_calendar::{Calendar, Key};
 use std::alloc::AllocError;
 
 impl Book {
-    /// Accepts a reservation at a moment, where the journal and the memory have room for that. It has the next number, and its
+    /// Accepts a reservation on an occasion, where the journal and the memory have room for that. It has the next number, and its
     /// slots fit.
     ///
     /// # Errors
     ///
     /// A journal that would be too large, and want of memory. Nothing has changed then.
-    pub fn accept(
-        &mut self,
-        at: Moment,
-        entry: u64,
-        limit: u64,
-        accepted: Accepted,
-    ) -> Result<(), Refusal>
+    pub fn accept(&mut self, occasion: Occasion, accepted: Accepted) -> Result<(), Refusal>
         requires kept { IsKept self.old }
-        requires entry { entry ≤ 4_000_001 }
-        requires limit { limit ≤ 4_000_000 }
         requires number { accepted.reservation.0 ≡ (plan_of self.old).next_reservation }
         requires next { (plan_of self.old).next_reservation + 1 < 2 ^ 64 }
         requires free { IsFree (calendar_of self.old) (booked_for accepted) }
-        requires fit { IsFit (with_reservation accepted (advance_plan entry at (plan_of self.old))) }
-        ensures meets { Meets (record { answer = Ok tt; plan = with_reservation accepted (advance_plan entry at (plan_of self.old)) })
-            (plan_of self.old) entry limit result (plan_of self.new) }
+        requires fit { IsFit (with_reservation accepted (plan_at occasion (plan_of self.old))) }
+        ensures meets { StepsAt occasion (with_reservation accepted) (plan_of self.old) result (plan_of self.new) }
         ensures kept { IsKept self.new }
         ensures spare { spare self.new ≡ spare self.old }
     {
-        let size = entry + self.weight();
-        if size > limit {
-            return Err(Refusal::OutOfResource(Limit::Journal { size }));
-        }
+        occasion.admit(self.weight())?;
         if self.make_place().is_err() {
             return Err(Refusal::OutOfMemory);
         }
         book_accepted(&mut self.calendar, &accepted)?;
-        self.advance(at, entry);
+        self.advance(occasion.at, occasion.entry);
         self.put_reservation(accepted);
         Ok(())
     }
@@ -85,7 +73,7 @@ impl Book {
         self.next_reservation += 1;
     }
 
-    /// Ends a reservation at a moment, where the journal has room for that. The waiting jobs that name it end with it, and the
+    /// Ends a reservation on an occasion, where the journal has room for that. The waiting jobs that name it end with it, and the
     /// started ones are asked to end. It takes no memory.
     ///
     /// # Errors
@@ -93,27 +81,21 @@ impl Book {
     /// A journal that would be too large. Nothing has changed then.
     pub fn end_reservation(
         &mut self,
-        at: Moment,
-        entry: u64,
-        limit: u64,
+        occasion: Occasion,
         reservation: ReservationId,
     ) -> Result<(), Refusal>
         requires kept { IsKept self.old }
-        requires entry { entry ≤ 4_000_001 }
-        requires limit { limit ≤ 4_000_000 }
-        ensures meets { Meets (record { answer = Ok tt; plan = (end_reservation reservation).effect entry (advance_plan entry at (plan_of self.old)) })
-            (plan_of self.old) entry limit result (plan_of self.new) }
+        ensures meets { StepsAt occasion ((end_reservation reservation).effect occasion.entry) (plan_of self.old) result (plan_of self.new) }
         ensures kept { IsKept self.new }
         ensures spare { spare self.new ≡ spare self.old }
         ensures memory { result ≢ Err Refusal.OutOfMemory }
     {
-        let size = entry + self.weight();
-        if size > limit {
-            return Err(Refusal::OutOfResource(Limit::Journal { size }));
+        if let Err(full) = occasion.admit(self.weight()) {
+            return Err(full);
         }
-        self.advance(at, entry);
+        self.advance(occasion.at, occasion.entry);
         self.drop_reservation(reservation);
-        self.sweep(entry);
+        self.sweep(occasion.entry);
         Ok(())
     }
 

@@ -1,24 +1,26 @@
 //! A control call, on one job or on the members of an array: all jobs that it acts on go on in one step, or nothing changes.
-ghost use Rattle.std.specs.Prelude.{◌≡◌, ◌≢◌, ◌+◌, ◌^◌, ◌<◌, ◌≤◌, false, filter, length, Ok, Err, OnOk, OnErr, IsOk};
+ghost use Rattle.std.specs.Prelude.{◌≡◌, ◌≢◌, ◌+◌, ◌^◌, ◌<◌, ◌≤◌, false, filter, length, Err, OnOk, OnErr, IsOk};
 ghost use Rattle.drmaa_model.specs.Controlling.{control, is_controlled};
 ghost use Rattle.drmaa_model.specs.Fit.{IsFit};
-ghost use Rattle.drmaa_model.specs.Operation.{size_at, Meets};
-ghost use Rattle.drmaa_model.specs.Time.{advance_plan, lasts, rows_at};
+ghost use Rattle.drmaa_model.specs.Operation.{size_at};
+ghost use Rattle.drmaa_model.specs.Time.{lasts, rows_at};
 ghost use Rattle.drmaa_model.specs.TimeLaws.{timed};
 ghost use Rattle.plan_book.specs.Book.{plan_of, HasRoom, IsKept, spare, spare_orders};
+ghost use Rattle.plan_book.specs.Occasions.{plan_at, StepsAt};
 ghost use Rattle.plan_book.specs.Places.{AreInOrder};
 ghost use Rattle.plan_book.specs.Quiet.{IsQuiet};
 ghost use Rattle.plan_book.specs.Sweeps.{acted, growth, asking, is_asking};
 
 use crate::book::Book;
+use crate::occasions::Occasion;
 use crate::sweeps::{ask_controls, is_controlled, note_controls};
 use crate::time::course_at;
 use drmaa_model::{Accepted, Row, Target};
-use drmaa_types::{Control, Limit, Moment, Refusal};
+use drmaa_types::{Control, Moment, Refusal};
 use std::alloc::AllocError;
 
 impl Book {
-    /// Hold, release, suspend, resume or terminate each job that is meant and whose state permits it, at a moment, where the
+    /// Hold, release, suspend, resume or terminate each job that is meant and whose state permits it, on an occasion, where the
     /// journal and the memory have room for that.
     ///
     /// # Errors
@@ -26,38 +28,30 @@ impl Book {
     /// A journal that would be too large, and else want of memory. Nothing has changed then.
     pub fn control(
         &mut self,
-        at: Moment,
-        entry: u64,
-        limit: u64,
+        occasion: Occasion,
         target: &Target,
         what: Control,
     ) -> Result<(), Refusal>
         requires kept { IsKept self.old }
-        requires entry { entry ≤ 4_000_001 }
-        requires limit { limit ≤ 4_000_000 }
-        ensures meets { Meets (record { answer = Ok tt; plan = (control target.now what).effect entry (advance_plan entry at (plan_of self.old)) })
-            (plan_of self.old) entry limit result (plan_of self.new) }
+        ensures meets { StepsAt occasion ((control target.now what).effect occasion.entry) (plan_of self.old) result (plan_of self.new) }
         ensures kept { IsKept self.new }
-        ensures spare { spare self.old ≤ spare self.new + growth what (acted target.now what (rows_at at (plan_of self.old))) }
+        ensures spare { spare self.old ≤ spare self.new + growth what (acted target.now what (rows_at occasion.at (plan_of self.old))) }
         ensures err { OnErr result (spare self.old ≤ spare self.new) }
-        ensures memory { growth what (acted target.now what (rows_at at (plan_of self.old))) ≤ spare self.old → is_asking what ≡ false
+        ensures memory { growth what (acted target.now what (rows_at occasion.at (plan_of self.old))) ≤ spare self.old → is_asking what ≡ false
             → result ≢ Err Refusal.OutOfMemory }
-        ensures sized { limit < size_at entry ((control target.now what).effect entry (advance_plan entry at (plan_of self.old)))
+        ensures sized { occasion.limit < size_at occasion.entry ((control target.now what).effect occasion.entry (plan_at occasion (plan_of self.old)))
             → result ≢ Err Refusal.OutOfMemory }
     {
-        let acted = self.acted(at, target, what);
-        let size = entry + self.weight() + growth(what, acted) as u64;
-        if size > limit {
-            return Err(Refusal::OutOfResource(Limit::Journal { size }));
-        }
+        let acted = self.acted(occasion.at, target, what);
+        occasion.admit(self.weight() + growth(what, acted) as u64)?;
         if self
             .make_share(growth(what, acted), asking(what, acted))
             .is_err()
         {
             return Err(Refusal::OutOfMemory);
         }
-        self.advance(at, entry);
-        self.control_now(entry, target, what);
+        self.advance(occasion.at, occasion.entry);
+        self.control_now(occasion.entry, target, what);
         Ok(())
     }
 

@@ -22,7 +22,7 @@ ghost use Rattle.plan_book.specs.Meant.{HasAllMeant, NoneMeant};
 ghost use Rattle.plan_book.specs.Numbers.{HasNumbersOf};
 ghost use Rattle.plan_book.specs.Open.{AreOpen, IsPriorityBound};
 ghost use Rattle.plan_book.specs.Owed.{owed, askable, reports_to_come};
-ghost use Rattle.plan_book.specs.Passes.{ends, kills_then};
+ghost use Rattle.plan_book.specs.Lapses.{ends, kills_then};
 ghost use Rattle.plan_book.specs.Places.{AreInOrder};
 ghost use Rattle.plan_book.specs.Quiet.{IsLeftUntil};
 ghost use Rattle.plan_book.specs.Texts.{IsRoomBeside};

@@ -1,10 +1,11 @@
-//! How one job goes on: its move is made at a moment, where the journal and the memory have room for it, or nothing changes.
+//! How one job goes on: its move is made on an occasion, where the journal and the memory have room for it, or nothing changes.
 ghost use Rattle.std.specs.Prelude.{false, ◌≡◌, ◌≢◌, ◌+◌, ◌≤◌, IsOk, true, IfErr, OnOk, OnErr, Ok, Err, if◌then◌else◌, []};
 ghost use Rattle.drmaa_model.specs.Fit.{IsFit};
-ghost use Rattle.drmaa_model.specs.Operation.{size_at, Meets, is_answer};
-ghost use Rattle.drmaa_model.specs.Size.{weight};
+ghost use Rattle.drmaa_model.specs.Operation.{is_answer};
+ghost use Rattle.drmaa_model.specs.Size.{room_of, weight};
 ghost use Rattle.drmaa_model.specs.Time.{advance_plan};
-ghost use Rattle.plan_book.specs.Book.{plan_of, calendar_of, HasRoom, spare, spare_orders, IsMove, IsKept, Refuses, grows, asks, moved};
+ghost use Rattle.plan_book.specs.Book.{plan_of, calendar_of, HasRoom, spare, spare_orders, IsMove, IsKept, Refuses, grows, asks, changed, moved};
+ghost use Rattle.plan_book.specs.Occasions.{plan_at, StepsAt};
 ghost use Rattle.plan_book.specs.Places.{AreInOrder};
 ghost use Rattle.plan_book.specs.Quiet.{IsQuiet};
 ghost use Rattle.plan_book.specs.Ties.{MayMake, IsBeside, KeepsTie, booked_first, cancelled_last, is_booking};
@@ -14,22 +15,21 @@ use crate::book::Book;
 use crate::changes::push_change;
 use crate::courses::lesser_end;
 use crate::moves::{Booked, Move};
+use crate::occasions::Occasion;
 use crate::orders::edit_orders;
 use crate::rooms::room_of;
-use drmaa_types::{Change, JobId, Limit, Moment, Refusal};
+use drmaa_types::{Change, JobId, Moment, Refusal};
 use reservation_calendar::{Calendar, Key};
 use std::alloc::AllocError;
 
 impl Book {
-    /// The size of the journal after a move.
-    fn size_after(&self, at: Moment, entry: u64, m: &Move) -> u64
-        requires kept { IsKept self.now }
-        requires entry { entry ≤ 4_000_001 }
-        requires move_is { IsMove (advance_plan entry at (plan_of self.now)) m.now }
-        ensures { result ≡ size_at entry (moved entry m.now (advance_plan entry at (plan_of self.now))) }
+    /// The weight after a move of a job to which its room is promised.
+    fn weight_after(&self, m: &Move) -> u64
+        requires light { weight (plan_of self.now) ≤ 4_000_000 }
+        requires promised { room_of m.now.before ≤ weight (plan_of self.now) }
+        ensures { result + room_of m.now.before ≡ weight (plan_of self.now) + room_of m.now.after + changed m.now }
     {
-        let _ = at;
-        entry + self.weight() + room_of(&m.after) + m.changed() as u64 - room_of(&m.before)
+        self.weight() + room_of(&m.after) + m.changed() as u64 - room_of(&m.before)
     }
 
     /// Takes the memory that a move wants.
@@ -48,26 +48,24 @@ impl Book {
         self.orders.reserve(self.rows.askable() + m.asks())
     }
 
-    /// Refuses at a moment, where the journal has room for that.
-    pub fn refuse(&mut self, at: Moment, entry: u64, limit: u64, why: &Refusal) -> Refusal
+    /// Refuses on an occasion, where the journal has room for that.
+    pub fn refuse(&mut self, occasion: Occasion, why: &Refusal) -> Refusal
         requires kept { IsKept self.old }
-        requires entry { entry ≤ 4_000_001 }
         requires answer { is_answer why.now ≡ true }
-        ensures refuses { Refuses why.now (advance_plan entry at (plan_of self.old)) (plan_of self.old) entry limit result (plan_of self.new) }
+        ensures refuses { Refuses why.now (plan_at occasion (plan_of self.old)) (plan_of self.old) occasion.entry occasion.limit result (plan_of self.new) }
         ensures kept { IsKept self.new }
         ensures spare { spare self.new ≡ spare self.old }
     {
-        let size = entry + self.weight();
-        if size > limit {
-            return Refusal::OutOfResource(Limit::Journal { size });
+        if let Err(full) = occasion.admit(self.weight()) {
+            return full;
         }
-        self.advance(at, entry);
+        self.advance(occasion.at, occasion.entry);
         *why
     }
 
     /// Time goes on to a moment and nothing else happens. It has no limit, since the journal's size stays the same, and takes
     /// no memory.
-    pub fn pass(&mut self, at: Moment, entry: u64)
+    pub fn pass_time(&mut self, at: Moment, entry: u64)
         requires kept { IsKept self.old }
         ensures plan { plan_of self.new ≡ advance_plan entry at (plan_of self.old) }
         ensures size { weight (plan_of self.new) ≡ weight (plan_of self.old) }
@@ -77,33 +75,27 @@ impl Book {
         self.advance(at, entry); // by the rules of time alone
     }
 
-    /// Makes a move at a moment, where the journal and the memory have room for it.
-    pub fn make(&mut self, at: Moment, entry: u64, limit: u64, m: &Move) -> Result<(), Refusal>
+    /// Makes a move on an occasion, where the journal and the memory have room for it.
+    pub fn make(&mut self, occasion: Occasion, m: &Move) -> Result<(), Refusal>
         requires kept { IsKept self.old }
-        requires entry { entry ≤ 4_000_001 }
-        requires move_is { IsMove (advance_plan entry at (plan_of self.old)) m.now }
-        requires limit { limit ≤ 4_000_000 }
+        requires move_is { IsMove (plan_at occasion (plan_of self.old)) m.now }
         requires may { MayMake (calendar_of self.old) m.now.booked }
         requires beside { IsBeside (plan_of self.old).reservations m.now.booked }
-        requires fit { IsFit (moved entry m.now (advance_plan entry at (plan_of self.old))) }
-        requires tie { KeepsTie m.now.booked m.now.job (advance_plan entry at (plan_of self.old)) (moved entry m.now (advance_plan entry at (plan_of self.old))) }
-        ensures meets { Meets (record { answer = Ok tt; plan = moved entry m.now (advance_plan entry at (plan_of self.old)) })
-            (plan_of self.old) entry limit result (plan_of self.new) }
+        requires fit { IsFit (moved occasion.entry m.now (plan_at occasion (plan_of self.old))) }
+        requires tie { KeepsTie m.now.booked m.now.job (plan_at occasion (plan_of self.old)) (moved occasion.entry m.now (plan_at occasion (plan_of self.old))) }
+        ensures meets { StepsAt occasion (moved occasion.entry m.now) (plan_of self.old) result (plan_of self.new) }
         ensures kept { IsKept self.new }
         ensures spare { spare self.old ≤ spare self.new + grows m.now }
         ensures err { OnErr result (spare self.old ≤ spare self.new) }
         ensures memory { grows m.now ≤ spare self.old → asks m.now ≡ 0 → is_booking m.now.booked ≡ false → result ≢ Err Refusal.OutOfMemory }
     {
-        let size = self.size_after(at, entry, m);
-        if size > limit {
-            return Err(Refusal::OutOfResource(Limit::Journal { size }));
-        }
+        occasion.admit(self.weight_after(m))?;
         if self.make_room(m).is_err() {
             return Err(Refusal::OutOfMemory);
         }
         book_first(&mut self.calendar, &m.booked)?;
-        self.advance(at, entry);
-        self.move_now(entry, m);
+        self.advance(occasion.at, occasion.entry);
+        self.move_now(occasion.entry, m);
         cancel_last(&mut self.calendar, m.job, &m.booked);
         Ok(())
     }

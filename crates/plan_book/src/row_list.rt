@@ -8,14 +8,14 @@ ghost use Rattle.drmaa_model.specs.Controlling.{control_step, is_done};
 ghost use Rattle.drmaa_model.specs.Effects.{left_by, is_forgotten};
 ghost use Rattle.drmaa_model.specs.Targets.{is_meant};
 ghost use Rattle.drmaa_model.specs.TimeLaws.{timed};
-ghost use Rattle.plan_book.specs.Passes.{ends, kills_then};
+ghost use Rattle.plan_book.specs.Lapses.{ends, kills_then};
 ghost use Rattle.plan_book.specs.Places.{AreInOrder};
 ghost use Rattle.plan_book.specs.Quiet.{IsLeftUntil};
 ghost use Rattle.plan_book.specs.Sums.{AreSums};
 
-use crate::passes::Swept;
+use crate::lapses::Swept;
 use crate::rows::Places;
-use crate::{arrivals, homes, passes, sweeps};
+use crate::{arrivals, homes, lapses, sweeps};
 use drmaa_model::{Accepted, Course, Order, Row, Target};
 use drmaa_types::{Change, Control, Moment};
 use std::alloc::{AllocError, Global};
@@ -117,7 +117,7 @@ impl RowList {
         ensures soonest { AllByRecursion (IsLeftUntil result.soonest rs.now.items) (map (timed moment rs.now.items) (drop from self.old.items)) }
     {
         let from = self.gone + from;
-        passes::sweep_rows(rs, &mut self.list[from..], changes, orders, moment, entry)
+        lapses::sweep_rows(rs, &mut self.list[from..], changes, orders, moment, entry)
     }
 
     /// Those of the jobs between these places on which the call acts go on.

@@ -35,7 +35,7 @@ use Rattle.drmaa_model.specs.Operation.{Outcome, outcome}
 use Rattle.drmaa_model.specs.Launching.{launch, launch_of}
 use Rattle.drmaa_model.specs.OperationLaws.{outcome-served, outcome-fit}
 use Rattle.drmaa_model.specs.LaunchFit.{launch-effect, launch-keeps}
-use Rattle.drmaa_model.specs.Order.{held, is_ready, may_come, has_slots, slots_for, better, first_in_order, next_launch, has_room_in, has_slots_in, has_turn, is_queued, is_reached}
+use Rattle.drmaa_model.specs.Order.{held, is_ready, may_come, has_slots, slots_for, better, first_in_order, next_launch, has_room_in, has_slots_in, is_within_bound, is_queued, is_reached}
 use Rattle.drmaa_model.specs.OrderLaws.{IsNextLaunch, next_launch-is, ready-parts, ready-from, queued-may_launch}
 use Rattle.drmaa_model.specs.Plan.{Plan}
 use Rattle.drmaa_model.specs.RowLaws.{row_of-all}
@@ -44,13 +44,13 @@ use Rattle.drmaa_model.specs.TimeLaws.{timed, map-twice, lapsed-cases, called-ca
 use Rattle.scheduler_core.specs.declared.launches.Next.{Next}
 use Rattle.plan_book.specs.declared.moves.Move.{Move}
 use Rattle.plan_book.specs.Book.{IsMove, moved, grows, owes}
-use Rattle.scheduler_core.specs.Launches.{may_launch, launch-move, IsLaunchOf, IsNext, IsNextIn, MayMakeNext, seen, seen_row, turn_of, room_of, free_of, slots_of, queue_left, capped, IsMost, launch_booking}
+use Rattle.scheduler_core.specs.Launches.{may_launch, launch-move, IsLaunchOf, IsNext, IsNextIn, MayMakeNext, seen, seen_row, within_bound, room_of, free_of, slots_of, queue_left, capped, IsMost, launch_booking}
 use Rattle.scheduler_core.proofs.Priorities.{first_of}
 use Rattle.scheduler_core.proofs.SeenLaws.{tied-seen}
 
 -- whether a job that asks for this, in this state, is ready
 abbrev pub ready_of : ℕ → Plan → Wants → JobState → Bool
-ready_of m p w s = (is_queued s && is_reached m w.start && turn_of p.rows w) && (leb (held p.rows + w.min) p.total && slots_of (seen m p) w.min w)
+ready_of m p w s = (is_queued s && is_reached m w.start && within_bound p.rows w) && (leb (held p.rows + w.min) p.total && slots_of (seen m p) w.min w)
 
 -- the look over the rows as they will be is the look over the rows of the plan that has come to its moment
 pub look-is : (at : ℕ) (p : Plan) (o : Option Row) → IsFit p → (let m = max p.moment at in
@@ -81,7 +81,7 @@ launch-next q row next fit first is = record { row = row; slots = slots_for q ro
 pub slots-most : (q : Plan) (row : Row) (n : ℕ) → is_ready q row.wants.min row ≡ true → row.wants.min ≤ row.wants.max → IsMost q row.wants n → slots_for q row ≡ n
 slots-most q row n ready order is =
     let parts = ready-parts q row.wants.min row ready in
-    let come = and_from (is_queued row.course.state && is_reached q.moment row.wants.start) (has_turn q.rows row) (and_from (is_queued row.course.state) (is_reached q.moment row.wants.start) parts.queued parts.reached) parts.turn in
+    let come = and_from (is_queued row.course.state && is_reached q.moment row.wants.start) (is_within_bound q.rows row) (and_from (is_queued row.course.state) (is_reached q.moment row.wants.start) parts.queued parts.reached) parts.turn in
     let most = is.most in
     greatest-is row.wants.min (row.wants.max - row.wants.min) n (λ slots. is_ready q slots row) is.least (omega arith) (ready-from q n row come is.free is.has)
     (λ m above within.

@@ -1,4 +1,4 @@
--- Jobs that are over: none may be launched, and none turns at any moment. So the first in order and the first turn are those of the jobs behind them.
+-- Jobs that are over: none may be launched, and none has an event at any moment. So the first in order and the first event are those of the jobs behind them.
 use Rattle.std.proofs.Common.{◌≡◌, ℕ, Bool, true, false, cond, not, ◌&&◌, ◌||◌, ◌+◌, List, [], ◌∷◌, ◌++◌, drop, length, ◌≤◌, zero, suc, map, filter, Option, Some, None, refl, sym, ◌∙◌, ap, subst, arith}
 use Rattle.std.specs.Prelude.{ℤ, int_lt, is_none, nat_le}
 use Rattle.std.proofs.Math.ListN.{drop_of_length-le}
@@ -11,13 +11,13 @@ use Rattle.drmaa_types.specs.declared.states.JobState.{JobState}
 use Rattle.drmaa_types.specs.declared.states.JobState.TheVariants.{Undetermined, Queued, QueuedHeld, Running, Suspended, Requeued, RequeuedHeld, Done, Failed}
 use Rattle.drmaa_model.specs.declared.reservations.Accepted.{Accepted}
 use Rattle.drmaa_model.specs.declared.rows.Row.{Row}
-use Rattle.drmaa_model.specs.Events.{is_end_at, is_set_to, turns_at}
-use Rattle.drmaa_model.specs.Order.{better, first_in_order, has_slots, has_turn, held, is_queued, is_reached}
+use Rattle.drmaa_model.specs.Events.{is_end_at, is_set_to, is_row_event}
+use Rattle.drmaa_model.specs.Order.{better, first_in_order, has_slots, is_within_bound, held, is_queued, is_reached}
 use Rattle.drmaa_model.specs.Plan.{Plan}
 use Rattle.drmaa_model.specs.Time.{called_in, lapsed, lasts}
 use Rattle.drmaa_model.specs.TimeLaws.{timed, lapsed-cases, called-cases}
 use Rattle.plan_book.specs.Open.{AreOpen, IsPriorityBound, is_over}
-use Rattle.scheduler_core.specs.Afters.{first_turn}
+use Rattle.scheduler_core.specs.Afters.{first_row_event}
 use Rattle.scheduler_core.specs.Launches.{may_launch, seen, seen_row}
 use Rattle.scheduler_core.proofs.AfterLaws.{after-same}
 use Rattle.scheduler_core.proofs.LaunchSteps.{chosen, passed}
@@ -62,10 +62,10 @@ over-not : (m : ℕ) (p : Plan) (row : Row) → is_over row ≡ true → may_lau
 over-not m p row over =
     let facts = over-facts row over in
     ap (may_launch m p) (timed-over m (filter (lasts m) p.reservations) row facts)
-    ∙ ap (λ (b : Bool). (b && is_reached m row.wants.start && has_turn p.rows row) && (nat_le (held p.rows + row.wants.min) p.total && has_slots (seen m p) row.wants.min row))
+    ∙ ap (λ (b : Bool). (b && is_reached m row.wants.start && is_within_bound p.rows row) && (nat_le (held p.rows + row.wants.min) p.total && has_slots (seen m p) row.wants.min row))
     (idle-not_queued row.course.state facts.idle)
 
-turns-not : (x : ℕ) (row : Row) → is_over row ≡ true → turns_at x row ≡ false
+turns-not : (x : ℕ) (row : Row) → is_over row ≡ true → is_row_event x row ≡ false
 turns-not x row over =
     let facts = over-facts row over in
     ap (λ (b : Bool). (b && (is_set_to x row.wants.start || is_set_to x row.wants.deadline)) || option_map_or (is_end_at x) row.course.planned false) facts.idle
@@ -85,15 +85,15 @@ pub open-launches : (m : ℕ) (p : Plan) (rows : List Row) → AreOpen p.rows ro
 open-launches m p rows are =
     ap first_in_order (sym (ap (λ (all : List Row). filter (may_launch m p) (map (seen_row m p) all)) are.parts ∙ front-not m p are.front rows are.over))
 
-front-turns : (x : ℕ) (front rows : List Row) → AllByRecursion (λ (row : Row). is_over row ≡ true) front → list_any (turns_at x) (front ++ rows) ≡ list_any (turns_at x) rows
+front-turns : (x : ℕ) (front rows : List Row) → AllByRecursion (λ (row : Row). is_over row ≡ true) front → list_any (is_row_event x) (front ++ rows) ≡ list_any (is_row_event x) rows
 front-turns x [] rows over = refl
 front-turns x (row ∷ front) rows over =
-    ap (λ (b : Bool). b || list_any (turns_at x) (front ++ rows)) (turns-not x row over.0) ∙ front-turns x front rows over.1
+    ap (λ (b : Bool). b || list_any (is_row_event x) (front ++ rows)) (turns-not x row over.0) ∙ front-turns x front rows over.1
 
-pub open-turns : (after : ℕ) (all rows : List Row) → AreOpen all rows → first_turn after rows ≡ first_turn after all
+pub open-turns : (after : ℕ) (all rows : List Row) → AreOpen all rows → first_row_event after rows ≡ first_row_event after all
 open-turns after all rows are =
-    sym (ap (first_turn after) are.parts
-    ∙ after-same after (λ x. list_any (turns_at x) (are.front ++ rows)) (λ x. list_any (turns_at x) rows) (λ x. front-turns x are.front rows are.over))
+    sym (ap (first_row_event after) are.parts
+    ∙ after-same after (λ x. list_any (is_row_event x) (are.front ++ rows)) (λ x. list_any (is_row_event x) rows) (λ x. front-turns x are.front rows are.over))
 
 -- ---- a job that none behind it stands before
 

@@ -36,9 +36,9 @@ seen_row moment p row = timed moment (filter (lasts moment) p.reservations) row
 abbrev pub may_launch : ℕ → Plan → Row → Bool
 may_launch moment p row = is_ready (seen moment p) row.wants.min row
 
--- it is the turn of a job that asks for this
-abbrev pub turn_of : List Row → Wants → Bool
-turn_of rows wants = option_map_or (λ (bound : ℕ). option_map_or (λ (array : ArrayId). nat_lt (in_array array rows) bound) wants.array true) wants.bound true
+-- a job that asks for this is within the bound of its array
+abbrev pub within_bound : List Row → Wants → Bool
+within_bound rows wants = option_map_or (λ (bound : ℕ). option_map_or (λ (array : ArrayId). nat_lt (in_array array rows) bound) wants.array true) wants.bound true
 
 -- there are slots within the limit of the queue that a job asks for, where it asks for one
 abbrev pub room_of : Plan → ℕ → Wants → Bool

@@ -1,15 +1,17 @@
 //! Hold, release, suspend, resume and terminate.
 ghost use Rattle.std.specs.Prelude.{◌≡◌, ◌≢◌, ◌+◌, ◌≤◌, ◌<◌, Err, OnErr, IsSome, true, false};
 ghost use Rattle.drmaa_model.specs.Controlling.{control};
-ghost use Rattle.drmaa_model.specs.Operation.{size_at, Meets, outcome};
-ghost use Rattle.drmaa_model.specs.Time.{advance_plan, rows_at};
+ghost use Rattle.drmaa_model.specs.Operation.{size_at, outcome};
+ghost use Rattle.drmaa_model.specs.Time.{rows_at};
+ghost use Rattle.plan_book.specs.Occasions.{plan_at, MeetsAt};
 ghost use Rattle.plan_book.specs.Sweeps.{acted, growth, is_asking};
 ghost use Rattle.scheduler_core.specs.Targets.{is_one_quiet};
 
 use crate::cores::Core;
 use crate::targets::{Act, refusal_at};
 use drmaa_model::Target;
-use drmaa_types::{Control, Moment, Refusal};
+use drmaa_types::{Control, Refusal};
+use plan_book::Occasion;
 
 impl Core {
     /// Holds, releases, suspends, resumes or terminates each job that is meant and whose state permits it, in one step. A hold
@@ -22,27 +24,23 @@ impl Core {
     /// would be too large comes before all of them.
     pub fn control(
         &mut self,
-        at: Moment,
-        entry: u64,
-        limit: u64,
+        occasion: Occasion,
         target: Target,
         what: Control,
     ) -> Result<(), Refusal>
-        requires entry { entry ≤ 4_000_001 }
-        requires limit { limit ≤ 4_000_000 }
-        ensures meets { Meets (outcome (control target what) entry (advance_plan entry at self.old.plan)) self.old.plan entry limit result self.new.plan }
-        ensures spare { self.old.spare ≤ self.new.spare + growth what (acted target what (rows_at at self.old.plan)) }
+        ensures meets { MeetsAt occasion (control target what) self.old.plan result self.new.plan }
+        ensures spare { self.old.spare ≤ self.new.spare + growth what (acted target what (rows_at occasion.at self.old.plan)) }
         ensures err { OnErr result (self.old.spare ≤ self.new.spare) }
-        ensures enough { growth what (acted target what (rows_at at self.old.plan)) ≤ self.old.spare → is_asking what ≡ false
+        ensures enough { growth what (acted target what (rows_at occasion.at self.old.plan)) ≤ self.old.spare → is_asking what ≡ false
             → result ≢ Err Refusal.OutOfMemory }
         ensures one { is_one_quiet target what ≡ true → self.old.spare ≤ self.new.spare + 1 }
         ensures memory { is_one_quiet target what ≡ true → 1 ≤ self.old.spare → result ≢ Err Refusal.OutOfMemory }
-        ensures refused { IsSome ((control target what).refusal (advance_plan entry at self.old.plan)) → result ≢ Err Refusal.OutOfMemory }
-        ensures sized { limit < size_at entry (outcome (control target what) entry (advance_plan entry at self.old.plan)).plan → result ≢ Err Refusal.OutOfMemory }
+        ensures refused { IsSome ((control target what).refusal (plan_at occasion self.old.plan)) → result ≢ Err Refusal.OutOfMemory }
+        ensures sized { occasion.limit < size_at occasion.entry (outcome (control target what) occasion.entry (plan_at occasion self.old.plan)).plan → result ≢ Err Refusal.OutOfMemory }
     {
-        if let Some(why) = refusal_at(&self.book, at, &target, Act::Control(what)) {
-            return Err(self.book.refuse(at, entry, limit, &why));
+        if let Some(why) = refusal_at(&self.book, occasion.at, &target, Act::Control(what)) {
+            return Err(self.book.refuse(occasion, &why));
         }
-        self.book.control(at, entry, limit, &target, what)
+        self.book.control(occasion, &target, what)
     }
 }

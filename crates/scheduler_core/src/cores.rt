@@ -72,7 +72,7 @@ impl Core {
         ensures spare { self.new.spare ≡ self.old.spare }
         ensures size { weight self.new.plan ≡ weight self.old.plan }
     {
-        self.book.pass(at, entry);
+        self.book.pass_time(at, entry);
     }
 
     /// A named session is destroyed: its ended jobs are forgotten, and its other jobs and its reservations are left without

@@ -1,8 +1,8 @@
 //! The next moment at which time may change something. It takes no memory.
 ghost use Rattle.std.specs.Prelude.{◌≡◌, ◌==◌, false};
 ghost use Rattle.std.specs.Option.{option_map_or};
-ghost use Rattle.drmaa_model.specs.Events.{bounds_at, first_after, is_end_at, is_set_to, is_wanted_at, next_event, turns_at};
-ghost use Rattle.scheduler_core.specs.Afters.{earlier, first_bound, first_turn};
+ghost use Rattle.drmaa_model.specs.Events.{bounds_at, first_after, is_end_at, is_set_to, is_wanted_at, next_event, is_row_event};
+ghost use Rattle.scheduler_core.specs.Afters.{earlier, first_bound, first_row_event};
 
 use crate::cores::Core;
 use drmaa_model::{Accepted, Row};
@@ -16,7 +16,7 @@ impl Core {
         ensures { result ≡ next_event self.now.plan after }
     {
         earlier(
-            next_turn(after, self.book.open_rows()),
+            next_row_event(after, self.book.open_rows()),
             next_bound(after, self.book.reservations()),
         )
     }
@@ -94,7 +94,7 @@ fn next_wanted(after: Moment, row: &Row) -> Option<Moment>
 
 // The next moment at which time may change something for a job.
 fn next_of_row(after: Moment, row: &Row) -> Option<Moment>
-    ensures { result ≡ first_after after (λ x. turns_at x row.now) }
+    ensures { result ≡ first_after after (λ x. is_row_event x row.now) }
 {
     earlier(next_wanted(after, row), next_end(after, row.course.planned))
 }
@@ -110,8 +110,8 @@ fn next_of_reservation(after: Moment, reservation: &Accepted) -> Option<Moment>
 }
 
 // The next moment at which time may change something for any of these jobs.
-fn next_turn(after: Moment, rows: &[Row]) -> Option<Moment>
-    ensures { result ≡ first_turn after rows.now }
+fn next_row_event(after: Moment, rows: &[Row]) -> Option<Moment>
+    ensures { result ≡ first_row_event after rows.now }
 {
     let mut best = None;
     for row in rows {

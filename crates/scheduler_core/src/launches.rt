@@ -1,12 +1,12 @@
 //! The next launch.
 ghost use Rattle.std.specs.Prelude.{true, false, IfSome, ◌≡◌, ◌+◌, ◌^◌, ◌<◌, ◌≤◌, IfErr, IfOk, OnErr, IsSome, None, Ok};
 ghost use Rattle.job_template.specs.Launch.{launch_words};
-ghost use Rattle.drmaa_model.specs.Operation.{Meets, outcome};
 ghost use Rattle.drmaa_model.specs.Launching.{launch};
 ghost use Rattle.drmaa_model.specs.Order.{held, is_ready, slots_for, next_launch};
 ghost use Rattle.drmaa_model.specs.Time.{advance_plan};
 ghost use Rattle.plan_book.specs.Book.{plan_of, calendar_of, IsKept};
 ghost use Rattle.reservation_calendar.specs.Schedules.{is_booked};
+ghost use Rattle.plan_book.specs.Occasions.{plan_at, MeetsAt};
 ghost use Rattle.plan_book.specs.Ties.{MayMake};
 ghost use Rattle.scheduler_core.specs.Launches.{IsLaunchOf, IsNextIn, MayMakeNext, launch_booking, seen, seen_row};
 
@@ -17,7 +17,7 @@ use drmaa_model::{Launch, Row};
 use drmaa_types::{End, Moment, Refusal, Shared, TextList};
 use job_template::launch_words;
 use plan_book::courses::{launched, planned_end};
-use plan_book::{Book, Booked, Edit, Move};
+use plan_book::{Book, Booked, Edit, Move, Occasion};
 use reservation_calendar::{Booking, Key};
 use std::alloc::{AllocError, Global};
 
@@ -51,26 +51,19 @@ impl Core {
     /// # Errors
     ///
     /// A journal that would be too large, and want of memory.
-    pub fn take_launch(
-        &mut self,
-        at: Moment,
-        entry: u64,
-        limit: u64,
-    ) -> Result<Option<Launch>, Refusal>
-        requires entry { entry ≤ 4_000_001 }
-        requires limit { limit ≤ 4_000_000 }
-        ensures nothing { next_launch (advance_plan entry at self.old.plan) ≡ None → (result ≡ Ok None) × (self.new.plan ≡ self.old.plan) }
-        ensures left { next_launch (advance_plan entry at self.old.plan) ≡ None → self.new.spare ≡ self.old.spare }
-        ensures meets { IsSome (next_launch (advance_plan entry at self.old.plan)) →
-            Meets (outcome launch entry (advance_plan entry at self.old.plan)) self.old.plan entry limit result self.new.plan }
+    pub fn take_launch(&mut self, occasion: Occasion) -> Result<Option<Launch>, Refusal>
+        ensures nothing { next_launch (plan_at occasion self.old.plan) ≡ None → (result ≡ Ok None) × (self.new.plan ≡ self.old.plan) }
+        ensures left { next_launch (plan_at occasion self.old.plan) ≡ None → self.new.spare ≡ self.old.spare }
+        ensures meets { IsSome (next_launch (plan_at occasion self.old.plan)) →
+            MeetsAt occasion launch self.old.plan result self.new.plan }
         ensures spare { self.old.spare ≤ self.new.spare + 2 }
         ensures err { OnErr result (self.old.spare ≤ self.new.spare) }
     {
-        match next_launch(&self.book, self.alloc, at) {
+        match next_launch(&self.book, self.alloc, occasion.at) {
             Err(_) => Err(Refusal::OutOfMemory),
             Ok(None) => Ok(None),
             Ok(Some(next)) => {
-                if let Err(why) = self.book.make(at, entry, limit, &next.m) {
+                if let Err(why) = self.book.make(occasion, &next.m) {
                     return Err(why);
                 }
                 Ok(Some(next.launch))

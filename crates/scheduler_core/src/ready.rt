@@ -7,7 +7,7 @@ ghost use Rattle.drmaa_model.specs.Load.{covers, in_reservation, in_array, holds
 ghost use Rattle.drmaa_model.specs.Order.{held, is_queued, is_reached, has_slots_in, better, first_in_order, settled};
 ghost use Rattle.drmaa_model.specs.Time.{lasts, advance_plan};
 ghost use Rattle.plan_book.specs.Book.{plan_of, IsKept};
-ghost use Rattle.scheduler_core.specs.Launches.{seen, seen_row, may_launch, turn_of, free_of, slots_of, IsMost};
+ghost use Rattle.scheduler_core.specs.Launches.{seen, seen_row, may_launch, within_bound, free_of, slots_of, IsMost};
 ghost use Rattle.scheduler_core.specs.Sums.{IsKnown};
 
 use crate::cores::Core;
@@ -113,7 +113,7 @@ fn comes_at(book: &Book, row: &Row, moment: Moment, known: &mut Known) -> bool
     requires later { (plan_of book.now).moment ≤ moment }
     requires known { IsKnown (plan_of book.now).rows known.old }
     ensures value { result ≡ (is_queued (seen_row moment (plan_of book.now) row.now).course.state
-        && is_reached moment row.now.wants.start && turn_of (plan_of book.now).rows row.now.wants) }
+        && is_reached moment row.now.wants.start && within_bound (plan_of book.now).rows row.now.wants) }
     ensures known { IsKnown (plan_of book.now).rows known.new }
 {
     if !is_queued(row.course.state) {
@@ -138,7 +138,7 @@ fn may_come(book: &Book, wants: &Wants, state: JobState, moment: Moment, known: 
     requires kept { IsKept book.now }
     requires few { (plan_of book.now).total < 2 ^ 32 }
     requires known { IsKnown (plan_of book.now).rows known.old }
-    ensures value { result ≡ (is_queued state && is_reached moment wants.now.start && turn_of (plan_of book.now).rows wants.now) }
+    ensures value { result ≡ (is_queued state && is_reached moment wants.now.start && within_bound (plan_of book.now).rows wants.now) }
     ensures known { IsKnown (plan_of book.now).rows known.new }
 {
     if !is_queued(state) {
@@ -147,14 +147,14 @@ fn may_come(book: &Book, wants: &Wants, state: JobState, moment: Moment, known: 
     if !is_reached(moment, wants.start) {
         return false;
     }
-    has_turn(book, wants, known)
+    is_within_bound(book, wants, known)
 }
 
-fn has_turn(book: &Book, wants: &Wants, known: &mut Known) -> bool
+fn is_within_bound(book: &Book, wants: &Wants, known: &mut Known) -> bool
     requires kept { IsKept book.now }
     requires few { (plan_of book.now).total < 2 ^ 32 }
     requires known { IsKnown (plan_of book.now).rows known.old }
-    ensures value { result ≡ turn_of (plan_of book.now).rows wants.now }
+    ensures value { result ≡ within_bound (plan_of book.now).rows wants.now }
     ensures known { IsKnown (plan_of book.now).rows known.new }
 {
     let Some(bound) = wants.bound else {

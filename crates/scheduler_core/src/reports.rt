@@ -1,10 +1,9 @@
 //! What launcher and reaper report of the processes of jobs. No report takes memory.
 ghost use Rattle.std.specs.Prelude.{◌≡◌, ◌≢◌, ◌≤◌, Err};
 ghost use Rattle.std.specs.List.{list_any};
-ghost use Rattle.drmaa_model.specs.Operation.{Meets, outcome};
 ghost use Rattle.drmaa_model.specs.Reporting.{report_of, is_launching, is_idle, may_begin, may_exit, is_taken, signal_number};
 ghost use Rattle.drmaa_model.specs.Size.{promised, weight};
-ghost use Rattle.drmaa_model.specs.Time.{advance_plan};
+ghost use Rattle.plan_book.specs.Occasions.{MeetsAt};
 ghost use Rattle.scheduler_core.specs.Facts.{reports_to_come};
 ghost use Rattle.scheduler_core.specs.Reports.{job_of, may_report, after_report, edit_after, booked_after, report_move};
 
@@ -12,7 +11,7 @@ use crate::cores::Core;
 use drmaa_model::{Course, Order, Phase, Report};
 use drmaa_types::{JobId, Moment, Refusal, SignalKind, Which};
 use plan_book::courses::{begun, exited, lost, signal_failed, unstarted};
-use plan_book::{Booked, Edit, Facts, Move};
+use plan_book::{Booked, Edit, Facts, Move, Occasion};
 
 impl Core {
     /// Takes a report of the last launch of its job. It takes no memory.
@@ -21,30 +20,22 @@ impl Core {
     ///
     /// `InvalidArgument(Job)` where the job is not kept, `InvalidState` where no such report may come of it, and a journal
     /// that would be too large.
-    pub fn report(
-        &mut self,
-        at: Moment,
-        entry: u64,
-        limit: u64,
-        report: Report,
-    ) -> Result<(), Refusal>
-        requires entry { entry ≤ 4_000_001 }
-        requires limit { limit ≤ 4_000_000 }
-        ensures meets { Meets (outcome (report_of report) entry (advance_plan entry at self.old.plan)) self.old.plan entry limit result self.new.plan }
+    pub fn report(&mut self, occasion: Occasion, report: Report) -> Result<(), Refusal>
+        ensures meets { MeetsAt occasion (report_of report) self.old.plan result self.new.plan }
         ensures spare { self.old.spare ≤ self.new.spare }
         ensures memory { result ≢ Err Refusal.OutOfMemory }
     {
-        let moment = self.book.moment_at(at);
-        let Some(facts) = self.book.facts_at(at, job_of(report)) else {
+        let moment = self.book.moment_at(occasion.at);
+        let Some(facts) = self.book.facts_at(occasion.at, job_of(report)) else {
             let why = Refusal::InvalidArgument(Which::Job);
-            return Err(self.book.refuse(at, entry, limit, &why));
+            return Err(self.book.refuse(occasion, &why));
         };
         if !may_report(self.book.orders(), report, &facts.course) {
             let why = Refusal::InvalidState(facts.course.state);
-            return Err(self.book.refuse(at, entry, limit, &why));
+            return Err(self.book.refuse(occasion, &why));
         }
         let m = report_move(report, &facts, moment);
-        self.book.make(at, entry, limit, &m)
+        self.book.make(occasion, &m)
     }
 
     /// The reports of starts and ends that the processes of all jobs may still bring: two for a job that is handed out to be
@@ -54,7 +45,6 @@ impl Core {
         ensures room { result ≤ weight self.now.plan }
         ensures promised { result ≤ promised self.now.plan.rows }
     {
-        let _weight = self.book.weight();
         self.book.reports_to_come()
     }
 }

@@ -4,10 +4,10 @@ ghost use Rattle.drmaa_types.specs.Refusals.{first_refusal, refused_or};
 ghost use Rattle.job_template.specs.Frames.{frame_of};
 ghost use Rattle.drmaa_model.specs.Fit.{IsFit};
 ghost use Rattle.drmaa_model.specs.FrameLaws.{IsFrame};
-ghost use Rattle.drmaa_model.specs.Operation.{Meets, is_answer, outcome};
+ghost use Rattle.drmaa_model.specs.Operation.{Meets, is_answer};
 ghost use Rattle.drmaa_model.specs.Requests.{request, request_tests, reserved_as, start_in, with_reservation};
-ghost use Rattle.drmaa_model.specs.Time.{advance_plan};
 ghost use Rattle.plan_book.specs.Book.{calendar_of, plan_of, spare, IsKept};
+ghost use Rattle.plan_book.specs.Occasions.{plan_at, MeetsAt};
 ghost use Rattle.plan_book.specs.Ties.{booked_for, IsFree};
 ghost use Rattle.scheduler_core.specs.Requesting.{accepted_of, come, offer_at, offered, room_tests};
 
@@ -16,7 +16,7 @@ use crate::starts::{denied_at, is_full, slots_in, start_in};
 use drmaa_model::Accepted;
 use drmaa_types::{Limit, Moment, Refusal, ReservationId, Reserved};
 use job_template::{Frame, ReservationTemplate, validate_reservation};
-use plan_book::Book;
+use plan_book::{Book, Occasion};
 
 /// What a request is offered: so many slots, from a moment up to another.
 #[derive(Clone, Copy)]
@@ -39,24 +39,20 @@ impl Core {
     /// before all of them.
     pub fn request_reservation(
         &mut self,
-        at: Moment,
-        entry: u64,
-        limit: u64,
+        occasion: Occasion,
         home: u64,
         template: ReservationTemplate,
     ) -> Result<Reserved, Refusal>
-        requires entry { entry ≤ 4_000_001 }
-        requires limit { limit ≤ 4_000_000 }
-        requires number { self.old.plan.next_reservation ≤ entry }
-        ensures meets { Meets (outcome (request home template) entry (advance_plan entry at self.old.plan)) self.old.plan entry limit result self.new.plan }
+        requires number { self.old.plan.next_reservation ≤ occasion.entry }
+        ensures meets { MeetsAt occasion (request home template) self.old.plan result self.new.plan }
         ensures spare { self.new.spare ≡ self.old.spare }
-        ensures memory { IsSome ((request home template).refusal (advance_plan entry at self.old.plan)) → result ≢ Err Refusal.OutOfMemory }
+        ensures memory { IsSome ((request home template).refusal (plan_at occasion self.old.plan)) → result ≢ Err Refusal.OutOfMemory }
     {
-        match offer_for(&self.book, at, &template) {
-            Err(why) => Err(self.book.refuse(at, entry, limit, &why)),
+        match offer_for(&self.book, occasion.at, &template) {
+            Err(why) => Err(self.book.refuse(occasion, &why)),
             Ok(offer) => {
                 let accepted = accepted_of(self.book.next_reservation(), home, template, &offer);
-                accept(&mut self.book, at, entry, limit, accepted)
+                accept(&mut self.book, occasion, accepted)
             }
         }
     }
@@ -135,27 +131,19 @@ fn accepted_of(number: u64, home: u64, template: ReservationTemplate, offer: &Of
 }
 
 /// Accepts a reservation, and tells what it was given.
-fn accept(
-    book: &mut Book,
-    at: Moment,
-    entry: u64,
-    limit: u64,
-    accepted: Accepted,
-) -> Result<Reserved, Refusal>
+fn accept(book: &mut Book, occasion: Occasion, accepted: Accepted) -> Result<Reserved, Refusal>
     requires kept { IsKept book.old }
-    requires entry { entry ≤ 4_000_001 }
-    requires limit { limit ≤ 4_000_000 }
     requires number { accepted.reservation.0 ≡ (plan_of book.old).next_reservation }
     requires next { (plan_of book.old).next_reservation + 1 < 2 ^ 64 }
     requires free { IsFree (calendar_of book.old) (booked_for accepted) }
-    requires fit { IsFit (with_reservation accepted (advance_plan entry at (plan_of book.old))) }
-    ensures meets { Meets (record { answer = Ok (reserved_as accepted); plan = with_reservation accepted (advance_plan entry at (plan_of book.old)) })
-        (plan_of book.old) entry limit result (plan_of book.new) }
+    requires fit { IsFit (with_reservation accepted (plan_at occasion (plan_of book.old))) }
+    ensures meets { Meets (record { answer = Ok (reserved_as accepted); plan = with_reservation accepted (plan_at occasion (plan_of book.old)) })
+        (plan_of book.old) occasion.entry occasion.limit result (plan_of book.new) }
     ensures kept { IsKept book.new }
     ensures spare { spare book.new ≡ spare book.old }
 {
     let reserved = reserved_as(&accepted);
-    match book.accept(at, entry, limit, accepted) {
+    match book.accept(occasion, accepted) {
         Ok(()) => Ok(reserved),
         Err(why) => Err(why),
     }

@@ -1,15 +1,16 @@
 //! The accepted reservations, and how one is ended. None of it takes memory.
-ghost use Rattle.std.specs.Prelude.{◌≡◌, ◌≢◌, ◌≤◌, Err, filter};
+ghost use Rattle.std.specs.Prelude.{◌≡◌, ◌≢◌, Err, filter};
 ghost use Rattle.std.specs.Option.{option_copied};
 ghost use Rattle.drmaa_model.specs.Load.{reservation_of};
-ghost use Rattle.drmaa_model.specs.Operation.{Meets, outcome};
 ghost use Rattle.drmaa_model.specs.Requests.{end_reservation};
 ghost use Rattle.drmaa_model.specs.Time.{advance_plan, lasts, is_accepted};
+ghost use Rattle.plan_book.specs.Occasions.{MeetsAt};
 ghost use Rattle.scheduler_core.specs.Reservations.{reservation_from};
 
 use crate::cores::Core;
 use drmaa_model::Accepted;
 use drmaa_types::{Moment, Refusal, ReservationId, Which};
+use plan_book::Occasion;
 
 impl Core {
     /// The accepted reservation of this number, once time has come to this moment.
@@ -38,23 +39,19 @@ impl Core {
     /// `InvalidArgument(Reservation)` where it is not accepted, and a journal that would be too large.
     pub fn end_reservation(
         &mut self,
-        at: Moment,
-        entry: u64,
-        limit: u64,
+        occasion: Occasion,
         reservation: ReservationId,
     ) -> Result<(), Refusal>
-        requires entry { entry ≤ 4_000_001 }
-        requires limit { limit ≤ 4_000_000 }
-        ensures meets { Meets (outcome (end_reservation reservation) entry (advance_plan entry at self.old.plan)) self.old.plan entry limit result self.new.plan }
+        ensures meets { MeetsAt occasion (end_reservation reservation) self.old.plan result self.new.plan }
         ensures spare { self.new.spare ≡ self.old.spare }
         ensures memory { result ≢ Err Refusal.OutOfMemory }
     {
-        let moment = self.book.moment_at(at);
+        let moment = self.book.moment_at(occasion.at);
         if !is_lasting(self.book.reservations(), reservation, moment) {
             let why = Refusal::InvalidArgument(Which::Reservation);
-            return Err(self.book.refuse(at, entry, limit, &why));
+            return Err(self.book.refuse(occasion, &why));
         }
-        self.book.end_reservation(at, entry, limit, reservation)
+        self.book.end_reservation(occasion, reservation)
     }
 }
 

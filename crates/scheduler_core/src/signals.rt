@@ -2,16 +2,16 @@
 ghost use Rattle.std.specs.Prelude.{◌≡◌, ◌≢◌, ◌≤◌, find, Ok, Err, None, IsSome};
 ghost use Rattle.std.specs.Option.{option_map};
 ghost use Rattle.drmaa_model.specs.Launching.{is_alive, is_due_now, next_signal, signal};
-ghost use Rattle.drmaa_model.specs.Operation.{Meets, outcome};
 ghost use Rattle.drmaa_model.specs.Time.{advance_plan, rows_at, kill_order};
 ghost use Rattle.plan_book.specs.Book.{plan_of, IsKept};
+ghost use Rattle.plan_book.specs.Occasions.{plan_at, MeetsAt};
 ghost use Rattle.scheduler_core.specs.Signals.{IsNextIn, is_killed, signal_for, take_move};
 
 use crate::cores::Core;
 use drmaa_model::{Order, Phase, Row, Signal};
 use drmaa_types::{Moment, Refusal, SignalKind};
 use plan_book::courses::is_unasked;
-use plan_book::{Book, Booked, Edit, Facts, Move};
+use plan_book::{Book, Booked, Edit, Facts, Move, Occasion};
 
 /// The order that is delivered next, and what is known of its job then.
 #[derive(Clone, Copy)]
@@ -37,25 +37,18 @@ impl Core {
     /// # Errors
     ///
     /// A journal that would be too large.
-    pub fn take_signal(
-        &mut self,
-        at: Moment,
-        entry: u64,
-        limit: u64,
-    ) -> Result<Option<Signal>, Refusal>
-        requires entry { entry ≤ 4_000_001 }
-        requires limit { limit ≤ 4_000_000 }
-        ensures nothing { next_signal (advance_plan entry at self.old.plan) ≡ None → (result ≡ Ok None) × (self.new.plan ≡ self.old.plan) × (self.new.spare ≡ self.old.spare) }
-        ensures meets { IsSome (next_signal (advance_plan entry at self.old.plan)) →
-            Meets (outcome signal entry (advance_plan entry at self.old.plan)) self.old.plan entry limit result self.new.plan }
+    pub fn take_signal(&mut self, occasion: Occasion) -> Result<Option<Signal>, Refusal>
+        ensures nothing { next_signal (plan_at occasion self.old.plan) ≡ None → (result ≡ Ok None) × (self.new.plan ≡ self.old.plan) × (self.new.spare ≡ self.old.spare) }
+        ensures meets { IsSome (next_signal (plan_at occasion self.old.plan)) →
+            MeetsAt occasion signal self.old.plan result self.new.plan }
         ensures spare { self.old.spare ≤ self.new.spare }
         ensures memory { result ≢ Err Refusal.OutOfMemory }
     {
-        let Some(next) = next_of(&self.book, at) else {
+        let Some(next) = next_of(&self.book, occasion.at) else {
             return Ok(None);
         };
         let m = take_move(&next);
-        if let Err(why) = self.book.make(at, entry, limit, &m) {
+        if let Err(why) = self.book.make(occasion, &m) {
             return Err(why);
         }
         Ok(Some(signal_for(&next)))

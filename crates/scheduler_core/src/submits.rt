@@ -1,10 +1,10 @@
 //! The submission of a job, or of an array of jobs.
 ghost use Rattle.std.specs.Prelude.{◌≡◌, ◌≢◌, ◌≤◌, ◌+◌, ◌*◌, [], None, IsSome, Err, OnErr};
 ghost use Rattle.drmaa_types.specs.Refusals.{first_refusal};
-ghost use Rattle.drmaa_model.specs.Operation.{Meets, outcome};
 ghost use Rattle.drmaa_model.specs.Submitting.{array_number, arrays_used, bulk_tests, submit};
 ghost use Rattle.drmaa_model.specs.Time.{advance_plan};
 ghost use Rattle.plan_book.specs.Book.{plan_of, spare, IsKept};
+ghost use Rattle.plan_book.specs.Occasions.{plan_at, MeetsAt};
 ghost use Rattle.scheduler_core.specs.Batches.{plan_in, told_of};
 ghost use Rattle.scheduler_core.specs.Early.{asked, early_tests};
 
@@ -13,9 +13,9 @@ use crate::bulks::asked;
 use crate::cores::Core;
 use crate::refusals::refusal_of;
 use drmaa_model::{Indices, Submitted};
-use drmaa_types::{ArrayId, JobId, Limit, Moment, Refusal};
+use drmaa_types::{ArrayId, JobId, Limit, Refusal};
 use job_template::JobTemplate;
-use plan_book::Book;
+use plan_book::{Book, Occasion};
 use std::alloc::Global;
 
 impl Core {
@@ -30,30 +30,24 @@ impl Core {
     /// these but the last holds. A journal that would be too large comes before all of them.
     pub fn submit(
         &mut self,
-        at: Moment,
-        entry: u64,
-        limit: u64,
+        occasion: Occasion,
         home: u64,
         template: JobTemplate,
         indices: Option<Indices>,
     ) -> Result<Submitted, Refusal>
-        requires entry { entry ≤ 4_000_001 }
-        requires limit { limit ≤ 4_000_000 }
-        requires jobs { self.old.plan.next_job ≤ 10_000 * entry }
-        requires arrays { self.old.plan.next_array ≤ entry }
-        ensures meets { Meets (outcome (submit home template indices) entry (advance_plan entry at self.old.plan)) self.old.plan entry limit result self.new.plan }
+        requires jobs { self.old.plan.next_job ≤ 10_000 * occasion.entry }
+        requires arrays { self.old.plan.next_array ≤ occasion.entry }
+        ensures meets { MeetsAt occasion (submit home template indices) self.old.plan result self.new.plan }
         ensures spare { self.old.spare ≤ self.new.spare + asked indices }
         ensures err { OnErr result (self.old.spare ≤ self.new.spare) }
-        ensures memory { IsSome (first_refusal (early_tests template indices (advance_plan entry at self.old.plan))) → result ≢ Err Refusal.OutOfMemory }
+        ensures memory { IsSome (first_refusal (early_tests template indices (plan_at occasion self.old.plan))) → result ≢ Err Refusal.OutOfMemory }
     {
-        match refusal_of(&self.book, at, &template, indices) {
-            Some(why) => Err(self.book.refuse(at, entry, limit, &why)),
+        match refusal_of(&self.book, occasion.at, &template, indices) {
+            Some(why) => Err(self.book.refuse(occasion, &why)),
             None => admit(
                 &mut self.book,
                 self.alloc,
-                at,
-                entry,
-                limit,
+                occasion,
                 home,
                 template,
                 indices,
@@ -66,34 +60,30 @@ impl Core {
 fn admit(
     book: &mut Book,
     alloc: Global,
-    at: Moment,
-    entry: u64,
-    limit: u64,
+    occasion: Occasion,
     home: u64,
     template: JobTemplate,
     indices: Option<Indices>,
 ) -> Result<Submitted, Refusal>
     requires kept { IsKept book.old }
-    requires entry { entry ≤ 4_000_001 }
-    requires limit { limit ≤ 4_000_000 }
-    requires jobs { (plan_of book.old).next_job ≤ 10_000 * entry }
-    requires arrays { (plan_of book.old).next_array ≤ entry }
-    requires free { first_refusal (early_tests template indices (advance_plan 0 at (plan_of book.old))) ≡ None }
-    ensures meets { Meets (outcome (submit home template indices) entry (advance_plan entry at (plan_of book.old))) (plan_of book.old) entry limit result (plan_of book.new) }
+    requires jobs { (plan_of book.old).next_job ≤ 10_000 * occasion.entry }
+    requires arrays { (plan_of book.old).next_array ≤ occasion.entry }
+    requires free { first_refusal (early_tests template indices (advance_plan 0 occasion.at (plan_of book.old))) ≡ None }
+    ensures meets { MeetsAt occasion (submit home template indices) (plan_of book.old) result (plan_of book.new) }
     ensures kept { IsKept book.new }
     ensures spare { spare book.old ≤ spare book.new + asked indices }
     ensures err { OnErr result (spare book.old ≤ spare book.new) }
 {
-    let batch = batch_of(book, at, home);
+    let batch = batch_of(book, occasion.at, home);
     match rows_of(book, alloc, &batch, template, indices) {
-        Ok(rows) => match book.push_rows(at, entry, limit, rows, arrays_used(indices)) {
+        Ok(rows) => match book.push_rows(occasion, rows, arrays_used(indices)) {
             Ok(()) => Ok(told_of(&batch, indices)),
             Err(why) => Err(why),
         },
         Err(Unmade::OutOfMemory) => Err(Refusal::OutOfMemory),
         Err(Unmade::TooMuchText) => {
             let why = Refusal::OutOfResource(Limit::KeptText);
-            Err(book.refuse(at, entry, limit, &why))
+            Err(book.refuse(occasion, &why))
         }
     }
 }

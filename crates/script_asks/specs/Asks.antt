@@ -5,18 +5,16 @@ use Rattle.std.specs.Map.{lookup}
 use Rattle.std.specs.Str.{bytes_eq}
 use Rattle.drmaa_types.specs.declared.identifiers.JobId.{JobId}
 use Rattle.drmaa_types.specs.declared.identifiers.ReservationId.{ReservationId}
+use Rattle.drmaa_types.specs.declared.identifiers.SessionId.{SessionId}
 use Rattle.drmaa_types.specs.declared.filters.JobFilter.{JobFilter}
 use Rattle.drmaa_types.specs.declared.states.Control.{Control}
 use Rattle.drmaa_types.specs.declared.states.Control.TheVariants as control
-use Rattle.drmaa_types.specs.declared.states.Exit.{Exit}
 use Rattle.drmaa_types.specs.declared.states.Exit.TheVariants as exit
-use Rattle.drmaa_types.specs.declared.states.SignalKind.{SignalKind}
-use Rattle.drmaa_types.specs.declared.states.WaitKind.{WaitKind}
 use Rattle.drmaa_types.specs.declared.states.WaitKind.TheVariants as reached
-use Rattle.drmaa_types.specs.declared.moments.Timeout.{Timeout}
 use Rattle.job_template.specs.declared.templates.JobTemplate.{JobTemplate}
 use Rattle.drmaa_model.specs.declared.calls.Call.{Call}
 use Rattle.drmaa_model.specs.declared.calls.Call.TheVariants as call
+use Rattle.drmaa_model.specs.declared.calls.Target.{Target}
 use Rattle.drmaa_model.specs.declared.calls.Target.TheVariants as target
 use Rattle.drmaa_model.specs.declared.calls.Indices.{Indices}
 use Rattle.text_codec.specs.Formats.{◌>>=◌}
@@ -97,97 +95,73 @@ template_in t reserved = record t { reservation_id = reservation_id reserved }
 abbrev pub template_of : Script → List (List ℕ × Given) → List ℕ → Option Ref → Option JobTemplate
 template_of s names template reserved = lookup (bytes_eq template) s.jobs >>= λ t. number_if names reserved >>= λ r. Some (template_in t r)
 
--- the calls of one session, and of one session and what it has
-abbrev pub ask_close : List (List ℕ × Given) → Ref → Option Call
-ask_close names session = number_of names session >>= λ s. Some (call.CloseSession (record { 0 = s }))
+-- the call of a session that a line names
+abbrev pub of_session : List (List ℕ × Given) → Ref → (SessionId → Call) → Option Call
+of_session names session make = number_of names session >>= λ s. Some (make (record { 0 = s }))
 
-abbrev pub ask_reservations : List (List ℕ × Given) → Ref → Option Call
-ask_reservations names session = number_of names session >>= λ s. Some (call.GetReservations (record { 0 = s }))
+-- the call of a session that a line names and of what else it names, where both are there
+abbrev pub in_session : {A : Type 0} → List (List ℕ × Given) → Ref → Option A → (SessionId → A → Call) → Option Call
+in_session names session other make = number_of names session >>= λ s. other >>= λ x. Some (make (record { 0 = s }) x)
 
-abbrev pub ask_all_reservations : List (List ℕ × Given) → Ref → Option Call
-ask_all_reservations names session = number_of names session >>= λ s. Some (call.AllReservations (record { 0 = s }))
+-- the report of a job's last launch
+abbrev pub of_launch : List (List ℕ × Given) → (ℕ → ℕ) → Ref → (JobId → ℕ → Call) → Option Call
+of_launch names attempt job make = number_of names job >>= λ j. Some (make (record { 0 = j }) (attempt j))
 
-abbrev pub ask_queues : List (List ℕ × Given) → Ref → Option Call
-ask_queues names session = number_of names session >>= λ s. Some (call.AllQueues (record { 0 = s }))
+-- what a control call or a reap is for: a job, or the members of an array
+abbrev pub a_job : ℕ → Target
+a_job n = target.Job (record { 0 = n })
 
-abbrev pub ask_machines : List (List ℕ × Given) → Ref → Option Call
-ask_machines names session = number_of names session >>= λ s. Some (call.AllMachines (record { 0 = s }))
+abbrev pub an_array : ℕ → Target
+an_array n = target.Array (record { 0 = n })
 
-abbrev pub ask_run : Script → List (List ℕ × Given) → Ref → List ℕ → Option Ref → Option Call
-ask_run s names session template reserved =
-    number_of names session >>= λ n. template_of s names template reserved >>= λ t. Some (call.RunJob (record { 0 = n }) t)
+-- a control call for what a number stands for
+abbrev pub controls : (ℕ → Target) → Control → SessionId → ℕ → Call
+controls whom what session n = call.Control session (whom n) what
 
-abbrev pub ask_bulk : Script → List (List ℕ × Given) → Ref → List ℕ → Indices → Option Ref → Option Call
-ask_bulk s names session template indices reserved =
-    number_of names session >>= λ n. template_of s names template reserved >>= λ t. Some (call.RunBulk (record { 0 = n }) t indices)
+-- a submission of a job, or of one for each index
+abbrev pub submits : Option Indices → SessionId → JobTemplate → Call
+submits None session t = call.RunJob session t
+submits (Some indices) session t = call.RunBulk session t indices
 
-abbrev pub ask_jobs : List (List ℕ × Given) → Ref → Filter → Option Call
-ask_jobs names session filter = number_of names session >>= λ s. filter_of names filter >>= λ f. Some (call.GetJobs (record { 0 = s }) f)
+-- What a line asks of a session, or of a job, an array or a reservation in it, of those lines that `asks` and `reports` leave; nothing for any other.
+abbrev pub asks_in_session : List (List ℕ × Given) → Line → Option Call
+asks_in_session names (line.Close session) = of_session names session call.CloseSession
+asks_in_session names (line.Array session array) = in_session names session (number_of names array) (λ s a. call.GetJobArray s (record { 0 = a }))
+asks_in_session names (line.Suspend session job) = in_session names session (number_of names job) (controls a_job control.Suspend)
+asks_in_session names (line.Resume session job) = in_session names session (number_of names job) (controls a_job control.Resume)
+asks_in_session names (line.Hold session job) = in_session names session (number_of names job) (controls a_job control.Hold)
+asks_in_session names (line.Release session job) = in_session names session (number_of names job) (controls a_job control.Release)
+asks_in_session names (line.Terminate session job) = in_session names session (number_of names job) (controls a_job control.Terminate)
+asks_in_session names (line.SuspendArray session array) = in_session names session (number_of names array) (controls an_array control.Suspend)
+asks_in_session names (line.ResumeArray session array) = in_session names session (number_of names array) (controls an_array control.Resume)
+asks_in_session names (line.HoldArray session array) = in_session names session (number_of names array) (controls an_array control.Hold)
+asks_in_session names (line.ReleaseArray session array) = in_session names session (number_of names array) (controls an_array control.Release)
+asks_in_session names (line.TerminateArray session array) = in_session names session (number_of names array) (controls an_array control.Terminate)
+asks_in_session names (line.Reap session job) = in_session names session (number_of names job) (λ s j. call.Reap s (a_job j))
+asks_in_session names (line.ReapArray session array) = in_session names session (number_of names array) (λ s a. call.Reap s (an_array a))
+asks_in_session names (line.State session job) = in_session names session (number_of names job) (λ s j. call.GetState s (record { 0 = j }))
+asks_in_session names (line.Info session job) = in_session names session (number_of names job) (λ s j. call.GetInfo s (record { 0 = j }))
+asks_in_session names (line.Reservation session reservation) = in_session names session (number_of names reservation) (λ s r. call.GetReservation s (record { 0 = r }))
+asks_in_session names (line.Reservations session) = of_session names session call.GetReservations
+asks_in_session names (line.Cancel session reservation) = in_session names session (number_of names reservation) (λ s r. call.EndReservation s (record { 0 = r }))
+asks_in_session names (line.AllReservations session) = of_session names session call.AllReservations
+asks_in_session names (line.Queues session) = of_session names session call.AllQueues
+asks_in_session names (line.Machines session) = of_session names session call.AllMachines
+asks_in_session names _ = None
 
-abbrev pub ask_all_jobs : List (List ℕ × Given) → Ref → Filter → Option Call
-ask_all_jobs names session filter = number_of names session >>= λ s. filter_of names filter >>= λ f. Some (call.AllJobs (record { 0 = s }) f)
+-- What a line that `asks` leaves reports of a job's last launch; where it reports nothing, what it asks of a session.
+abbrev pub reports : List (List ℕ × Given) → (ℕ → ℕ) → Line → Option Call
+reports names attempt (line.Started job) = of_launch names attempt job call.Started
+reports names attempt (line.StartFailed job) = of_launch names attempt job call.StartFailed
+reports names attempt (line.Exit job code) = of_launch names attempt job (λ j n. call.Exited j n (exit.Code code))
+reports names attempt (line.ExitSignal job signal) = of_launch names attempt job (λ j n. call.Exited j n (exit.Signal signal))
+reports names attempt (line.ExitUnknown job) = of_launch names attempt job call.ExitUnknown
+reports names attempt (line.SignalDone job kind) = of_launch names attempt job (λ j n. call.SignalDone j n kind)
+reports names attempt (line.SignalFailed job kind) = of_launch names attempt job (λ j n. call.SignalFailed j n kind)
+reports names attempt l = asks_in_session names l
 
-abbrev pub ask_array : List (List ℕ × Given) → Ref → Ref → Option Call
-ask_array names session array = number_of names session >>= λ s. number_of names array >>= λ a. Some (call.GetJobArray (record { 0 = s }) (record { 0 = a }))
-
-abbrev pub ask_control : List (List ℕ × Given) → Ref → Ref → Control → Option Call
-ask_control names session job what =
-    number_of names session >>= λ s. number_of names job >>= λ j. Some (call.Control (record { 0 = s }) (target.Job (record { 0 = j })) what)
-
-abbrev pub ask_control_array : List (List ℕ × Given) → Ref → Ref → Control → Option Call
-ask_control_array names session array what =
-    number_of names session >>= λ s. number_of names array >>= λ a. Some (call.Control (record { 0 = s }) (target.Array (record { 0 = a })) what)
-
-abbrev pub ask_reap : List (List ℕ × Given) → Ref → Ref → Option Call
-ask_reap names session job = number_of names session >>= λ s. number_of names job >>= λ j. Some (call.Reap (record { 0 = s }) (target.Job (record { 0 = j })))
-
-abbrev pub ask_reap_array : List (List ℕ × Given) → Ref → Ref → Option Call
-ask_reap_array names session array =
-    number_of names session >>= λ s. number_of names array >>= λ a. Some (call.Reap (record { 0 = s }) (target.Array (record { 0 = a })))
-
-abbrev pub ask_state : List (List ℕ × Given) → Ref → Ref → Option Call
-ask_state names session job = number_of names session >>= λ s. number_of names job >>= λ j. Some (call.GetState (record { 0 = s }) (record { 0 = j }))
-
-abbrev pub ask_info : List (List ℕ × Given) → Ref → Ref → Option Call
-ask_info names session job = number_of names session >>= λ s. number_of names job >>= λ j. Some (call.GetInfo (record { 0 = s }) (record { 0 = j }))
-
--- a wait that began at this moment
-abbrev pub ask_wait : List (List ℕ × Given) → ℕ → WaitKind → Ref → Timeout → List Ref → Option Call
-ask_wait names begun kind session timeout jobs =
-    number_of names session >>= λ s. numbers_of names jobs >>= λ js. Some (call.Wait (record { 0 = s }) js kind begun timeout)
-
-abbrev pub ask_reserve : Script → List (List ℕ × Given) → Ref → List ℕ → Option Call
-ask_reserve s names session template =
-    number_of names session >>= λ n. lookup (bytes_eq template) s.reservations >>= λ t. Some (call.RequestReservation (record { 0 = n }) t)
-
-abbrev pub ask_reservation : List (List ℕ × Given) → Ref → Ref → Option Call
-ask_reservation names session reservation =
-    number_of names session >>= λ s. number_of names reservation >>= λ r. Some (call.GetReservation (record { 0 = s }) (record { 0 = r }))
-
-abbrev pub ask_cancel : List (List ℕ × Given) → Ref → Ref → Option Call
-ask_cancel names session reservation =
-    number_of names session >>= λ s. number_of names reservation >>= λ r. Some (call.EndReservation (record { 0 = s }) (record { 0 = r }))
-
--- reports, each of the job's last launch
-abbrev pub ask_started : List (List ℕ × Given) → (ℕ → ℕ) → Ref → Option Call
-ask_started names attempt job = number_of names job >>= λ j. Some (call.Started (record { 0 = j }) (attempt j))
-
-abbrev pub ask_start_failed : List (List ℕ × Given) → (ℕ → ℕ) → Ref → Option Call
-ask_start_failed names attempt job = number_of names job >>= λ j. Some (call.StartFailed (record { 0 = j }) (attempt j))
-
-abbrev pub ask_exited : List (List ℕ × Given) → (ℕ → ℕ) → Ref → Exit → Option Call
-ask_exited names attempt job how = number_of names job >>= λ j. Some (call.Exited (record { 0 = j }) (attempt j) how)
-
-abbrev pub ask_exit_unknown : List (List ℕ × Given) → (ℕ → ℕ) → Ref → Option Call
-ask_exit_unknown names attempt job = number_of names job >>= λ j. Some (call.ExitUnknown (record { 0 = j }) (attempt j))
-
-abbrev pub ask_signal_done : List (List ℕ × Given) → (ℕ → ℕ) → Ref → SignalKind → Option Call
-ask_signal_done names attempt job kind = number_of names job >>= λ j. Some (call.SignalDone (record { 0 = j }) (attempt j) kind)
-
-abbrev pub ask_signal_failed : List (List ℕ × Given) → (ℕ → ℕ) → Ref → SignalKind → Option Call
-ask_signal_failed names attempt job kind = number_of names job >>= λ j. Some (call.SignalFailed (record { 0 = j }) (attempt j) kind)
-
--- What a line asks: the numbers of names, the attempt of each job's last launch, and the moment at which a wait began.
+-- What a line asks: the numbers of names, the attempt of each job's last launch, and the moment at which a wait began. A line
+-- that has none of what is told here is a report, or asks of a session and what is in it.
 abbrev pub asks : Script → List (List ℕ × Given) → (ℕ → ℕ) → ℕ → Line → Option Call
 asks s names attempt begun (line.CreateJobs name session) = Some (call.CreateJobSession session)
 asks s names attempt begun (line.CreateReservations name session) = Some (call.CreateReservationSession session)
@@ -198,43 +172,15 @@ asks s names attempt begun (line.DestroyReservations session) = Some (call.Destr
 asks s names attempt begun line.NamesJobs = Some call.JobSessionNames
 asks s names attempt begun line.NamesReservations = Some call.ReservationSessionNames
 asks s names attempt begun (line.Monitor name) = Some call.OpenMonitoring
-asks s names attempt begun (line.Close session) = ask_close names session
-asks s names attempt begun (line.Run name session template reserved) = ask_run s names session template reserved
-asks s names attempt begun (line.Bulk name session template begin end step bound reserved) = ask_bulk s names session template (record { begin = begin; end = end; step = step; bound = bound }) reserved
-asks s names attempt begun (line.Jobs session filter) = ask_jobs names session filter
-asks s names attempt begun (line.Array session array) = ask_array names session array
-asks s names attempt begun (line.Suspend session job) = ask_control names session job control.Suspend
-asks s names attempt begun (line.Resume session job) = ask_control names session job control.Resume
-asks s names attempt begun (line.Hold session job) = ask_control names session job control.Hold
-asks s names attempt begun (line.Release session job) = ask_control names session job control.Release
-asks s names attempt begun (line.Terminate session job) = ask_control names session job control.Terminate
-asks s names attempt begun (line.SuspendArray session array) = ask_control_array names session array control.Suspend
-asks s names attempt begun (line.ResumeArray session array) = ask_control_array names session array control.Resume
-asks s names attempt begun (line.HoldArray session array) = ask_control_array names session array control.Hold
-asks s names attempt begun (line.ReleaseArray session array) = ask_control_array names session array control.Release
-asks s names attempt begun (line.TerminateArray session array) = ask_control_array names session array control.Terminate
-asks s names attempt begun (line.Reap session job) = ask_reap names session job
-asks s names attempt begun (line.ReapArray session array) = ask_reap_array names session array
-asks s names attempt begun (line.State session job) = ask_state names session job
-asks s names attempt begun (line.Info session job) = ask_info names session job
-asks s names attempt begun (line.WaitStarted session timeout jobs) = ask_wait names begun reached.Started session timeout jobs
-asks s names attempt begun (line.WaitTerminated session timeout jobs) = ask_wait names begun reached.Terminated session timeout jobs
-asks s names attempt begun (line.Reserve name session template) = ask_reserve s names session template
-asks s names attempt begun (line.Reservation session reservation) = ask_reservation names session reservation
-asks s names attempt begun (line.Reservations session) = ask_reservations names session
-asks s names attempt begun (line.Cancel session reservation) = ask_cancel names session reservation
-asks s names attempt begun (line.AllJobs session filter) = ask_all_jobs names session filter
-asks s names attempt begun (line.AllReservations session) = ask_all_reservations names session
-asks s names attempt begun (line.Queues session) = ask_queues names session
-asks s names attempt begun (line.Machines session) = ask_machines names session
+asks s names attempt begun (line.Run name session template reserved) = in_session names session (template_of s names template reserved) (submits None)
+asks s names attempt begun (line.Bulk name session template begin end step bound reserved) = in_session names session (template_of s names template reserved) (submits (Some (record { begin = begin; end = end; step = step; bound = bound })))
+asks s names attempt begun (line.Jobs session filter) = in_session names session (filter_of names filter) call.GetJobs
+asks s names attempt begun (line.WaitStarted session timeout jobs) = in_session names session (numbers_of names jobs) (λ n js. call.Wait n js reached.Started begun timeout)
+asks s names attempt begun (line.WaitTerminated session timeout jobs) = in_session names session (numbers_of names jobs) (λ n js. call.Wait n js reached.Terminated begun timeout)
+asks s names attempt begun (line.Reserve name session template) = in_session names session (lookup (bytes_eq template) s.reservations) call.RequestReservation
+asks s names attempt begun (line.AllJobs session filter) = in_session names session (filter_of names filter) call.AllJobs
 asks s names attempt begun line.Register = Some call.Register
 asks s names attempt begun (line.At moment) = None
 asks s names attempt begun line.Launch = Some call.TakeLaunch
-asks s names attempt begun (line.Started job) = ask_started names attempt job
-asks s names attempt begun (line.StartFailed job) = ask_start_failed names attempt job
-asks s names attempt begun (line.Exit job code) = ask_exited names attempt job (exit.Code code)
-asks s names attempt begun (line.ExitSignal job signal) = ask_exited names attempt job (exit.Signal signal)
-asks s names attempt begun (line.ExitUnknown job) = ask_exit_unknown names attempt job
 asks s names attempt begun line.Signal = Some call.TakeSignal
-asks s names attempt begun (line.SignalDone job kind) = ask_signal_done names attempt job kind
-asks s names attempt begun (line.SignalFailed job kind) = ask_signal_failed names attempt job kind
+asks s names attempt begun l = reports names attempt l

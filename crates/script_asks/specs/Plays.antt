@@ -73,64 +73,64 @@ abbrev pub seconds_of : Timeout → ℕ
 seconds_of (Seconds seconds) = seconds
 seconds_of Infinite = greatest
 
--- Whose turn a line is in a play on one thread, or the moment that it sets; a wait has its timeout in seconds.
-pub data Turn : Type 0 where
-  sets : (moment : ℕ) → Turn
-  waits : (timeout : ℕ) → Turn
-  a_client : Turn
-  the_launcher : Turn
-  the_reaper : Turn
+-- Who plays a line in a play on one thread, or the moment that it sets; a wait has its timeout in seconds.
+pub data Performer : Type 0 where
+  sets : (moment : ℕ) → Performer
+  waits : (timeout : ℕ) → Performer
+  a_client : Performer
+  the_launcher : Performer
+  the_reaper : Performer
 
-abbrev pub turn_of : Line → Turn
-turn_of (line.CreateJobs name session) = a_client
-turn_of (line.CreateReservations name session) = a_client
-turn_of (line.OpenJobs name session) = a_client
-turn_of (line.OpenReservations name session) = a_client
-turn_of (line.DestroyJobs session) = a_client
-turn_of (line.DestroyReservations session) = a_client
-turn_of line.NamesJobs = a_client
-turn_of line.NamesReservations = a_client
-turn_of (line.Monitor name) = a_client
-turn_of (line.Close session) = a_client
-turn_of (line.Run name session template reserved) = a_client
-turn_of (line.Bulk name session template begin end step bound reserved) = a_client
-turn_of (line.Jobs session filter) = a_client
-turn_of (line.Array session array) = a_client
-turn_of (line.Suspend session job) = a_client
-turn_of (line.Resume session job) = a_client
-turn_of (line.Hold session job) = a_client
-turn_of (line.Release session job) = a_client
-turn_of (line.Terminate session job) = a_client
-turn_of (line.SuspendArray session array) = a_client
-turn_of (line.ResumeArray session array) = a_client
-turn_of (line.HoldArray session array) = a_client
-turn_of (line.ReleaseArray session array) = a_client
-turn_of (line.TerminateArray session array) = a_client
-turn_of (line.Reap session job) = a_client
-turn_of (line.ReapArray session array) = a_client
-turn_of (line.State session job) = a_client
-turn_of (line.Info session job) = a_client
-turn_of (line.WaitStarted session timeout jobs) = waits (seconds_of timeout)
-turn_of (line.WaitTerminated session timeout jobs) = waits (seconds_of timeout)
-turn_of (line.Reserve name session template) = a_client
-turn_of (line.Reservation session reservation) = a_client
-turn_of (line.Reservations session) = a_client
-turn_of (line.Cancel session reservation) = a_client
-turn_of (line.AllJobs session filter) = a_client
-turn_of (line.AllReservations session) = a_client
-turn_of (line.Queues session) = a_client
-turn_of (line.Machines session) = a_client
-turn_of line.Register = a_client
-turn_of (line.At moment) = sets moment.moment
-turn_of line.Launch = the_launcher
-turn_of (line.Started job) = the_launcher
-turn_of (line.StartFailed job) = the_launcher
-turn_of (line.Exit job code) = the_reaper
-turn_of (line.ExitSignal job signal) = the_reaper
-turn_of (line.ExitUnknown job) = the_reaper
-turn_of line.Signal = the_reaper
-turn_of (line.SignalDone job kind) = the_reaper
-turn_of (line.SignalFailed job kind) = the_reaper
+abbrev pub performer_of : Line → Performer
+performer_of (line.CreateJobs name session) = a_client
+performer_of (line.CreateReservations name session) = a_client
+performer_of (line.OpenJobs name session) = a_client
+performer_of (line.OpenReservations name session) = a_client
+performer_of (line.DestroyJobs session) = a_client
+performer_of (line.DestroyReservations session) = a_client
+performer_of line.NamesJobs = a_client
+performer_of line.NamesReservations = a_client
+performer_of (line.Monitor name) = a_client
+performer_of (line.Close session) = a_client
+performer_of (line.Run name session template reserved) = a_client
+performer_of (line.Bulk name session template begin end step bound reserved) = a_client
+performer_of (line.Jobs session filter) = a_client
+performer_of (line.Array session array) = a_client
+performer_of (line.Suspend session job) = a_client
+performer_of (line.Resume session job) = a_client
+performer_of (line.Hold session job) = a_client
+performer_of (line.Release session job) = a_client
+performer_of (line.Terminate session job) = a_client
+performer_of (line.SuspendArray session array) = a_client
+performer_of (line.ResumeArray session array) = a_client
+performer_of (line.HoldArray session array) = a_client
+performer_of (line.ReleaseArray session array) = a_client
+performer_of (line.TerminateArray session array) = a_client
+performer_of (line.Reap session job) = a_client
+performer_of (line.ReapArray session array) = a_client
+performer_of (line.State session job) = a_client
+performer_of (line.Info session job) = a_client
+performer_of (line.WaitStarted session timeout jobs) = waits (seconds_of timeout)
+performer_of (line.WaitTerminated session timeout jobs) = waits (seconds_of timeout)
+performer_of (line.Reserve name session template) = a_client
+performer_of (line.Reservation session reservation) = a_client
+performer_of (line.Reservations session) = a_client
+performer_of (line.Cancel session reservation) = a_client
+performer_of (line.AllJobs session filter) = a_client
+performer_of (line.AllReservations session) = a_client
+performer_of (line.Queues session) = a_client
+performer_of (line.Machines session) = a_client
+performer_of line.Register = a_client
+performer_of (line.At moment) = sets moment.moment
+performer_of line.Launch = the_launcher
+performer_of (line.Started job) = the_launcher
+performer_of (line.StartFailed job) = the_launcher
+performer_of (line.Exit job code) = the_reaper
+performer_of (line.ExitSignal job signal) = the_reaper
+performer_of (line.ExitUnknown job) = the_reaper
+performer_of line.Signal = the_reaper
+performer_of (line.SignalDone job kind) = the_reaper
+performer_of (line.SignalFailed job kind) = the_reaper
 
 -- the client whose block is played, and the launcher and the reaper behind all clients
 pub record Crew : Type 0 where
@@ -185,16 +185,16 @@ second_look q caller l c = after_look q caller l c q
 abbrev pub asks_now : Script → Playing → Line → Option Call
 asks_now s p l = asks s p.names (λ job. last_attempt job (map (λ e. e.reply) p.entries)) p.moment l
 
-abbrev pub play_turn : Script → Crew → Playing → Line → Turn → Playing
-play_turn s crew p l (sets m) = record p { moment = m }
-play_turn s crew p l (waits timeout) = choose (asks_now s p l) (λ c. after_look p crew.client l c (second_look (come_later p timeout) crew.client l c)) p
-play_turn s crew p l a_client = choose (asks_now s p l) (λ c. after_look p crew.client l c p) p
-play_turn s crew p l the_launcher = choose (asks_now s p l) (λ c. after_look p crew.launcher l c p) p
-play_turn s crew p l the_reaper = choose (asks_now s p l) (λ c. after_look p crew.reaper l c p) p
+abbrev pub play_by : Script → Crew → Playing → Line → Performer → Playing
+play_by s crew p l (sets m) = record p { moment = m }
+play_by s crew p l (waits timeout) = choose (asks_now s p l) (λ c. after_look p crew.client l c (second_look (come_later p timeout) crew.client l c)) p
+play_by s crew p l a_client = choose (asks_now s p l) (λ c. after_look p crew.client l c p) p
+play_by s crew p l the_launcher = choose (asks_now s p l) (λ c. after_look p crew.launcher l c p) p
+play_by s crew p l the_reaper = choose (asks_now s p l) (λ c. after_look p crew.reaper l c p) p
 
 -- a play that was stopped goes on no more
 abbrev pub play_line : Script → Crew → Playing → Line → Playing
-play_line s crew p l = choose p.full (λ size. p) (play_turn s crew p l (turn_of l))
+play_line s crew p l = choose p.full (λ size. p) (play_by s crew p l (performer_of l))
 
 abbrev pub play_lines : Script → Crew → Playing → List Line → Playing
 play_lines s crew p [] = p

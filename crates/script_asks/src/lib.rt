@@ -4,7 +4,9 @@
 mod asking;
 mod attempts;
 mod given;
+mod in_session;
 mod numbers;
+mod reports;
 mod templates;
 
 pub use asking::ask;

@@ -26,8 +26,8 @@ use Rattle.script_text.specs.Header.{header, config_of}
 use Rattle.script_text.specs.Scripts.{Part, After, Makes, begun, Spells}
 use Rattle.script_text.specs.Scripts.Part.{Job, Reservation, Lines}
 use Rattle.script_asks.specs.declared.given.Given.{Given}
-use Rattle.script_asks.specs.Plays.{Playing, Crew, Turn, crew_of, turn_of, entered, after_answer, after_look, come_later, second_look, asks_now, play_turn, play_line, play_lines, play_clients, opening_in, after_setup_from, serial_play_from, serial_play}
-use Rattle.script_asks.specs.Plays.Turn.{sets, waits, a_client, the_launcher, the_reaper}
+use Rattle.script_asks.specs.Plays.{Playing, Crew, Performer, crew_of, performer_of, entered, after_answer, after_look, come_later, second_look, asks_now, play_by, play_line, play_lines, play_clients, opening_in, after_setup_from, serial_play_from, serial_play}
+use Rattle.script_asks.specs.Plays.Performer.{sets, waits, a_client, the_launcher, the_reaper}
 use Rattle.script_asks.specs.Replies.{names_after, last_attempt}
 use Rattle.script_journals.specs.AnsweredLaws.{answer-stands}
 use Rattle.script_journals.specs.AskedLaws.{HasOthers, makes-others, Asks, asks-holds}
@@ -76,20 +76,20 @@ chosen-stands p (Some c) f holds all each = each c (holds c refl)
 asks_now-holds : (s : Script) (p : Playing) (l : Line) → HasOthers s → Asks (λ c. has_others c ≡ true) (asks_now s p l)
 asks_now-holds s p l has = asks-holds s p.names (λ job. last_attempt job (map (λ e. e.reply) p.entries)) p.moment l has
 
-turn-stands : (s : Script) (crew : Crew) (p : Playing) (l : Line) (t : Turn) → HasOthers s → AllStand p → AllStand (play_turn s crew p l t)
+performer-stands : (s : Script) (crew : Crew) (p : Playing) (l : Line) (t : Performer) → HasOthers s → AllStand p → AllStand (play_by s crew p l t)
 unfolding AllStand
-turn-stands s crew p l (sets m) has all = all
-turn-stands s crew p l (waits timeout) has all =
+performer-stands s crew p l (sets m) has all = all
+performer-stands s crew p l (waits timeout) has all =
     chosen-stands p (asks_now s p l) (λ c. after_look p crew.client l c (second_look (come_later p timeout) crew.client l c)) (asks_now-holds s p l has) all (λ c holds.
     look-stands p crew.client l c (second_look (come_later p timeout) crew.client l c) holds all (second-stands (come_later p timeout) crew.client l c holds (later-stands p timeout all)))
-turn-stands s crew p l a_client has all = chosen-stands p (asks_now s p l) (λ c. after_look p crew.client l c p) (asks_now-holds s p l has) all (λ c holds. look-stands p crew.client l c p holds all all)
-turn-stands s crew p l the_launcher has all = chosen-stands p (asks_now s p l) (λ c. after_look p crew.launcher l c p) (asks_now-holds s p l has) all (λ c holds. look-stands p crew.launcher l c p holds all all)
-turn-stands s crew p l the_reaper has all = chosen-stands p (asks_now s p l) (λ c. after_look p crew.reaper l c p) (asks_now-holds s p l has) all (λ c holds. look-stands p crew.reaper l c p holds all all)
+performer-stands s crew p l a_client has all = chosen-stands p (asks_now s p l) (λ c. after_look p crew.client l c p) (asks_now-holds s p l has) all (λ c holds. look-stands p crew.client l c p holds all all)
+performer-stands s crew p l the_launcher has all = chosen-stands p (asks_now s p l) (λ c. after_look p crew.launcher l c p) (asks_now-holds s p l has) all (λ c holds. look-stands p crew.launcher l c p holds all all)
+performer-stands s crew p l the_reaper has all = chosen-stands p (asks_now s p l) (λ c. after_look p crew.reaper l c p) (asks_now-holds s p l has) all (λ c holds. look-stands p crew.reaper l c p holds all all)
 
 line-stands : (s : Script) (crew : Crew) (p : Playing) (l : Line) → HasOthers s → AllStand p → AllStand (play_line s crew p l)
 line-stands s crew p l has all =
-    elim p.full as (λ o. AllStand (choose o (λ (n : ℕ). p) (play_turn s crew p l (turn_of l)))) [
-      | None ↦ turn-stands s crew p l (turn_of l) has all
+    elim p.full as (λ o. AllStand (choose o (λ (n : ℕ). p) (play_by s crew p l (performer_of l)))) [
+      | None ↦ performer-stands s crew p l (performer_of l) has all
       | Some n ↦ all
     ]
 

@@ -25,7 +25,7 @@ use Rattle.script_lines.specs.declared.lines.Line.{Line}
 use Rattle.script_text.specs.declared.scripts.Script.{Script}
 use Rattle.script_asks.specs.Plays as plays
 use Rattle.script_asks.specs.Replies.{names_after}
-use Rattle.script_asks.specs.Plays.{Playing, Turn, sets, waits, a_client, the_launcher, the_reaper, entered, after_answer, after_look, come_later, second_look, asks_now, play_turn, play_line, turn_of}
+use Rattle.script_asks.specs.Plays.{Playing, Performer, sets, waits, a_client, the_launcher, the_reaper, entered, after_answer, after_look, come_later, second_look, asks_now, play_by, play_line, performer_of}
 use Rattle.script_play.specs.Callbacks.{number_in, number_of, AreCurrent, ArePlacedAfter, AreCurrentAfter, GoesOn, AreBehind}
 use Rattle.script_play.specs.Looks.{GoesTo}
 use Rattle.script_play.specs.View.{Start, View, AreNotes, IsNoted, added_to, playing, start_of}
@@ -61,21 +61,21 @@ unfolding Grows
 chosen-grows p None f each = inl refl
 chosen-grows p (Some c) f each = each c
 
-turn-grows : (s : Script) (crew : plays.Crew) (p : Playing) (l : Line) (t : Turn) → Grows p.entries (play_turn s crew p l t).entries
+performer-grows : (s : Script) (crew : plays.Crew) (p : Playing) (l : Line) (t : Performer) → Grows p.entries (play_by s crew p l t).entries
 unfolding Grows
-turn-grows s crew p l (sets m) = inl refl
-turn-grows s crew p l (waits timeout) =
+performer-grows s crew p l (sets m) = inl refl
+performer-grows s crew p l (waits timeout) =
     chosen-grows p (asks_now s p l) (λ c. after_look p crew.client l c (second_look (come_later p timeout) crew.client l c)) (λ c.
     looked-grows p crew.client l c (second_look (come_later p timeout) crew.client l c) (looked-grows (come_later p timeout) crew.client l c (come_later p timeout) (inl refl)))
-turn-grows s crew p l a_client = chosen-grows p (asks_now s p l) (λ c. after_look p crew.client l c p) (λ c. looked-grows p crew.client l c p (inl refl))
-turn-grows s crew p l the_launcher = chosen-grows p (asks_now s p l) (λ c. after_look p crew.launcher l c p) (λ c. looked-grows p crew.launcher l c p (inl refl))
-turn-grows s crew p l the_reaper = chosen-grows p (asks_now s p l) (λ c. after_look p crew.reaper l c p) (λ c. looked-grows p crew.reaper l c p (inl refl))
+performer-grows s crew p l a_client = chosen-grows p (asks_now s p l) (λ c. after_look p crew.client l c p) (λ c. looked-grows p crew.client l c p (inl refl))
+performer-grows s crew p l the_launcher = chosen-grows p (asks_now s p l) (λ c. after_look p crew.launcher l c p) (λ c. looked-grows p crew.launcher l c p (inl refl))
+performer-grows s crew p l the_reaper = chosen-grows p (asks_now s p l) (λ c. after_look p crew.reaper l c p) (λ c. looked-grows p crew.reaper l c p (inl refl))
 
 pub line-grows : (s : Script) (crew : plays.Crew) (p : Playing) (l : Line) → Grows p.entries (play_line s crew p l).entries
 unfolding Grows
 line-grows s crew p l =
-    elim p.full as (λ o. Grows p.entries (choose o (λ size. p) (play_turn s crew p l (turn_of l))).entries) [
-      | None ↦ turn-grows s crew p l (turn_of l)
+    elim p.full as (λ o. Grows p.entries (choose o (λ size. p) (play_by s crew p l (performer_of l))).entries) [
+      | None ↦ performer-grows s crew p l (performer_of l)
       | Some n ↦ inl refl
     ]
 

@@ -1,11 +1,10 @@
 pub mod Along
-pub mod Copies
 pub mod Fronts
 pub mod Handing
 pub mod Looking
 pub mod Places
 pub mod Registrations
-pub mod Turns
+pub mod Performers
 pub mod Waits
 pub mod Spelled
 pub mod Whole

@@ -1,33 +1,21 @@
 -- The places of the numbers of this run, as a history goes on by one entry.
-use Rattle.std.proofs.Common.{◌≡◌, ℕ, ◌+◌, ◌-◌, ◌<◌, ◌≤◌, zero, suc, Bool, true, false, cond, List, [], ◌∷◌, ◌++◌, length, Option, Some, None, refl, sym, ◌∙◌, ap, subst, arith, slice_set, ⊎_elim}
-use Rattle.std.specs.Prelude.{◌==◌, nat_le, replicate, if◌then◌else◌}
-use Rattle.std.proofs.lemmas.Bool.{eqb-true, cases_eq}
+use Rattle.std.proofs.Common.{◌≡◌, ℕ, ◌+◌, ◌-◌, ◌<◌, ◌≤◌, true, false, List, [], ◌∷◌, ◌++◌, length, Option, Some, None, refl, sym, ◌∙◌, ap, subst, arith, slice_set, ⊎_elim}
+use Rattle.std.specs.Prelude.{nat_le, replicate, if◌then◌else◌}
+use Rattle.std.proofs.lemmas.Bool.{ne_eqb, cases_eq}
 use Rattle.std.proofs.lemmas.List.{get_or-set_other, get_or-set_same, length-set, length-replicate}
 use Rattle.drmaa_model.specs.declared.configs.Config.{Config}
 use Rattle.drmaa_model.specs.declared.entries.Entry.{Entry}
 use Rattle.drmaa_model.specs.declared.replies.Reply.TheVariants as reply
-use Rattle.drmaa_model.specs.Heard.{registers, place_from}
-use Rattle.drmaa_model.specs.History.{after_entry, replay, IsLegal}
+use Rattle.drmaa_model.specs.Heard.{registers}
+use Rattle.drmaa_model.specs.History.{replay, IsLegal}
 use Rattle.drmaa_model.specs.HistoryLaws.{replay-push, replay_from-append, legal-last, legal-prefix, legal_from-back}
 use Rattle.drmaa_model.specs.World.{World, opening_world}
 use Rattle.notify_hub.specs.Ears.{place_at}
+use Rattle.notify_hub.specs.PlacedLaws.{none-there, place-other, unplaced}
 use Rattle.notify_hub.specs.Places.{changes_of, place_of, registrations_of}
-use Rattle.notify_hub.specs.RegisterLaws.{step-registers, run-no_fewer, placed-among, place-last}
+use Rattle.notify_hub.specs.RegisterLaws.{step-registers, run-no_fewer, place-last}
 use Rattle.script_play.specs.CallbackLaws.{choice-else, le-false}
 use Rattle.script_play.specs.Callbacks.{ArePlacedAfter, place_since}
-
--- a number above those that are registered has no place
-unplaced : (config : Config) (n : ℕ) (history : List Entry) → IsLegal config history → registrations_of config history < n → place_of config history n ≡ None
-unplaced config n history legal above =
-    (elim (place_of config history n) as (λ o. place_of config history n ≡ o → o ≡ None) [
-      | None ↦ λ is. refl
-      | Some place ↦ λ is. absurd (let within : n ≤ registrations_of config history = (placed-among (opening_world config) n place history legal is).within in omega (arith, within, above))
-    ]) refl
-
-none-there : (n i : ℕ) → place_at (replicate n None) i ≡ None
-none-there zero i = refl
-none-there (suc n) zero = refl
-none-there (suc n) (suc i) = none-there n i
 
 -- a number of this run that has no place in the history has none, and neither has one of an earlier run
 since-none : (earlier : ℕ) (config : Config) (history : List Entry) (n : ℕ) → (earlier < n → place_of config history n ≡ None) → place_since earlier config history n ≡ None
@@ -44,16 +32,6 @@ placed-first config history legal = record {
   each = λ i. none-there 64 i ∙ sym (since-none (registrations_of config history) config history (i + 1) (λ above. unplaced config (i + 1) history legal above));
 }
 
--- an entry that does not register a number leaves its place as it is
-place-other : (w : World) (n : ℕ) (xs : List Entry) (e : Entry) → registers n e.reply ≡ false → place_from w n (xs ++ e ∷ []) ≡ place_from w n xs
-place-other w n [] e not = ap (λ (b : Bool). cond b (Some (length (after_entry w e).plan.changes)) None) not
-place-other w n (x ∷ xs) e not =
-    elim (registers n x.reply) as (λ b. cond b (Some (length (after_entry w x).plan.changes)) (place_from (after_entry w x) n (xs ++ e ∷ []))
-    ≡ cond b (Some (length (after_entry w x).plan.changes)) (place_from (after_entry w x) n xs)) [
-      | true ↦ refl
-      | false ↦ place-other (after_entry w x) n xs e not
-    ]
-
 -- an entry that registers no callback leaves all places as they are
 pub placed-same : (earlier : ℕ) (config : Config) (history : List Entry) (places : List (Option ℕ)) (e : Entry) → ((n : ℕ) → registers n e.reply ≡ false) → ArePlacedAfter earlier config history places
     → ArePlacedAfter earlier config (history ++ e ∷ []) places
@@ -61,9 +39,6 @@ placed-same earlier config history places e none p = record {
   as_many = p.as_many;
   each = λ i. p.each i ∙ ap (λ (o : Option ℕ). if nat_le (i + 1) earlier then None else o) (sym (place-other (opening_world config) (i + 1) history e (none (i + 1))));
 }
-
-other-number : (m n : ℕ) → (m ≡ n → ⊥) → (m == n) ≡ false
-other-number m n apart = (elim (m == n) as (λ b. (m == n) ≡ b → b ≡ false) [ true ↦ λ is. absurd (apart (eqb-true m n is)) | false ↦ λ is. refl ]) refl
 
 -- An entry that registers a callback gives its number, which had none, the place behind all changes.
 pub record IsPlacedNow (earlier : ℕ) (config : Config) (after : List Entry) (places : List (Option ℕ)) (m : ℕ) : Type 0 where
@@ -105,7 +80,7 @@ placed-new earlier config history places e m legal is registered p =
             (get_or-set_other places (m - 1) i (Some here) None other
             ∙ (p.each i
             ∙ ap (λ (o : Option ℕ). if nat_le (i + 1) earlier then None else o) (sym (place-other (opening_world config) (i + 1) history e
-            (ap (registers (i + 1)) is ∙ other-number m (i + 1) (λ at. other (omega (arith, at)))))))))
+            (ap (registers (i + 1)) is ∙ ne_eqb m (i + 1) (λ at. other (omega (arith, at)))))))))
             (cases_eq i (m - 1));
       };
     }

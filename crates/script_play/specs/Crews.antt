@@ -1,15 +1,15 @@
--- Who calls, and whose turn a line is, as the play of a script speaks of them.
+-- Who calls, and who plays a line, as the play of a script speaks of them.
 use Rattle.script_asks.specs.Plays as plays
 use Rattle.script_play.specs.declared.crews.Crew.{Crew}
-use Rattle.script_play.specs.declared.crews.Turn.{Turn}
-use Rattle.script_play.specs.declared.crews.Turn.TheVariants as turn
+use Rattle.script_play.specs.declared.crews.Performer.{Performer}
+use Rattle.script_play.specs.declared.crews.Performer.TheVariants as performer
 
 abbrev pub crew_meant : Crew → plays.Crew
 crew_meant c = record { client = c.client; launcher = c.launcher; reaper = c.reaper }
 
-abbrev pub turn_meant : Turn → plays.Turn
-turn_meant (turn.Sets moment) = plays.sets moment
-turn_meant (turn.Waits timeout) = plays.waits timeout
-turn_meant turn.Client = plays.a_client
-turn_meant turn.Launcher = plays.the_launcher
-turn_meant turn.Reaper = plays.the_reaper
+abbrev pub performer_meant : Performer → plays.Performer
+performer_meant (performer.Sets moment) = plays.sets moment
+performer_meant (performer.Waits timeout) = plays.waits timeout
+performer_meant performer.Client = plays.a_client
+performer_meant performer.Launcher = plays.the_launcher
+performer_meant performer.Reaper = plays.the_reaper

@@ -3,7 +3,6 @@ pub mod CallbackLaws
 pub mod Callbacks
 pub mod Crews
 pub mod Looks
-pub mod Names
 pub mod Playable
 pub mod Served
 pub mod View

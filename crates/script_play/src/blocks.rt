@@ -17,7 +17,7 @@ use crate::names::Names;
 use crate::players::Player;
 use notify_hub::{Callback, Ears};
 use script_text::{Block, Script};
-use std::alloc::{AllocError, Global};
+use std::alloc::AllocError;
 
 /// Plays the line at this place of a block. After an `Err` memory ran out, and the play is lost.
 fn play_at(
@@ -90,7 +90,6 @@ fn play_setup<B: Callback>(
 
 /// Plays a client's block, which begins with the names of the setup block.
 fn play_client<B: Callback>(
-    alloc: Global,
     script: &Script,
     crew: Crew,
     names: &Names,
@@ -110,13 +109,12 @@ fn play_client<B: Callback>(
     ensures begun { ears.new.begun ≡ ears.old.begun }
     ensures heard { HaveHeard B.counted B.told ears.new }
 {
-    player.begin_block(names.copied(alloc)?);
+    player.begin_block(names.copied()?);
     play_lines(script, crew, player, block, ears)
 }
 
 /// Plays the clients' blocks, in order, each with the names of the setup block.
 fn play_clients<B: Callback>(
-    alloc: Global,
     script: &Script,
     names: &Names,
     player: &mut Player,
@@ -137,15 +135,7 @@ fn play_clients<B: Callback>(
     let clients = blocks.len() as u32;
     let mut number = 1;
     for block in blocks {
-        play_client(
-            alloc,
-            script,
-            crew_of(clients, number),
-            names,
-            player,
-            block,
-            ears,
-        )?;
+        play_client(script, crew_of(clients, number), names, player, block, ears)?;
         number += 1;
     }
     Ok(())
@@ -153,7 +143,6 @@ fn play_clients<B: Callback>(
 
 /// Plays the setup block, and then the clients' blocks.
 pub fn play_blocks<B: Callback>(
-    alloc: Global,
     script: &Script,
     player: &mut Player,
     ears: &mut Ears<B>,
@@ -174,6 +163,6 @@ pub fn play_blocks<B: Callback>(
     ensures heard { HaveHeard B.counted B.told ears.new }
 {
     play_setup(script, player, ears)?;
-    let names = player.names().copied(alloc)?;
-    play_clients(alloc, script, &names, player, ears)
+    let names = player.names().copied()?;
+    play_clients(script, &names, player, ears)
 }

@@ -1,7 +1,7 @@
-//! Who calls, and whose turn a line is.
+//! Who calls, and who plays a line.
 ghost use Rattle.std.specs.Prelude.{◌≡◌, ◌≤◌};
 ghost use Rattle.script_asks.specs.Plays as plays;
-ghost use Rattle.script_play.specs.Crews.{crew_meant, turn_meant};
+ghost use Rattle.script_play.specs.Crews.{crew_meant, performer_meant};
 
 use drmaa_types::{CallerId, Moment, Timeout};
 use script_lines::Line;
@@ -14,9 +14,9 @@ pub struct Crew {
     pub reaper: CallerId,
 }
 
-/// Whose turn a line is in a play on one thread, or the moment that it sets.
+/// Who plays a line in a play on one thread, or the moment that it sets.
 #[derive(Clone, Copy, Debug, PartialEq, Eq)]
-pub enum Turn {
+pub enum Performer {
     Sets(Moment),
     /// A client's, which looks once more after so many seconds.
     Waits(u64),
@@ -47,22 +47,22 @@ fn seconds_of(timeout: Timeout) -> u64
     }
 }
 
-/// Whose turn a line is.
-pub fn turn_of(line: &Line) -> Turn
-    ensures { turn_meant result ≡ plays.turn_of line.now }
+/// Who plays a line.
+pub fn performer_of(line: &Line) -> Performer
+    ensures { performer_meant result ≡ plays.performer_of line.now }
 {
     match line {
-        Line::At { moment } => Turn::Sets(moment.moment),
+        Line::At { moment } => Performer::Sets(moment.moment),
         Line::WaitStarted { timeout, .. } | Line::WaitTerminated { timeout, .. } => {
-            Turn::Waits(seconds_of(*timeout))
+            Performer::Waits(seconds_of(*timeout))
         }
-        Line::Launch | Line::Started { .. } | Line::StartFailed { .. } => Turn::Launcher,
+        Line::Launch | Line::Started { .. } | Line::StartFailed { .. } => Performer::Launcher,
         Line::Exit { .. }
         | Line::ExitSignal { .. }
         | Line::ExitUnknown { .. }
         | Line::Signal
         | Line::SignalDone { .. }
-        | Line::SignalFailed { .. } => Turn::Reaper,
-        _ => Turn::Client,
+        | Line::SignalFailed { .. } => Performer::Reaper,
+        _ => Performer::Client,
     }
 }

@@ -17,12 +17,12 @@ fn hand_over<B: Callback>(player: &Player, from: usize, ears: &mut Ears<B>)
     ensures heard { HaveHeard B.counted B.told ears.old → HaveHeard B.counted B.told ears.new }
     ensures further { IsHandedOn B.counted B.told ears.old ears.new }
 {
-    let count = player.counts().changes as u64;
-    let mut next = from as u64;
+    let count = player.counts().changes;
+    let mut next = from;
     while next < count {
         let batch = player.changes_from(next);
-        ears.hand(next, &batch);
-        next += batch.as_slice().len() as u64;
+        ears.hand(next as u64, batch);
+        next += batch.len();
     }
 }
 

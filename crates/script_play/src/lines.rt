@@ -6,7 +6,7 @@ ghost use Rattle.script_play.specs.Crews.{crew_meant};
 ghost use Rattle.script_play.specs.Looks.{GoesTo};
 ghost use Rattle.script_play.specs.View.{IsNoted, playing};
 
-use crate::crews::{Crew, Turn, turn_of};
+use crate::crews::{Crew, Performer, performer_of};
 use crate::players::{Looked, Player, later};
 use drmaa_types::CallerId;
 use script_lines::Line;
@@ -93,14 +93,14 @@ pub fn play_line(
     if player.is_full() {
         return Ok(());
     }
-    match turn_of(line) {
-        Turn::Sets(moment) => {
+    match performer_of(line) {
+        Performer::Sets(moment) => {
             player.come_to(moment);
             Ok(())
         }
-        Turn::Waits(timeout) => play_wait(script, crew.client, player, line, timeout),
-        Turn::Client => play_call(script, crew.client, player, line),
-        Turn::Launcher => play_call(script, crew.launcher, player, line),
-        Turn::Reaper => play_call(script, crew.reaper, player, line),
+        Performer::Waits(timeout) => play_wait(script, crew.client, player, line, timeout),
+        Performer::Client => play_call(script, crew.client, player, line),
+        Performer::Launcher => play_call(script, crew.launcher, player, line),
+        Performer::Reaper => play_call(script, crew.reaper, player, line),
     }
 }

@@ -1,13 +1,13 @@
 //! A play that is under way.
-ghost use Rattle.std.specs.Prelude.{◌≡◌, ◌+◌, min, IfOk};
+ghost use Rattle.std.specs.Prelude.{◌≡◌, ◌+◌, ◌≤◌, min, length, take, IfOk};
 ghost use Rattle.drmaa_types.specs.Moments.{greatest};
 ghost use Rattle.script_asks.specs.Attempts.{Notes};
 ghost use Rattle.script_play.specs.Callbacks.{number_in};
 
 use crate::names::Names;
 use drmaa_machine::Machine;
-use drmaa_model::{Answer, Call, NoEntry, Question, Reply};
-use drmaa_types::{CallerId, ChangeBatch, Moment};
+use drmaa_model::{Call, NoEntry, Reply};
+use drmaa_types::{CallerId, Change, Moment};
 use script_asks::{Attempts, ask};
 use script_lines::Line;
 use script_text::Script;
@@ -91,6 +91,14 @@ fn number_in(reply: &Reply) -> Option<u32>
     }
 }
 
+/// The first 64 of these changes, as many as there are.
+fn first_64(changes: &[Change]) -> &[Change]
+    ensures value { result.now ≡ take 64 changes.now }
+    ensures few { length result.now ≤ 64 }
+{
+    &changes[..changes.len().min(64)]
+}
+
 /// Notes the attempt of a launch. After an `Err` memory ran out, and the attempts are lost.
 fn note(alloc: Global, attempts: &mut Attempts, reply: &Reply) -> Result<(), AllocError>
     ensures { IfOk result (λ _. Notes attempts.old reply.now attempts.new) }
@@ -101,7 +109,7 @@ fn note(alloc: Global, attempts: &mut Attempts, reply: &Reply) -> Result<(), All
 }
 
 impl Player {
-    ghost use Rattle.std.specs.Prelude.{◌≡◌, is_some, length, take, drop, slice_get, IfOk};
+    ghost use Rattle.std.specs.Prelude.{◌≡◌, ◌≤◌, is_some, length, take, drop, slice_get, IfOk};
     ghost use Rattle.drmaa_model.specs.History.{IsLegal, now_of};
     ghost use Rattle.script_play.specs.Callbacks.{number_of};
     ghost use Rattle.script_play.specs.Looks.{asks_from, IsLook, Learns};
@@ -171,16 +179,12 @@ impl Player {
     }
 
     /// The first 64 changes from this place on, as many as there are.
-    pub fn changes_from(&self, place: u64) -> ChangeBatch
-        ensures { result ≡ take 64 (drop place (now_of self.now.ledger).plan.changes) }
+    pub fn changes_from(&self, place: usize) -> &[Change]
+        ensures value { result.now ≡ take 64 (drop place (now_of self.now.ledger).plan.changes) }
+        ensures few { length result.now ≤ 64 }
     {
-        match self
-            .machine
-            .look(self.moment, Question::Changes { from: place })
-        {
-            Answer::Changes(batch) => batch,
-            _ => unreachable!(),
-        }
+        let changes = self.machine.changes();
+        first_64(&changes[place.min(changes.len())..])
     }
 
     /// Comes to another moment.

@@ -73,7 +73,6 @@ fn unless_failed<T: Drop>(value: T, done: Result<(), AllocError>) -> Result<T, A
 
 /// Plays the blocks of a script, in a play that has not begun.
 fn play_from<B: Callback>(
-    alloc: Global,
     script: &Script,
     player: Player,
     ears: &mut Ears<B>,
@@ -90,7 +89,7 @@ fn play_from<B: Callback>(
     ensures heard { HaveHeard B.counted B.told ears.new }
 {
     let mut player = player;
-    let done = play_blocks(alloc, script, &mut player, ears);
+    let done = play_blocks(script, &mut player, ears);
     unless_failed(player, done)
 }
 
@@ -133,7 +132,7 @@ pub fn play_on<B: Callback>(
 {
     let player = Player::new(alloc, machine);
     pass_over(&player, ears);
-    Ok(played_by(play_from(alloc, script, player, ears)?))
+    Ok(played_by(play_from(script, player, ears)?))
 }
 
 /// Plays a script: its setup block and then its clients' blocks, line by line, in one machine, at the moments that the lines

@@ -65,7 +65,7 @@ fn closures_are_called_with_each_notification(rt: HostRuntime) -> Result<(), Fai
     let mut batch = ChangeBatch::new();
     batch.push(change(2, 1, JobState::Queued, JobState::Failed));
     batch.push(change(4, 7, JobState::Queued, JobState::Failed));
-    assert!(rt; ears.hand(0, &batch) == 2);
+    assert!(rt; ears.hand(0, batch.as_slice()) == 2);
     let two = ears.take_back();
     for (callback, calls) in two.as_slice().iter().zip([0, 2]) {
         assert!(rt; callback.calls() == calls);

@@ -27,7 +27,7 @@ use Rattle.script_lines.specs.declared.lines.Line.{Line}
 use Rattle.script_lines.specs.declared.lines.Line.TheVariants as line
 use Rattle.script_text.specs.declared.scripts.Script.{Script}
 use Rattle.script_asks.specs.Asks.{number_of, template_of}
-use Rattle.script_asks.specs.Plays.{Crew, Playing, after_answer, after_look, asks_now, crew_of, opening_in, play_line, play_lines, play_turn, serial_play, turn_of}
+use Rattle.script_asks.specs.Plays.{Crew, Playing, after_answer, after_look, asks_now, crew_of, opening_in, play_line, play_lines, play_by, serial_play, performer_of}
 use Rattle.soak_script.specs.Draws as draws
 use Rattle.soak_laws.specs.GrowthLaws.{Grows, IsSlight, create_jobs_slight, create_reservations_slight, run_slight, request_slight, launch_slight, exit_slight, terminate_slight, reap_slight}
 use Rattle.soak_laws.specs.Scripts.{jobs, reservations, job, template_name, run_of, reserve_of, asked_by, ended_by, ended_at, moment_of, lines_at, for_steps, opening, client_of, soak_of}
@@ -70,7 +70,7 @@ asked p caller l (Some c) room slight h = answered p caller l c (answer p.world 
 
 -- a line of which this is so wherever it is played
 abbrev IsLight : Script → Line → Type 0
-IsLight s l = (crew : Crew) (p : Playing) (room : ℕ) → HasRoom (room + 5) p → HasRoom room (play_turn s crew p l (turn_of l))
+IsLight s l = (crew : Crew) (p : Playing) (room : ℕ) → HasRoom (room + 5) p → HasRoom room (play_by s crew p l (performer_of l))
 
 -- what is asked is this call
 this_call : (c d : Call) → IsSlight (kept c) → ◌≡◌ {A = Option Call} (Some c) (Some d) → IsSlight (kept d)
@@ -156,7 +156,7 @@ unstopped None next old room is h = h
 unstopped (Some size) next old room is h = cc
 
 line_played : (s : Script) (crew : Crew) (p : Playing) (l : Line) (room : ℕ) → IsLight s l → HasRoom (room + 5) p → HasRoom room (play_line s crew p l)
-line_played s crew p l room light h = unstopped p.full (play_turn s crew p l (turn_of l)) p room h.full (light crew p room h)
+line_played s crew p l room light h = unstopped p.full (play_by s crew p l (performer_of l)) p room h.full (light crew p room h)
 
 lines_played : (s : Script) (crew : Crew) (p : Playing) (ls : List Line) (room : ℕ) → AllByRecursion (IsLight s) ls → HasRoom (room + 5 * length ls) p → HasRoom room (play_lines s crew p ls)
 lines_played s crew p [] room light h = less_room (room + 5 * 0) room p (omega arith) h

@@ -1,5 +1,5 @@
 -- Clients that are hired, play their blocks, and come back.
-use Rattle.std.proofs.Common.{◌≡◌, ℕ, zero, suc, ◌+◌, ◌<◌, ◌⊎◌, inl, inr, ⊎_elim, List, [], ◌∷◌, ◌++◌, map, set, replicate, length, slice_index_or, refl, sym, ap, ◌∙◌, subst, append_assoc, append-nil, length-append, arith, Option, Some, None}
+use Rattle.std.proofs.Common.{◌≡◌, ℕ, zero, suc, ◌+◌, ◌<◌, ◌⊎◌, inl, inr, ⊎_elim, List, [], ◌∷◌, ◌++◌, map, set, replicate, length, slice_index_or, refl, sym, ap, ◌∙◌, subst, append_assoc, length-append, arith, Option, Some, None}
 use Rattle.std.specs.Prelude.{All, Result, Ok, Err}
 use Rattle.std.proofs.lemmas.List.{length-replicate}
 use Rattle.std.proofs.lemmas.List.Elements.{All-nil, All-tail}
@@ -14,16 +14,13 @@ use Rattle.call_history.specs.ClientLaws.{begins-itself, begins-both}
 use Rattle.block_play.specs.declared.stops.Stopped.{Stopped}
 use Rattle.block_play.specs.declared.stops.Stopped.TheVariants as stopped
 use Rattle.thread_play.specs.declared.workers.Worker.{Worker}
-use Rattle.thread_play.specs.Stages.{IsHired, Hired, Dismissed, worse, worst, with_back}
+use Rattle.thread_play.specs.Stages.{IsHired, Hired, worse, worst, with_back}
 use Rattle.thread_play.proofs.Lists.{at-more, replicate-more, set-between}
 
 abbrev pub Lists : Type 0
 Lists = List (Option (List Entry))
 
 module _ {C : Type 0} (given : C → Readings) (shared : Named Config) where
-  pub hired-none : (o : Seat) → BelongsTo shared o → Hired {C = C} given shared o o []
-  hired-none o opener = record { opener = opener; retired = sym (append-nil (retired_of o)); seen = refl; each = λ i d h. absurd (omega arith) }
-
   pub hired-more : (o p q : Seat) (ws vs : List (Worker C)) (w : Worker C) → Hired given shared o p ws → BelongsTo shared q → retired_of q ≡ retired_of p ++ None ∷ [] → seen_of q ≡ seen_of p
       → IsHired given shared o (length ws) w → vs ≡ ws ++ w ∷ [] → Hired given shared o q vs
   hired-more o p q ws vs w h opener retired seen is more =
@@ -42,9 +39,6 @@ module _ {C : Type 0} (given : C → Readings) (shared : Named Config) where
   -- how many numbers were given out
   pub hired-count : (o p : Seat) (ws : List (Worker C)) → Hired given shared o p ws → length (retired_of p) ≡ length (retired_of o) + length ws
   hired-count o p ws h = ap length h.retired ∙ length-append (retired_of o) (replicate (length ws) None) ∙ ap (λ n. length (retired_of o) + n) (length-replicate (length ws) None)
-
-  pub hired-free : (o p : Seat) (ws : List (Worker C)) → Hired given shared o p ws → All (λ (w : Worker C). IsFree shared w.client) ws
-  hired-free o p ws h i d below = (h.each i d below).client.free
 
 -- ---- the way back
 
@@ -113,21 +107,6 @@ module _ {C : Type 0} (shared : Named Config) where
     free = All-tail (λ (w : Worker C). IsFree shared w.client) w rest so.free;
     ended_is = ap (λ (e : Option Stopped). worst e rest) is ∙ so.ended_is;
   }
-
-  pub dismissed : (o p old new : Seat) (ws done rest : List (Worker C)) (kept ended : Option Stopped) → rest ≡ [] → Dismissing shared o p old new ws done rest kept ended
-      → Dismissed shared o p old new ws × (ended ≡ worst kept ws)
-  dismissed o p old new ws done rest kept ended none so =
-      let whole : ws ≡ done = so.all ∙ (ap (λ (l : List (Worker C)). done ++ l) none ∙ append-nil done) in (
-        record {
-          opener = so.opener;
-          retired = ap (λ (l : List (Worker C)). with_back (retired_of p) l) (sym none) ∙ so.retired;
-          seen = so.seen;
-          launcher = so.launcher;
-          mine = so.mine;
-          told = subst (All (λ (w : Worker C). BeginsWith (seen_of new) (seen_of w.client))) (sym whole) so.told;
-        },
-        ap (λ (l : List (Worker C)). worst ended l) (sym none) ∙ so.ended_is,
-      )
 
 -- the same, whichever are back
 pub record Going {C : Type 0} (shared : Named Config) (o p old new : Seat) (ws rest : List (Worker C)) (kept ended : Option Stopped) : Type 0 where

@@ -19,7 +19,7 @@ use Rattle.script_text.specs.declared.scripts.Script.{Script}
 use Rattle.script_asks.specs.declared.given.Given.{Given}
 use Rattle.script_asks.specs.Plays.{Plays, PlaysPart}
 use Rattle.script_journals.specs.Calls.{is_registers, IsNoRegister}
-use Rattle.beside_clients.specs.Passes.{FollowsAll}
+use Rattle.beside_clients.specs.HubClients.{FollowsAll}
 use Rattle.beside_clients.proofs.Callers.{all-of-callers}
 use Rattle.beside_clients.proofs.Outside.{may-note}
 use Rattle.thread_play.specs.Hubs.{HearRun}

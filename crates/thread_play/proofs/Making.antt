@@ -27,7 +27,7 @@ use Rattle.attendant.specs.PairLaws.{post-itself}
 use Rattle.attendant.specs.Pairs.{launcher_at, reaping_at, HasAttended}
 use Rattle.attendant.specs.Posts.{IsStillAt}
 use Rattle.attendant.specs.Outside.{Tends, AgreesOf}
-use Rattle.beside_clients.specs.Passes.{FollowsAll}
+use Rattle.beside_clients.specs.HubClients.{FollowsAll}
 use Rattle.beside_clients.proofs.Tending.{Nothing, HaveTended, have-tended}
 use Rattle.block_play.specs.declared.stops.Stopped.{Stopped}
 use Rattle.block_play.specs.declared.stops.Stopped.TheVariants as stopped

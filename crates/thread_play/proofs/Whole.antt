@@ -53,7 +53,7 @@ use Rattle.block_play.specs.declared.stops.Stopped.{Stopped}
 use Rattle.block_play.specs.declared.stops.Stopped.TheVariants as stopped
 use Rattle.block_play.specs.Played.{IsFullFor, last_moment}
 use Rattle.script_journals.specs.Calls.{IsClientsEntry}
-use Rattle.beside_clients.specs.Passes.{FollowsAll}
+use Rattle.beside_clients.specs.HubClients.{FollowsAll}
 use Rattle.beside_clients.proofs.Beginnings.{calls-append, calls-begin, begins-shorter, alone, nothing-after}
 use Rattle.beside_clients.proofs.Outside.{IsClosed, asked-of, outside-of}
 use Rattle.thread_play.specs.declared.firsts.First.{First}

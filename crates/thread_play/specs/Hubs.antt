@@ -9,7 +9,7 @@ use Rattle.call_history.specs.Clients.{Seat, seen_of, mine_of, number_of, retire
 use Rattle.notify_hub.specs.Ears.{HaveHeard}
 use Rattle.notify_hub.specs.Hubs.{Following, noted, MayBe}
 use Rattle.notify_hub.specs.Places.{ArePlaced, HavePlaces, changes_of}
-use Rattle.beside_clients.specs.Passes.{FollowsAll}
+use Rattle.beside_clients.specs.HubClients.{FollowsAll}
 
 -- The client is back: the opener has its entries, and has seen what it had.
 pub record IsReturned (shared : Named Config) (o p : Seat) (client : Seat) : Type 0 where

@@ -24,7 +24,7 @@ use Rattle.attendant.specs.Posts.{Post, IsStillAt}
 use Rattle.attendant.specs.Outside.{Tends, Keeps, AgreesOf, IsHeldUp, EndsSettled}
 use Rattle.block_play.specs.declared.stops.Stopped.TheVariants as stopped
 use Rattle.thread_play.specs.declared.workers.Worker.{Worker}
-use Rattle.beside_clients.specs.Passes.{FollowsAll}
+use Rattle.beside_clients.specs.HubClients.{FollowsAll}
 use Rattle.thread_play.specs.Stages.{PlaysOn}
 
 -- a client that is back, with its number, and the clock that was handed out to it

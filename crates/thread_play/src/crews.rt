@@ -5,10 +5,10 @@ ghost use Rattle.turn_lock.specs.Tokens.{IsFree};
 ghost use Rattle.call_history.specs.Clients.{mine_of};
 ghost use Rattle.attendant.specs.Pairs.{ArePlaced, HasAttended};
 ghost use Rattle.notify_hub.specs.Hubs.{IsNoteOf};
-ghost use Rattle.beside_clients.specs.Passes.{GoesOn, KeepsTime};
+ghost use Rattle.beside_clients.specs.HubClients.{GoesOn, KeepsTime};
 ghost use Rattle.thread_play.specs.Stages.{IsReady, HasPlayed, HavePlayed};
 
-use crate::workers::{Worker, play_own};
+use crate::workers::{Worker, play_worker};
 use attendant::{Attended, Done, Pair, Reaper, attend_there};
 use beside_clients::{Seated, follow};
 use block_play::Names;
@@ -44,7 +44,7 @@ fn play_clients<R: Threads + Wait + Pause + Sync, C: Clock + Send + Drop>(
         &|worker: Worker<C>| -> Worker<C>
             requires { IsReady shared.now script.now worker }
             ensures { HasPlayed C.given shared.entry.now script.entry.now names.entry.now worker result }
-        { play_own(rt, alloc, script, shared, bell, names, worker) },
+        { play_worker(rt, alloc, script, shared, bell, names, worker) },
     );
     done.client_ended(rt);
     *workers = played?;

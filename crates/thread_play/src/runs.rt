@@ -7,7 +7,7 @@ ghost use Rattle.call_history.specs.Clients.{seen_of, retired_of};
 ghost use Rattle.attendant.specs.Pairs.{ArePlaced};
 ghost use Rattle.notify_hub.specs.Ears.{HaveHeard};
 ghost use Rattle.notify_hub.specs.Hubs.{IsNoteOf};
-ghost use Rattle.beside_clients.specs.Passes.{KeepsCallbacks};
+ghost use Rattle.beside_clients.specs.HubClients.{KeepsCallbacks};
 ghost use Rattle.thread_play.specs.Hubs.{HearRun};
 ghost use Rattle.thread_play.specs.Runs.{IsForThreads, HasRun};
 ghost use Rattle.thread_play.specs.Pairs.{HasEnded, AreReleased};

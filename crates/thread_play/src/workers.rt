@@ -63,7 +63,7 @@ fn play_lines<R: Wait + Pause, C: Clock>(
     ensures played { mine_of desk.old.client ≡ [] →
         PlaysOn desk.old.shared.now.fixed script.now names.now block.now (mine_of desk.new.client) (seen_of desk.new.client) (C.given desk.new.clock) result }
 {
-    let Ok(names) = names.copied(alloc) else {
+    let Ok(names) = names.copied() else {
         return Err(Stopped::Memory);
     };
     match play_block(rt, alloc, script, desk, names, block) {
@@ -73,7 +73,7 @@ fn play_lines<R: Wait + Pause, C: Clock>(
 }
 
 /// Plays a client's block.
-pub(crate) fn play_own<R: Wait + Pause, C: Clock>(
+pub(crate) fn play_worker<R: Wait + Pause, C: Clock>(
     rt: &R,
     alloc: Global,
     script: &Script,

@@ -9,7 +9,7 @@ use Rattle.drmaa_model.specs.declared.reservations.Accepted.{Accepted}
 use Rattle.drmaa_model.specs.declared.rows.Row.{Row}
 use Rattle.drmaa_model.specs.Courses.{planned_end}
 use Rattle.drmaa_model.specs.Load.{covers, in_reservation, in_queue, in_array, reservation_of, first_overfull, fits}
-use Rattle.drmaa_model.specs.Order.{held, is_queued, is_reached, has_turn, has_slots_in, has_room_in, has_slots_free, has_slots, may_come, is_ready, IsReady}
+use Rattle.drmaa_model.specs.Order.{held, is_queued, is_reached, is_within_bound, has_slots_in, has_room_in, has_slots_free, has_slots, may_come, is_ready, IsReady}
 use Rattle.drmaa_model.specs.Plan.{Plan}
 use Rattle.wait_reasons.specs.declared.reasons.Reason.{Reason}
 use Rattle.wait_reasons.specs.declared.reasons.Reason.TheVariants.{ArrayFull, QueueFull, ReservationGone}
@@ -85,7 +85,7 @@ slotted p slots row (Some number) = inside p slots number (reservation_of number
 
 coming : (p : Plan) (row : Row) → Says (coming_reasons p row) (may_come p row)
 coming p row =
-    both _ _ (is_queued row.course.state && is_reached p.moment row.wants.start) (has_turn p.rows row)
+    both _ _ (is_queued row.course.state && is_reached p.moment row.wants.start) (is_within_bound p.rows row)
     (both _ _ (is_queued row.course.state) (is_reached p.moment row.wants.start) (one (is_queued row.course.state) _) (started p.moment row.wants.start))
     (turned p.rows row.wants.bound row.wants.array)
 

@@ -1,17 +1,17 @@
 use Rattle.std.proofs.Common.{◌≡◌, Some, sym, subst, true, ap, ◌∙◌, refl, Bool}
+use Rattle.std.proofs.lemmas.Option.{same_Some}
 use Rattle.std.specs.Prelude.{IsSome}
 use Rattle.std.specs.Option.{option_copied_mut}
 use Rattle.slab.specs.Slab.{get}
 use Rattle.slab.proofs.SlabLemmas.{Updates-with_value}
 use Rattle.attendant.specs.Acts.{is_run}
 use Rattle.attendant.specs.declared.reaper.Held.{Held}
-use Rattle.attendant.proofs.Entries.{some_is}
 use Rattle.attendant.proofs.reaping.signal_at.Goals as goal
 
 pub returns-in-Some : goal.returns-in-Some
 returns-in-Some g c =
     let there : get c.args.children.now c.args.key ≡ Some c.in-Some.held.now = sym c.get_mut.ensures.value ∙ ap option_copied_mut c.in-Some.is in
-    let same : c.requires.there.0 ≡ c.in-Some.held.now = some_is _ _ (sym c.requires.there.1 ∙ there) in
+    let same : c.requires.there.0 ≡ c.in-Some.held.now = same_Some _ _ (sym c.requires.there.1 ∙ there) in
     record {
       unanswered = c.requires.unanswered;
       key = c.args.key;

@@ -1,8 +1,9 @@
 use Rattle.std.proofs.Common.{rules, ◌≡◌, refl}
+use Rattle.std.proofs.lemmas.Result.{IfErr-at_err}
 use Rattle.drmaa_types.specs.declared.refusals.Limit.TheVariants as limit
 use Rattle.drmaa_types.specs.declared.refusals.Refusal.TheVariants.{OutOfResource}
 use Rattle.block_play.proofs.Made.{still-at}
-use Rattle.block_play.proofs.Registered.{register-on, at-err, registers-line, refuses-line, fills-line, lacks-line}
+use Rattle.block_play.proofs.Registered.{register-on, registers-line, refuses-line, fills-line, lacks-line}
 use Rattle.block_play.proofs.registering.play_register.Goals as goal
 
 pub returns-in-Ok : goal.returns-in-Ok
@@ -31,7 +32,7 @@ returns-in-Err-OutOfResource-Callbacks g c =
       line = λ script. record {
         desk = still-at old.shared.now old.shared.now old.client client refl r.client r.number r.begins r.own r.legal;
         timed = r.timed;
-        ok = λ before early. refuses-line script c.args.names before old.shared.now.fixed _ _ old.client client why.field-0 same (at-err _ c.register.result why.field-0 why.is r.err);
+        ok = λ before early. refuses-line script c.args.names before old.shared.now.fixed _ _ old.client client why.field-0 same (IfErr-at_err _ why.is r.err);
         err = tt;
       };
       hub = register-on old.shared.now _ _ c.args.hub.now c.register.new.self old.client client c.register.result c.requires.size r.ok r.err r.note r.place r.unplaced r.kept r.heard r.legal;
@@ -49,7 +50,7 @@ returns-in-Err-OutOfResource-Journal g c =
         desk = still-at old.shared.now old.shared.now old.client client refl r.client r.number r.begins r.own r.legal;
         timed = r.timed;
         ok = tt;
-        err = λ before early. fills-line script c.args.names before old.shared.now.fixed _ _ old.client client why.field-0 why.size early same (at-err _ c.register.result why.field-0 why.is r.err);
+        err = λ before early. fills-line script c.args.names before old.shared.now.fixed _ _ old.client client why.field-0 why.size early same (IfErr-at_err _ why.is r.err);
       };
       hub = register-on old.shared.now _ _ c.args.hub.now c.register.new.self old.client client c.register.result c.requires.size r.ok r.err r.note r.place r.unplaced r.kept r.heard r.legal;
     }
@@ -64,7 +65,7 @@ returns-in-Err g c =
         desk = still-at old.shared.now old.shared.now old.client client refl r.client r.number r.begins r.own r.legal;
         timed = r.timed;
         ok = tt;
-        err = λ before early. lacks-line script c.args.names before old.shared.now.fixed _ _ old.client client c.in-Err.field-0 (at-err _ c.register.result c.in-Err.field-0 c.in-Err.is r.err);
+        err = λ before early. lacks-line script c.args.names before old.shared.now.fixed _ _ old.client client c.in-Err.field-0 (IfErr-at_err _ c.in-Err.is r.err);
       };
       hub = register-on old.shared.now _ _ c.args.hub.now c.register.new.self old.client client c.register.result c.requires.size r.ok r.err r.note r.place r.unplaced r.kept r.heard r.legal;
     }

@@ -10,7 +10,7 @@ use Rattle.block_play.proofs.waits.play_wait.Goals as goal
 pub returns-in_default : goal.returns-in_default
 returns-in_default g c =
     let s = c.args.script.now in
-    let names = c.args.names.now in
+    let names = c.args.names in
     let desk = c.args.desk.now in
     record {
       desk = still-same desk.shared.now desk.client c.requires;
@@ -27,13 +27,13 @@ returns-in_default-numbers_of g c =
       desk = still-same desk.shared.now desk.client c.requires;
       timed = λ caller t. t;
       ok = tt;
-      err = λ before early. stopped-still c.args.script.now c.args.names.now (wait_line c.args.kind c.args.session.now c.args.timeout c.args.jobs.now) before desk.shared.now.fixed desk.client _;
+      err = λ before early. stopped-still c.args.script.now c.args.names (wait_line c.args.kind c.args.session.now c.args.timeout c.args.jobs.now) before desk.shared.now.fixed desk.client _;
     }
 
 pub returns-in_default-jobs : goal.returns-in_default-jobs
 returns-in_default-jobs g c =
     let s = c.args.script.now in
-    let names = c.args.names.now in
+    let names = c.args.names in
     let desk = c.args.desk.now in
     record {
       desk = still-same desk.shared.now desk.client c.requires;
@@ -54,7 +54,7 @@ returns-in-Ok-wait g c =
       desk = still-stays desk.shared.now new.shared.now desk.client new.client e.desk e.begins;
       timed = e.timed;
       ok = λ before early.
-          reached-played c.args.script.now c.args.names.now c.args.kind c.args.session.now c.args.timeout c.args.jobs.now c.in-Some.session c.in-Some-jobs.jobs
+          reached-played c.args.script.now c.args.names c.args.kind c.args.session.now c.args.timeout c.args.jobs.now c.in-Some.session c.in-Some-jobs.jobs
           (ap (λ n. number_of n c.args.session.now) (sym c.given.ensures) ∙ sym c.in-Some.ensures)
           (ap (λ n. numbers_of n c.args.jobs.now) (sym c.given-2.ensures) ∙ (sym c.in-Ok.ensures ∙ c.in-Some-jobs.is))
           desk.shared.now.fixed _ _ desk.client new.client before c.in-Ok-wait.field-0 early c.in-Ok-wait.ensures.ok;
@@ -71,7 +71,7 @@ returns-in-Some-stop_of g c =
       timed = e.timed;
       ok = tt;
       err = λ before early.
-          refused-stops c.args.script.now c.args.names.now c.args.kind c.args.session.now c.args.timeout c.args.jobs.now c.in-Some.session c.in-Some-jobs.jobs
+          refused-stops c.args.script.now c.args.names c.args.kind c.args.session.now c.args.timeout c.args.jobs.now c.in-Some.session c.in-Some-jobs.jobs
           (ap (λ n. number_of n c.args.session.now) (sym c.given.ensures) ∙ sym c.in-Some.ensures)
           (ap (λ n. numbers_of n c.args.jobs.now) (sym c.given-2.ensures) ∙ (sym c.in-Ok.ensures ∙ c.in-Some-jobs.is))
           desk.shared.now.fixed _ _ desk.client new.client before c.in-Err.why c.in-Some-stop_of.stopped early (sym c.in-Some-stop_of.ensures) c.in-Err.ensures.err;
@@ -86,7 +86,7 @@ returns-in-None g c =
       desk = still-stays desk.shared.now new.shared.now desk.client new.client e.desk e.begins;
       timed = e.timed;
       ok = λ before early.
-          refused-played c.args.script.now c.args.names.now c.args.kind c.args.session.now c.args.timeout c.args.jobs.now c.in-Some.session c.in-Some-jobs.jobs
+          refused-played c.args.script.now c.args.names c.args.kind c.args.session.now c.args.timeout c.args.jobs.now c.in-Some.session c.in-Some-jobs.jobs
           (ap (λ n. number_of n c.args.session.now) (sym c.given.ensures) ∙ sym c.in-Some.ensures)
           (ap (λ n. numbers_of n c.args.jobs.now) (sym c.given-2.ensures) ∙ (sym c.in-Ok.ensures ∙ c.in-Some-jobs.is))
           desk.shared.now.fixed _ _ desk.client new.client before c.in-Err.why early (sym c.in-None.ensures) c.in-Err.ensures.err c.in-Err.ensures.err.decided;

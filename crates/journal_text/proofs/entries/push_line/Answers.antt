@@ -1,7 +1,7 @@
 use Rattle.std.proofs.Common.{◌∷◌, [], ◌++◌, ap, ◌∙◌, append_assoc}
 use Rattle.journal_text.specs.Journals.{entry, kept_entry}
 use Rattle.journal_text.specs.PrintLaws.{same_entry}
-use Rattle.journal_text.proofs.Answered.{on_ok}
+use Rattle.std.proofs.lemmas.Result.{on_ok_weaker}
 use Rattle.journal_text.proofs.entries.push_line.Goals as goal
 
 pub returns-clause-text : goal.returns-clause-text
@@ -9,4 +9,4 @@ returns-clause-text c =
     let front = c.args.out.now.items in
     let line = entry.spell (c.args.number, kept_entry c.args.entry.now) in
     let kept = c.in_ok-push_entry.ensures.text ∙ ap (λ t. front ++ t) (same_entry c.args.number (kept_entry c.args.entry.now)) in
-    on_ok _ _ c.push_feed.result (λ h. h ∙ ap (λ t. t ++ 10 ∷ []) kept ∙ append_assoc front line (10 ∷ [])) c.push_feed.ensures
+    on_ok_weaker c.push_feed.result (λ h. h ∙ ap (λ t. t ++ 10 ∷ []) kept ∙ append_assoc front line (10 ∷ [])) c.push_feed.ensures

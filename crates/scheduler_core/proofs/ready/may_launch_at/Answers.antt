@@ -4,7 +4,7 @@ use Rattle.drmaa_model.specs.Order.{held, is_queued, is_reached}
 use Rattle.drmaa_model.specs.Time.{lasts}
 use Rattle.drmaa_model.specs.TimeLaws.{timed-wants}
 use Rattle.plan_book.specs.Book.{plan_of}
-use Rattle.scheduler_core.specs.Launches.{seen, seen_row, turn_of, slots_of}
+use Rattle.scheduler_core.specs.Launches.{seen, seen_row, within_bound, slots_of}
 use Rattle.scheduler_core.proofs.LaunchSteps.{ready_of}
 use Rattle.scheduler_core.proofs.ready.may_launch_at.Goals as goal
 
@@ -15,7 +15,7 @@ returns-clause-value c =
     let row = c.args.row.now in
     let w = row.wants in
     let slots = slots_of (seen m p) w.min w in
-    let come : (is_queued (seen_row m p row).course.state && is_reached m w.start && turn_of p.rows w) ≡ true = sym c.comes_at.ensures.value ∙ c.if-not-comes_at.false in
+    let come : (is_queued (seen_row m p row).course.state && is_reached m w.start && within_bound p.rows w) ≡ true = sym c.comes_at.ensures.value ∙ c.if-not-comes_at.false in
     let free : leb (held p.rows + w.min) p.total ≡ true =
     sym (c.is_free.ensures ∙ ap (λ (n : ℕ). leb (c.args.used + w.min) n) c.total.ensures ∙ ap (λ (n : ℕ). leb (n + w.min) p.total) c.requires.used) ∙ c.if-not-is_free.false in
     c.has_slots.ensures.value

@@ -4,35 +4,35 @@ use Rattle.drmaa_types.specs.declared.refusals.Limit.TheVariants.{KeptText}
 use Rattle.drmaa_model.specs.Fit.{IsFit}
 use Rattle.drmaa_model.specs.FitLaws.{advance-fit}
 use Rattle.drmaa_model.specs.Submitting.{kept_text, new_text, members, most_kept_text, submit}
-use Rattle.drmaa_model.specs.Time.{advance_plan}
 use Rattle.plan_book.specs.Book.{plan_of, joined}
 use Rattle.scheduler_core.specs.declared.batches.Batch.{Batch}
 use Rattle.scheduler_core.specs.Batches.{batch_rows, batch_members, told_of}
 use Rattle.plan_book.specs.MeetLaws.{refused-meets}
+use Rattle.plan_book.specs.Occasions.{plan_at}
 use Rattle.scheduler_core.proofs.SubmitSteps.{MayJoin, may-join, asked-rows, asked-text, text-then, text-refuses, joined-ok, joined-err}
 use Rattle.scheduler_core.proofs.submits.admit.Goals as goal
 use Rattle.scheduler_core.proofs.submits.admit.Goals.{After-rows_of, In-Ok}
 
 -- the text that the templates would have
-text : (c : After-rows_of) → let q = advance_plan c.args.entry c.args.at (plan_of c.args.book.now) in
+text : (c : After-rows_of) → let q = plan_at c.args.occasion (plan_of c.args.book.now) in
     kept_text c.args.book.now.rows.items + new_text (batch_members c.batch_of-batch.result c.args.template c.args.indices)
     ≡ kept_text q.rows + new_text (members c.args.template c.args.indices q)
 text c =
     let p = plan_of c.args.book.now in
-    let q = advance_plan c.args.entry c.args.at p in
+    let q = plan_at c.args.occasion p in
     let t = c.args.template in
-    let old = text-then c.args.entry c.args.at p in
+    let old = text-then c.args.occasion.entry c.args.occasion.at p in
     let new : new_text (batch_members c.batch_of-batch.result t c.args.indices) ≡ new_text (members t c.args.indices q) =
     ap (λ (b : Batch). new_text (batch_members b t c.args.indices)) c.batch_of-batch.ensures ∙ asked-text c.args.home q t c.args.indices in
     omega (arith, old, new)
 
 -- the rows may come in
-joins : (c : In-Ok) → MayJoin c.args.home c.args.template c.args.indices c.args.entry (advance_plan c.args.entry c.args.at (plan_of c.args.book.now)) c.in-Ok.rows.items
+joins : (c : In-Ok) → MayJoin c.args.home c.args.template c.args.indices c.args.occasion.entry (plan_at c.args.occasion (plan_of c.args.book.now)) c.in-Ok.rows.items
 joins c =
     let p = plan_of c.args.book.now in
-    let q = advance_plan c.args.entry c.args.at p in
+    let q = plan_at c.args.occasion p in
     let t = c.args.template in
-    may-join c.args.home t c.args.indices c.args.entry q c.in-Ok.rows.items (advance-fit c.args.entry c.args.at p c.requires.kept.fit) c.requires.free
+    may-join c.args.home t c.args.indices c.args.occasion.entry q c.in-Ok.rows.items (advance-fit c.args.occasion.entry c.args.occasion.at p c.requires.kept.fit) c.requires.free
     (subst (λ (n : ℕ). n ≤ most_kept_text) (text c.before) (c.in-Ok.ensures {u = tt}).fits)
     ((c.in-Ok.ensures {u = tt}).rows ∙ ap (λ (b : Batch). batch_rows p.queues b b.first (batch_members b t c.args.indices)) c.batch_of-batch.ensures ∙ asked-rows c.args.home q t c.args.indices)
 
@@ -44,13 +44,13 @@ push_rows-requires-clause-waits c = (joins c.before.before).waits
 
 pub push_rows-requires-clause-fit : goal.push_rows-requires-clause-fit
 push_rows-requires-clause-fit c =
-    subst (λ (n : ℕ). IsFit (joined c.in-Ok.rows.items n (advance_plan c.args.entry c.args.at (plan_of c.args.book.now)))) (sym c.arrays_used.ensures) (joins c.before.before).fit
+    subst (λ (n : ℕ). IsFit (joined c.in-Ok.rows.items n (plan_at c.args.occasion (plan_of c.args.book.now)))) (sym c.arrays_used.ensures) (joins c.before.before).fit
 
 pub returns-in-Ok-push_rows-clause-meets : goal.returns-in-Ok-push_rows-clause-meets
 returns-in-Ok-push_rows-clause-meets c =
     let p = plan_of c.args.book.now in
-    let q = advance_plan c.args.entry c.args.at p in
-    joined-ok c.args.home c.args.template c.args.indices c.args.entry c.args.limit c.arrays_used.result p q (plan_of c.push_rows.new.self) c.in-Ok.rows.items c.told_of.result
+    let q = plan_at c.args.occasion p in
+    joined-ok c.args.home c.args.template c.args.indices c.args.occasion.entry c.args.occasion.limit c.arrays_used.result p q (plan_of c.push_rows.new.self) c.in-Ok.rows.items c.told_of.result
     c.in-Ok-push_rows.field-0 c.push_rows.result (joins c.before.before.before.before.before.before)
     (c.told_of.ensures ∙ ap (λ (b : Batch). told_of b c.args.indices) c.batch_of-batch.ensures) c.arrays_used.ensures c.in-Ok-push_rows.is c.push_rows.ensures.meets
 
@@ -61,8 +61,8 @@ returns-in-Ok-push_rows-clause-spare c =
 pub returns-in-Err-clause-meets : goal.returns-in-Err-clause-meets
 returns-in-Err-clause-meets c =
     let p = plan_of c.args.book.now in
-    let q = advance_plan c.args.entry c.args.at p in
-    joined-err c.args.home c.args.template c.args.indices c.args.entry c.args.limit c.arrays_used.result p q (plan_of c.push_rows.new.self) c.in-Ok.rows.items c.in-Err.why
+    let q = plan_at c.args.occasion p in
+    joined-err c.args.home c.args.template c.args.indices c.args.occasion.entry c.args.occasion.limit c.arrays_used.result p q (plan_of c.push_rows.new.self) c.in-Ok.rows.items c.in-Err.why
     c.push_rows.result (joins c.before.before.before.before) c.arrays_used.ensures c.in-Err.is c.push_rows.ensures.meets
 
 pub returns-in-Err-clause-spare : goal.returns-in-Err-clause-spare
@@ -72,9 +72,9 @@ returns-in-Err-clause-spare c =
 pub returns-in-Err-TooMuchText-clause-meets : goal.returns-in-Err-TooMuchText-clause-meets
 returns-in-Err-TooMuchText-clause-meets c =
     let p = plan_of c.args.book.now in
-    let q = advance_plan c.args.entry c.args.at p in
+    let q = plan_at c.args.occasion p in
     let t = c.args.template in
     let above = (c.in-Err-TooMuchText.ensures {u = tt}).err c.in-Err-TooMuchText.field-0-is in
-    refused-meets (submit c.args.home t c.args.indices) c.args.entry c.args.limit p q (plan_of c.refuse.new.self) (OutOfResource KeptText) c.refuse.result
+    refused-meets (submit c.args.home t c.args.indices) c.args.occasion.entry c.args.occasion.limit p q (plan_of c.refuse.new.self) (OutOfResource KeptText) c.refuse.result
     (text-refuses c.args.home t c.args.indices q c.requires.free (let same = text c.before.before.before.before in omega (arith, above, same)))
     c.refuse.ensures.refuses

@@ -9,7 +9,7 @@ use Rattle.script_play.proofs.hearing.hand_over.Goals as goal
 pub overflow_add-next : goal.overflow_add-next
 overflow_add-next g c =
     let all = (now_of c.args.player.now.ledger).plan.changes in
-    let size = ap length (c.as_slice.ensures.value ∙ c.changes_from-batch.ensures) in
+    let size = ap length c.changes_from-batch.ensures.value in
     omega (arith, size, length-take 64 (drop c.loop-next.next all), length-drop c.loop-next.next all, c.loop-next.invariant.within, c.counts-count.ensures.changes)
 
 pub loop-next-init : goal.loop-next-init
@@ -29,20 +29,20 @@ loop-next-init g c =
 pub loop-next-preserved : goal.loop-next-preserved
 loop-next-preserved g c =
     let all = (now_of c.args.player.now.ledger).plan.changes in
-    let batch : c.as_slice.result.now ≡ take 64 (drop c.loop-next.next all) = c.as_slice.ensures.value ∙ c.changes_from-batch.ensures in
+    let batch : c.changes_from-batch.result.now ≡ take 64 (drop c.loop-next.next all) = c.changes_from-batch.ensures.value in
     let size = ap length batch in
     let old = c.loop-next.invariant in
     let before = ap length old.handed in
     let count : c.loop-next.next ≡ length c.loop-next.ears.handed = omega (arith, before, length-take c.loop-next.next all, old.within) in
     record {
       within = omega (arith, size, length-take 64 (drop c.loop-next.next all), length-drop c.loop-next.next all, old.within);
-      handed = ap (λ (x : Listening g.row.B.Denot). x.handed) c.hand-next.ensures.handed
-          ∙ (ap (λ (xs : List Change). xs ++ c.changes_from-batch.result) old.handed
-          ∙ (ap (λ (xs : List Change). take c.loop-next.next all ++ xs) c.changes_from-batch.ensures
+      handed = ap (λ (x : Listening g.row.B.Denot). x.handed) c.hand.ensures.handed
+          ∙ (ap (λ (xs : List Change). xs ++ c.changes_from-batch.result.now) old.handed
+          ∙ (ap (λ (xs : List Change). take c.loop-next.next all ++ xs) batch
           ∙ (take-both c.loop-next.next 64 all old.within ∙ ap (λ (xs : List Change). take (c.loop-next.next + length xs) all) (sym batch))));
-      begun = ap (λ (x : Listening g.row.B.Denot). x.begun) c.hand-next.ensures.handed ∙ old.begun;
-      places = ap (λ (x : Listening g.row.B.Denot). x.places) c.hand-next.ensures.handed ∙ old.places;
-      heard = λ h. c.hand-next.ensures.heard (old.heard h);
-      further = on-then g.B.Callback.counted g.B.Callback.told c.args.ears.now c.loop-next.ears c.hand-next.new.self (ap (λ (x : Listening g.row.B.Denot). x.places) c.hand-next.ensures.handed) old.further
-          (on-batch g.B.Callback.counted g.B.Callback.told c.loop-next.next c.changes_from-batch.result c.loop-next.ears c.hand-next.new.self count c.hand-next.ensures.handed c.hand-next.ensures.hears);
+      begun = ap (λ (x : Listening g.row.B.Denot). x.begun) c.hand.ensures.handed ∙ old.begun;
+      places = ap (λ (x : Listening g.row.B.Denot). x.places) c.hand.ensures.handed ∙ old.places;
+      heard = λ h. c.hand.ensures.heard (old.heard h);
+      further = on-then g.B.Callback.counted g.B.Callback.told c.args.ears.now c.loop-next.ears c.hand.new.self (ap (λ (x : Listening g.row.B.Denot). x.places) c.hand.ensures.handed) old.further
+          (on-batch g.B.Callback.counted g.B.Callback.told c.loop-next.next c.changes_from-batch.result.now c.loop-next.ears c.hand.new.self count c.hand.ensures.handed c.hand.ensures.hears);
     }

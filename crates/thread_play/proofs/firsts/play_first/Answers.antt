@@ -9,7 +9,7 @@ use Rattle.notify_hub.specs.Hubs.{IsNoteOf}
 use Rattle.notify_hub.specs.Places.{HavePlaces}
 use Rattle.script_text.specs.Follows.{lines_of}
 use Rattle.script_asks.specs.Plays.{setup_names}
-use Rattle.beside_clients.specs.Passes.{FollowsAll}
+use Rattle.beside_clients.specs.HubClients.{FollowsAll}
 use Rattle.thread_play.specs.Stages.{PlaysOn}
 use Rattle.beside_clients.proofs.Beginnings.{alone, none-before}
 use Rattle.thread_play.proofs.Blocks.{plays-on, names-of}

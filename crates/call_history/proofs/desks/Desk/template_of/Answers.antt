@@ -1,6 +1,6 @@
 use Rattle.drmaa_model.specs.declared.looks.Answer.TheVariants as told
 use Rattle.drmaa_model.specs.declared.looks.Question.TheVariants as question
-use Rattle.call_history.proofs.Lookups.{looked-told, looked-for-template}
+use Rattle.call_history.proofs.Lookups.{looked-told, looked-in-vain}
 use Rattle.call_history.proofs.desks.Desk.template_of.Goals as goal
 
 pub returns-clause-ok : goal.returns-clause-ok
@@ -10,5 +10,5 @@ returns-clause-ok g c =
 
 pub returns-clause-err : goal.returns-clause-err
 returns-clause-err g c =
-    looked-for-template c.args.self.now.shared.now.fixed _ c.args.self.now.client _ c.look-answer.new.self.client c.look-answer.result c.args.job c.template_in.result
-    c.template_in.ensures.err c.look-answer.ensures.answer
+    looked-in-vain c.args.self.now.shared.now.fixed _ c.args.self.now.client _ c.look-answer.new.self.client c.look-answer.result (question.Template c.args.job) told.Template _ c.template_in.result
+    c.template_in.ensures.err c.look-answer.ensures.answer.told c.look-answer.ensures.answer

@@ -1,4 +1,5 @@
 use Rattle.std.proofs.Common.{◌≡◌, List, ap, sym, subst, ◌∙◌}
+use Rattle.std.proofs.lemmas.Result.{IfErr-weaker}
 use Rattle.drmaa_model.specs.declared.configs.Config.{Config}
 use Rattle.drmaa_model.specs.declared.entries.Entry.{Entry}
 use Rattle.drmaa_model.specs.History.{IsLegal, replay}
@@ -8,7 +9,7 @@ use Rattle.drmaa_machine.specs.Chronicles.{history_of, MakesNone}
 use Rattle.turn_lock.specs.Tokens.{Named, IsFree}
 use Rattle.call_history.specs.Clients.{seen_of, number_of}
 use Rattle.call_history.proofs.Tellings.{own-told}
-use Rattle.call_history.proofs.Turning.{if_err, entry_told, acted-number, acted-length, acted-makes, left-more, left-same}
+use Rattle.call_history.proofs.Turning.{entry_told, acted-number, acted-length, acted-makes, left-more, left-same}
 use Rattle.call_history.proofs.machines.SharedMachine.act_at.Goals as goal
 
 pub returns-clause-client : goal.returns-clause-client
@@ -38,9 +39,9 @@ returns-clause-fails c =
     let ledger = c.args.turn.value.ledger in
     let config : c.self.inside.lock.fixed ≡ ledger.config = ap (λ (n : Named Config). n.fixed) c.self.view_is ∙ sym c.requires.fixed_is in
     let seen : history_of c.args.client.now.view.seen ≡ ledger.history = ap history_of c.requires.seen ∙ history-told ledger.history in
-    if_err c.act.result _ _ c.act.ensures.fails (λ why f.
+    IfErr-weaker c.act.result _ _ (λ why f.
     subst (λ (k : Config). MakesNone (replay k ledger.history) c.args.at (kept c.args.call) why) config
-    (subst (λ (l : List Entry). MakesNone (replay c.self.inside.lock.fixed l) c.args.at (kept c.args.call) why) seen f))
+    (subst (λ (l : List Entry). MakesNone (replay c.self.inside.lock.fixed l) c.args.at (kept c.args.call) why) seen f)) c.act.ensures.fails
 
 pub returns-clause-config : goal.returns-clause-config
 returns-clause-config c = c.requires.fixed_is

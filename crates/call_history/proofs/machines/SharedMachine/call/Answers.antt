@@ -1,6 +1,7 @@
 use Rattle.std.proofs.Common.{ap, ◌∙◌}
+use Rattle.std.proofs.lemmas.Result.{IfErr-weaker, IfOk-weaker}
 use Rattle.call_history.specs.Clients.{SeesMore}
-use Rattle.call_history.proofs.Turning.{if_ok, if_err, entered, served-both, unserved-both}
+use Rattle.call_history.proofs.Turning.{entered, served-both, unserved-both}
 use Rattle.call_history.proofs.machines.SharedMachine.call.Goals as goal
 
 pub returns-clause-number : goal.returns-clause-number
@@ -11,11 +12,11 @@ returns-clause-ok g c =
     let mid = c.enter-turn.new.pass in
     let old = c.args.client.now in
     let more : SeesMore old mid = entered c.self.inside.lock old mid c.enter-turn.result c.enter-turn.ensures.enters c.enter-turn.ensures.together.seen (ap (λ v. v.mine) c.enter-turn.ensures.view) in
-    if_ok c.serve.result _ _ c.serve.ensures.ok (λ reply s. served-both old mid c.serve.new.client more (ap (λ v. v.number) c.enter-turn.ensures.view) _ _ c.args.call reply s)
+    IfOk-weaker c.serve.result _ _ (λ reply s. served-both old mid c.serve.new.client more (ap (λ v. v.number) c.enter-turn.ensures.view) _ _ c.args.call reply s) c.serve.ensures.ok
 
 pub returns-clause-err : goal.returns-clause-err
 returns-clause-err g c =
     let mid = c.enter-turn.new.pass in
     let old = c.args.client.now in
     let more : SeesMore old mid = entered c.self.inside.lock old mid c.enter-turn.result c.enter-turn.ensures.enters c.enter-turn.ensures.together.seen (ap (λ v. v.mine) c.enter-turn.ensures.view) in
-    if_err c.serve.result _ _ c.serve.ensures.err (λ why u. unserved-both old mid c.serve.new.client more (ap (λ v. v.number) c.enter-turn.ensures.view) c.args.self.now.fixed _ _ c.args.call why u)
+    IfErr-weaker c.serve.result _ _ (λ why u. unserved-both old mid c.serve.new.client more (ap (λ v. v.number) c.enter-turn.ensures.view) c.args.self.now.fixed _ _ c.args.call why u) c.serve.ensures.err

@@ -1,4 +1,5 @@
 use Rattle.std.proofs.Common.{◌≡◌, refl, ap, sym, subst, ◌∙◌, true, false, IfErr}
+use Rattle.std.proofs.lemmas.Result.{IfOk-weaker}
 use Rattle.drmaa_model.specs.declared.calls.Call.{Call}
 use Rattle.drmaa_model.specs.Effects.{not_yet}
 use Rattle.drmaa_model.specs.KeptCalls.{kept}
@@ -13,7 +14,7 @@ use Rattle.call_history.specs.Clients.{seen_of, mine_of, number_of, Makes}
 use Rattle.drmaa_model.specs.declared.configs.Config.{Config}
 use Rattle.turn_lock.specs.Tokens.{Named, IsFree}
 use Rattle.call_history.proofs.Tellings.{own-told, legal-history}
-use Rattle.call_history.proofs.Turning.{unserved-now, sees-now, over-look, decided-now, err-three, if_ok, not-over}
+use Rattle.call_history.proofs.Turning.{unserved-now, sees-now, over-look, decided-now, err-three, not-over}
 use Rattle.call_history.proofs.machines.SharedMachine.look_in_turn.Goals as goal
 
 pub returns-then-must_wait-clause-client : goal.returns-then-must_wait-clause-client
@@ -63,11 +64,11 @@ returns-clause-look g c =
     let asked = call_of c.args.awaited in
     let r = c.act_at.result in
     over-look c.args.self.now.fixed _ c.args.client.now c.args.awaited _ c.act_at.new.client r
-    (if_ok r _ _ c.act_at.ensures.ok (λ reply made. record {
+    (IfOk-weaker r _ _ (λ reply made. record {
       at = c.now-at.result;
       read = record { told = c.now-at.ensures.given; least = c.now-at.ensures.least; rising = c.now-at.ensures.rising };
       made = subst (λ (call : Call). Makes c.args.client.now (entry_by (number_of c.args.client.now) c.now-at.result call reply) c.act_at.new.client) c.into_call.ensures made;
-    }))
+    }) c.act_at.ensures.ok)
     (err-three r _ _ _ _ c.act_at.ensures.err c.act_at.ensures.same c.act_at.ensures.fails (λ why more seen reason.
     unserved-now c.args.self.now.fixed _ c.args.client.now asked why _ c.act_at.new.client c.now-at.result ledger (record { told = c.now-at.ensures.given; least = c.now-at.ensures.least; rising = c.now-at.ensures.rising }) c.requires.fixed_is seen more
     (subst (λ (call : Call). MakesNone (now_of ledger) c.now-at.result (kept call) why) c.into_call.ensures reason)))

@@ -1,10 +1,11 @@
 use Rattle.std.proofs.Common.{ap, subst, ◌∙◌}
+use Rattle.std.proofs.lemmas.Result.{IfErr-weaker, IfOk-weaker}
 use Rattle.drmaa_model.specs.declared.configs.Config.{Config}
 use Rattle.drmaa_model.specs.History.{IsLegal}
 use Rattle.turn_lock.specs.Tokens.{Named}
 use Rattle.call_history.specs.Clients.{seen_of, SeesMore}
 use Rattle.call_history.proofs.Tellings.{own-told, legal-history}
-use Rattle.call_history.proofs.Turning.{entered, served-both, unserved-both, if_ok, if_err, tried-ok, tried-err, tried-busy}
+use Rattle.call_history.proofs.Turning.{entered, served-both, unserved-both, tried-ok, tried-err, tried-busy}
 use Rattle.call_history.proofs.machines.SharedMachine.try_call.Goals as goal
 
 pub returns-in-Ok-clause-number : goal.returns-in-Ok-clause-number
@@ -17,7 +18,7 @@ returns-in-Ok-clause-ok g c =
     let view = c.in-Ok.ensures.view in
     let more : SeesMore old mid = entered c.self.inside.lock old mid c.in-Ok.turn c.in-Ok.ensures.enters c.in-Ok.ensures.together.seen (ap (λ v. v.mine) view) in
     tried-ok c.serve.result c.tried.result _ (record { ok = c.tried.ensures.ok; err = c.tried.ensures.err })
-    (if_ok c.serve.result _ _ c.serve.ensures.ok (λ reply s. served-both old mid c.serve.new.client more (ap (λ v. v.number) view) _ _ c.args.call reply s))
+    (IfOk-weaker c.serve.result _ _ (λ reply s. served-both old mid c.serve.new.client more (ap (λ v. v.number) view) _ _ c.args.call reply s) c.serve.ensures.ok)
 
 pub returns-in-Ok-clause-err : goal.returns-in-Ok-clause-err
 returns-in-Ok-clause-err g c =
@@ -26,7 +27,7 @@ returns-in-Ok-clause-err g c =
     let view = c.in-Ok.ensures.view in
     let more : SeesMore old mid = entered c.self.inside.lock old mid c.in-Ok.turn c.in-Ok.ensures.enters c.in-Ok.ensures.together.seen (ap (λ v. v.mine) view) in
     tried-err c.serve.result c.tried.result _ (record { ok = c.tried.ensures.ok; err = c.tried.ensures.err })
-    (if_err c.serve.result _ _ c.serve.ensures.err (λ why u. unserved-both old mid c.serve.new.client more (ap (λ v. v.number) view) c.args.self.now.fixed _ _ c.args.call why u))
+    (IfErr-weaker c.serve.result _ _ (λ why u. unserved-both old mid c.serve.new.client more (ap (λ v. v.number) view) c.args.self.now.fixed _ _ c.args.call why u) c.serve.ensures.err)
 
 pub returns-in-Ok-clause-unread : goal.returns-in-Ok-clause-unread
 returns-in-Ok-clause-unread g c = λ low high is. absurd (tried-busy c.serve.result c.tried.result low high (record { ok = c.tried.ensures.ok; err = c.tried.ensures.err }) is)

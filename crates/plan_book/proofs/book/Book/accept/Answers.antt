@@ -1,34 +1,32 @@
-use Rattle.std.proofs.Common.{◌≡◌, ◌+◌, ◌∷◌, [], ◌++◌, ℕ, max, refl, sym, ◌∙◌, ap, subst, arith}
-use Rattle.std.specs.Prelude.{Result, Err}
-use Rattle.drmaa_types.specs.declared.refusals.Refusal.{Refusal}
-use Rattle.drmaa_types.specs.declared.refusals.Refusal.TheVariants.{OutOfResource}
-use Rattle.drmaa_types.specs.declared.refusals.Limit.TheVariants as resource
+use Rattle.std.proofs.Common.{◌≡◌, ◌∷◌, [], ◌++◌, max, refl, sym, ◌∙◌, ap, subst, arith}
+use Rattle.std.proofs.lemmas.Result.{err_from_is_err_and}
 use Rattle.drmaa_model.specs.Fit.{IsFit}
-use Rattle.drmaa_model.specs.Operation.Meets.{served, full}
+use Rattle.drmaa_model.specs.Operation.Meets.{served}
 use Rattle.drmaa_model.specs.Plan.{Plan}
 use Rattle.drmaa_model.specs.Requests.{with_reservation}
 use Rattle.drmaa_model.specs.Size.{weight}
-use Rattle.drmaa_model.specs.Time.{advance_plan}
 use Rattle.drmaa_model.specs.TimeLaws.{weight-advance}
 use Rattle.reservation_calendar.specs.Schedules.{Schedule}
 use Rattle.plan_book.specs.Book.{plan_of, HasFewQueues}
+use Rattle.plan_book.specs.MeetLaws.{full-meets}
+use Rattle.plan_book.specs.Occasions.{plan_at}
 use Rattle.plan_book.specs.Ties.{IsTied, booked_for, let_go_of}
 use Rattle.plan_book.specs.TieLaws.{tied-reserved}
 use Rattle.plan_book.proofs.book.Book.accept.Goals as goal
 use Rattle.plan_book.proofs.book.Book.accept.Goals.{After-put_reservation}
 
-plan : (c : After-put_reservation) → plan_of c.put_reservation.new.self ≡ with_reservation c.args.accepted (advance_plan c.args.entry c.args.at (plan_of c.args.self.now))
-plan c = c.put_reservation.ensures.plan ∙ ap (with_reservation c.args.accepted) (c.advance.ensures.plan ∙ ap (advance_plan c.args.entry c.args.at) c.make_place.ensures.plan)
+plan : (c : After-put_reservation) → plan_of c.put_reservation.new.self ≡ with_reservation c.args.accepted (plan_at c.args.occasion (plan_of c.args.self.now))
+plan c = c.put_reservation.ensures.plan ∙ ap (with_reservation c.args.accepted) (c.advance.ensures.plan ∙ ap (plan_at c.args.occasion) c.make_place.ensures.plan)
 
 pub returns-clause-meets : goal.returns-clause-meets
 returns-clause-meets c =
-    let size = weight-advance c.args.entry c.args.at (plan_of c.args.self.now) in
-    served (record { answered = refl; answers = tt; plan = plan c; within = omega (arith, size, c.weight.ensures) })
+    let size = weight-advance c.args.occasion.entry c.args.occasion.at (plan_of c.args.self.now) in
+    served (record { answered = refl; answers = tt; plan = plan c; within = omega (arith, size, c.weight.ensures, (c.in_ok-admit.ensures {u = tt}).within) })
 
 tied : (c : After-put_reservation) → IsTied c.put_reservation.new.self.calendar (plan_of c.put_reservation.new.self)
 tied c =
     let p = plan_of c.args.self.now in
-    let at = c.args.at in
+    let at = c.args.occasion.at in
     let s = c.args.self.now.calendar in
     let booked : Schedule = record s { bookings = s.bookings ++ booked_for c.args.accepted ∷ [] } in
     let calendar : c.put_reservation.new.self.calendar ≡ let_go_of (max p.moment at) p.reservations booked =
@@ -38,11 +36,11 @@ tied c =
     ∙ ap (λ (x : Schedule). let t : Schedule = record x { bookings = x.bookings ++ booked_for c.args.accepted ∷ [] } in t) c.make_place.ensures.calendar) in
     subst (λ (t : Schedule). IsTied t (plan_of c.put_reservation.new.self)) (sym calendar)
     (subst (IsTied (let_go_of (max p.moment at) p.reservations booked)) (sym (plan c))
-    (tied-reserved s c.args.entry at p c.args.accepted c.requires.kept.fit c.requires.kept.tied c.requires.number))
+    (tied-reserved s c.args.occasion.entry at p c.args.accepted c.requires.kept.fit c.requires.kept.tied c.requires.number))
 
 pub returns-clause-kept : goal.returns-clause-kept
 returns-clause-kept c =
-    let size = weight-advance c.args.entry c.args.at (plan_of c.args.self.now) in
+    let size = weight-advance c.args.occasion.entry c.args.occasion.at (plan_of c.args.self.now) in
     record {
       room = c.put_reservation.ensures.room;
       fit = subst IsFit (sym (plan c)) c.requires.fit;
@@ -52,13 +50,9 @@ returns-clause-kept c =
       quiet = c.put_reservation.ensures.quiet;
     }
 
-pub returns-then-size-limit-clause-meets : goal.returns-then-size-limit-clause-meets
-returns-then-size-limit-clause-meets c =
-    let p = plan_of c.args.self.now in
-    let size = weight-advance c.args.entry c.args.at p in
-    let eq : c.args.entry + c.weight.result ≡ c.args.entry + weight (advance_plan c.args.entry c.args.at p) = omega (arith, size, c.weight.ensures) in
-    full (record {
-      answered = ap (λ (n : ℕ). let r : Result (Unit {0}) Refusal = Err (OutOfResource (resource.Journal n)) in r) eq;
-      above = omega (arith, eq, c.if-size-limit.true);
-      plan = refl;
-    })
+pub returns-in_err-admit-clause-meets : goal.returns-in_err-admit-clause-meets
+returns-in_err-admit-clause-meets c =
+    let size = weight-advance c.args.occasion.entry c.args.occasion.at (plan_of c.args.self.now) in
+    let e = err_from_is_err_and c.from_residual.result c.from_residual.ensures.1 in
+    let full = c.in_err-admit.ensures {u = tt} in
+    rw (e.1, e.2) (full-meets _ (plan_of c.args.self.now) c.args.occasion.entry c.args.occasion.limit _ _ full.above full.full (omega (arith, size, c.weight.ensures)))

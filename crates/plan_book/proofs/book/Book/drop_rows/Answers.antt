@@ -1,31 +1,29 @@
-use Rattle.std.proofs.Common.{◌≡◌, ◌+◌, ℕ, List, filter, not, ◌&&◌, refl, sym, ◌∙◌, ap, subst, arith}
-use Rattle.std.specs.Prelude.{Result, Err}
+use Rattle.std.proofs.Common.{◌≡◌, List, filter, not, ◌&&◌, refl, sym, ◌∙◌, ap, subst, arith}
+use Rattle.std.proofs.lemmas.Result.{err_from_is_err_and}
 use Rattle.std.specs.List.{AllByRecursion}
-use Rattle.drmaa_types.specs.declared.refusals.Refusal.{Refusal}
-use Rattle.drmaa_types.specs.declared.refusals.Refusal.TheVariants.{OutOfResource}
-use Rattle.drmaa_types.specs.declared.refusals.Limit.TheVariants as resource
 use Rattle.drmaa_model.specs.declared.rows.Row.{Row}
 use Rattle.drmaa_model.specs.Controlling.{is_done, reap}
 use Rattle.drmaa_model.specs.ControlLaws.{reap-fit}
 use Rattle.drmaa_model.specs.Fit.{IsFit}
 use Rattle.drmaa_model.specs.FitLaws.{advance-fit}
-use Rattle.drmaa_model.specs.Operation.Meets.{served, full}
+use Rattle.drmaa_model.specs.Operation.Meets.{served}
 use Rattle.drmaa_model.specs.Plan.{Plan}
 use Rattle.drmaa_model.specs.Size.{weight}
 use Rattle.drmaa_model.specs.Targets.{is_meant}
-use Rattle.drmaa_model.specs.Time.{advance_plan}
 use Rattle.drmaa_model.specs.TimeLaws.{weight-advance}
 use Rattle.plan_book.specs.Book.{plan_of, owed, askable, HasFewQueues}
+use Rattle.plan_book.specs.MeetLaws.{full-meets}
+use Rattle.plan_book.specs.Occasions.{plan_at}
 use Rattle.plan_book.specs.Quiet.{IsLeftUntil}
 use Rattle.plan_book.specs.Ties.{IsTied}
 use Rattle.plan_book.specs.TieLaws.{tied-then}
 use Rattle.plan_book.proofs.AlarmLaws.{quiet-left}
 use Rattle.plan_book.proofs.ArrivalLaws.{left-owed, left-askable, reaped-weight, tied-reaped}
 use Rattle.plan_book.proofs.book.Book.drop_rows.Goals as goal
-use Rattle.plan_book.proofs.book.Book.drop_rows.Goals.{After-drop_done}
+use Rattle.plan_book.proofs.book.Book.drop_rows.Goals.{After-weight, After-drop_done}
 
 abbrev left : (c : After-drop_done) → Plan
-left c = (reap c.args.target.now).effect c.args.entry (advance_plan c.args.entry c.args.at (plan_of c.args.self.now))
+left c = (reap c.args.target.now).effect c.args.occasion.entry (plan_at c.args.occasion (plan_of c.args.self.now))
 
 abbrev after : (c : After-drop_done) → Plan
 after c = record (plan_of c.advance.new.self) { rows = c.drop_done.new.self.items }
@@ -35,45 +33,48 @@ plan c =
     ap (λ (rs : List Row). let p : Plan = record (plan_of c.advance.new.self) { rows = rs } in p) c.drop_done.ensures
     ∙ ap (λ (p : Plan). let q : Plan = record p { rows = filter (λ (r : Row). not (is_meant c.args.target.now r && is_done r)) p.rows } in q) c.advance.ensures.plan
 
-fit : (c : After-drop_done) → IsFit (advance_plan c.args.entry c.args.at (plan_of c.args.self.now))
-fit c = advance-fit c.args.entry c.args.at (plan_of c.args.self.now) c.requires.kept.fit
+fit : (c : After-drop_done) → IsFit (plan_at c.args.occasion (plan_of c.args.self.now))
+fit c = advance-fit c.args.occasion.entry c.args.occasion.at (plan_of c.args.self.now) c.requires.kept.fit
 
 fit-then : (c : After-drop_done) → IsFit (plan_of c.advance.new.self)
 fit-then c = subst IsFit (sym c.advance.ensures.plan) (fit c)
 
 pub drop_done-requires : goal.drop_done-requires
 drop_done-requires c =
-    (let then : IsFit (plan_of c.advance.new.self) = subst IsFit (sym c.advance.ensures.plan) (advance-fit c.args.entry c.args.at (plan_of c.args.self.now) c.requires.kept.fit) in
+    (let then : IsFit (plan_of c.advance.new.self) = subst IsFit (sym c.advance.ensures.plan) (advance-fit c.args.occasion.entry c.args.occasion.at (plan_of c.args.self.now) c.requires.kept.fit) in
     record { rising = then.jobs.rising; sound = then.sound })
+
+-- the weight in the end
+size : (c : After-weight) → c.weight.result ≡ weight ((reap c.args.target.now).effect c.args.occasion.entry (plan_at c.args.occasion (plan_of c.args.self.now)))
+size c =
+    let p = plan_of c.args.self.now in
+    let same = reaped-weight c.args.target.now (plan_at c.args.occasion p) (advance-fit c.args.occasion.entry c.args.occasion.at p c.requires.kept.fit) in
+    omega (arith, weight-advance c.args.occasion.entry c.args.occasion.at p, same, c.weight.ensures)
 
 pub returns-clause-meets : goal.returns-clause-meets
 returns-clause-meets c =
-    let p = plan_of c.args.self.now in
-    let q = advance_plan c.args.entry c.args.at p in
-    let size = weight-advance c.args.entry c.args.at p in
-    let same = reaped-weight c.args.target.now q (fit c) in
-    served (record { answered = refl; answers = tt; plan = plan c; within = omega (arith, size, same, c.weight.ensures) })
+    let same = size (goal.at.returns-clause-meets c).After-weight in
+    served (record { answered = refl; answers = tt; plan = plan c; within = omega (arith, same, (c.in_ok-admit.ensures {u = tt}).within) })
 
 pub returns-clause-kept : goal.returns-clause-kept
 returns-clause-kept c =
     let p = plan_of c.args.self.now in
-    let q = advance_plan c.args.entry c.args.at p in
+    let q = plan_at c.args.occasion p in
     let t = c.args.target.now in
     let sound = (fit-then c).sound in
     let rows = c.advance.new.self.rows.items in
-    let size = weight-advance c.args.entry c.args.at p in
-    let same = reaped-weight t q (fit c) in
+    let same = size (goal.at.returns-clause-kept c).After-weight in
     record {
       room = record {
         changes = omega (arith, ap owed c.drop_done.ensures, left-owed (is_meant t) rows sound, c.advance.ensures.room.changes);
         orders = omega (arith, ap askable c.drop_done.ensures, left-askable (is_meant t) rows sound, c.advance.ensures.room.orders);
       };
-      fit = subst IsFit (sym (plan c)) (reap-fit t c.args.entry q (fit c));
-      light = omega (arith, ap weight (plan c), size, same, c.requires.kept.light);
+      fit = subst IsFit (sym (plan c)) (reap-fit t c.args.occasion.entry q (fit c));
+      light = omega (arith, ap weight (plan c), same, c.weight.ensures, c.requires.kept.light);
       queues = subst HasFewQueues (sym (plan c)) c.requires.kept.queues;
       tied = subst (IsTied c.advance.new.self.calendar) (sym (plan c))
           (tied-reaped c.advance.new.self.calendar t q (fit c)
-          (tied-then c.args.self.now.calendar c.advance.new.self.calendar c.args.entry c.args.at p q c.requires.kept.fit c.requires.kept.tied c.advance.ensures.calendar refl));
+          (tied-then c.args.self.now.calendar c.advance.new.self.calendar c.args.occasion.entry c.args.occasion.at p q c.requires.kept.fit c.requires.kept.tied c.advance.ensures.calendar refl));
       quiet = (let was = c.advance.new.self in let left = quiet-left was.alarm (λ (r : Row). not (is_meant t r && is_done r)) (plan_of was) c.advance.ensures.quiet in
           record { rows = subst (AllByRecursion (IsLeftUntil was.alarm was.reservations.items)) (sym c.drop_done.ensures) left.rows; reservations = left.reservations });
     }
@@ -83,15 +84,9 @@ returns-clause-spare c =
     let same = left-owed (is_meant c.args.target.now) c.advance.new.self.rows.items (fit-then c).sound in
     omega (arith, ap owed c.drop_done.ensures, same, c.advance.ensures.spare)
 
-pub returns-then-size-limit-clause-meets : goal.returns-then-size-limit-clause-meets
-returns-then-size-limit-clause-meets c =
-    let p = plan_of c.args.self.now in
-    let q = advance_plan c.args.entry c.args.at p in
-    let size = weight-advance c.args.entry c.args.at p in
-    let same = reaped-weight c.args.target.now q (advance-fit c.args.entry c.args.at p c.requires.kept.fit) in
-    let eq : c.args.entry + c.weight.result ≡ c.args.entry + weight ((reap c.args.target.now).effect c.args.entry q) = omega (arith, size, same, c.weight.ensures) in
-    full (record {
-      answered = ap (λ (n : ℕ). let r : Result (Unit {0}) Refusal = Err (OutOfResource (resource.Journal n)) in r) eq;
-      above = omega (arith, eq, c.if-size-limit.true);
-      plan = refl;
-    })
+pub returns-in_err-admit-clause-meets : goal.returns-in_err-admit-clause-meets
+returns-in_err-admit-clause-meets c =
+    let e = err_from_is_err_and c.from_residual.result c.from_residual.ensures.1 in
+    let full = c.in_err-admit.ensures {u = tt} in
+    let same = size (goal.at.returns-in_err-admit-clause-meets c).After-weight in
+    rw (e.1, e.2) (full-meets _ (plan_of c.args.self.now) c.args.occasion.entry c.args.occasion.limit _ _ full.above full.full (omega (arith, same)))

@@ -10,26 +10,27 @@ use Rattle.plan_book.specs.Book.{plan_of, HasFewQueues}
 use Rattle.plan_book.specs.Book.Refuses.{refuses, overfull}
 use Rattle.plan_book.proofs.book.Book.refuse.Goals as goal
 
-pub returns-then-size-limit-clause-refuses : goal.returns-then-size-limit-clause-refuses
-returns-then-size-limit-clause-refuses c =
-    let same = weight-advance c.args.entry c.args.at (plan_of c.args.self.now) in
-    overfull (ap (λ n. OutOfResource (Journal (c.args.entry + n))) (c.weight.ensures ∙ sym same)) (omega (arith, same, c.weight.ensures)) refl
+pub returns-in-Err-clause-refuses : goal.returns-in-Err-clause-refuses
+returns-in-Err-clause-refuses c =
+    let same = weight-advance c.args.occasion.entry c.args.occasion.at (plan_of c.args.self.now) in
+    let full = c.in-Err.ensures {u = tt} in
+    overfull (full.full ∙ ap (λ n. OutOfResource (Journal (c.args.occasion.entry + n))) (c.weight.ensures ∙ sym same)) (omega (arith, same, c.weight.ensures, full.above)) refl
 
 pub returns-clause-refuses : goal.returns-clause-refuses
 returns-clause-refuses c =
-    let same = weight-advance c.args.entry c.args.at (plan_of c.args.self.now) in
-    refuses refl c.requires.answer c.advance.ensures.plan (omega (arith, same, c.weight.ensures))
+    let same = weight-advance c.args.occasion.entry c.args.occasion.at (plan_of c.args.self.now) in
+    refuses refl c.requires.answer c.advance.ensures.plan (omega (arith, same, c.weight.ensures, (c.in_default.ensures {u = tt}).within))
 
 pub returns-clause-kept : goal.returns-clause-kept
 returns-clause-kept c =
     let p = plan_of c.args.self.now in
-    let same = weight-advance c.args.entry c.args.at p in
+    let same = weight-advance c.args.occasion.entry c.args.occasion.at p in
     let light = c.requires.kept.light in
     record {
       room = c.advance.ensures.room;
-      fit = subst IsFit (sym c.advance.ensures.plan) (advance-fit c.args.entry c.args.at p c.requires.kept.fit);
+      fit = subst IsFit (sym c.advance.ensures.plan) (advance-fit c.args.occasion.entry c.args.occasion.at p c.requires.kept.fit);
       light = omega (arith, ap weight c.advance.ensures.plan, same);
       queues = subst HasFewQueues (sym c.advance.ensures.plan) c.requires.kept.queues;
-      tied = tied-then c.args.self.now.calendar c.advance.new.self.calendar c.args.entry c.args.at p (plan_of c.advance.new.self) c.requires.kept.fit c.requires.kept.tied c.advance.ensures.calendar c.advance.ensures.plan;
+      tied = tied-then c.args.self.now.calendar c.advance.new.self.calendar c.args.occasion.entry c.args.occasion.at p (plan_of c.advance.new.self) c.requires.kept.fit c.requires.kept.tied c.advance.ensures.calendar c.advance.ensures.plan;
       quiet = c.advance.ensures.quiet;
     }

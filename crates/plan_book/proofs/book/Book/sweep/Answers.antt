@@ -11,9 +11,9 @@ use Rattle.drmaa_model.specs.Rows.{change_of}
 use Rattle.drmaa_model.specs.Time.{lapses, lapsed, is_due, called_in, kill_order}
 use Rattle.drmaa_model.specs.TimeLaws.{changes-lapsed, expiry, map-twice}
 use Rattle.plan_book.specs.Book.{plan_of, owed, askable}
-use Rattle.plan_book.specs.Passes.{ends, kills_then}
+use Rattle.plan_book.specs.Lapses.{ends, kills_then}
 use Rattle.plan_book.specs.Quiet.{IsLeftUntil, LastsUntil}
-use Rattle.plan_book.proofs.PassLaws.{filter-flat, kills-flat}
+use Rattle.plan_book.proofs.LapseLaws.{filter-flat, kills-flat}
 use Rattle.plan_book.proofs.QuietLaws.{rows-first, lasting-second}
 use Rattle.plan_book.proofs.RoomLaws.{changes-expire, orders-expire, changes-called, orders-called}
 use Rattle.plan_book.proofs.book.Book.sweep.Goals as goal

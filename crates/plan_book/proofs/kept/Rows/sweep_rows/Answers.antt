@@ -8,7 +8,7 @@ use Rattle.drmaa_model.specs.declared.rows.Row.{Row}
 use Rattle.drmaa_model.specs.Submitting.{kept_text}
 use Rattle.drmaa_model.specs.TimeLaws.{timed}
 use Rattle.plan_book.specs.Open.{IsPriorityBound}
-use Rattle.plan_book.specs.Passes.{ends, kills_then}
+use Rattle.plan_book.specs.Lapses.{ends, kills_then}
 use Rattle.plan_book.specs.Quiet.{IsLeftUntil}
 use Rattle.plan_book.specs.Settled.{AreSettled}
 use Rattle.plan_book.specs.Spans.{AreSpanned}

@@ -6,7 +6,7 @@ use Rattle.drmaa_types.specs.declared.refusals.Which.TheVariants as which
 use Rattle.drmaa_model.specs.FitLaws.{advance-fit}
 use Rattle.drmaa_model.specs.Reporting.{report_of}
 use Rattle.drmaa_model.specs.Rows.{row_of}
-use Rattle.drmaa_model.specs.Time.{advance_plan, rows_at}
+use Rattle.drmaa_model.specs.Time.{rows_at}
 use Rattle.plan_book.specs.Book.{plan_of}
 use Rattle.plan_book.specs.Facts.{facts_of}
 use Rattle.plan_book.specs.declared.moves.Move.{Move}
@@ -15,35 +15,36 @@ use Rattle.scheduler_core.specs.View.{View}
 use Rattle.scheduler_core.specs.Reports.{job_of, may_report, report_move}
 use Rattle.scheduler_core.proofs.ReportSteps.{may-report-then, report-makes, report-frees, report-unkept, report-barred, report-may, report-beside}
 use Rattle.plan_book.specs.FactLaws.{read-none}
+use Rattle.plan_book.specs.Occasions.{plan_at}
 use Rattle.scheduler_core.proofs.Steps.{Makes, IsFree, made-meets}
 use Rattle.scheduler_core.proofs.ViewSteps.{seen-meets, seen-refused}
 use Rattle.scheduler_core.proofs.cores.Core.report.Goals as goal
 use Rattle.scheduler_core.proofs.cores.Core.report.Goals.{After-may_report, After-report_move-m}
 
 -- what is known of the job
-said : (c : After-may_report) → Some c.in-Some.facts ≡ option_map facts_of (row_of (job_of c.args.report) (rows_at c.args.at (plan_of c.self.inside.book)))
-said c = c.in-Some.ensures {u = tt} ∙ ap (λ (j : JobId). option_map facts_of (row_of j (rows_at c.args.at (plan_of c.self.inside.book)))) c.job_of.ensures
+said : (c : After-may_report) → Some c.in-Some.facts ≡ option_map facts_of (row_of (job_of c.args.report) (rows_at c.args.occasion.at (plan_of c.self.inside.book)))
+said c = c.in-Some.ensures {u = tt} ∙ ap (λ (j : JobId). option_map facts_of (row_of j (rows_at c.args.occasion.at (plan_of c.self.inside.book)))) c.job_of.ensures
 
 -- whether the report may come, in the plan that has come to its moment
-may : (c : After-may_report) → may_report c.args.report (advance_plan c.args.entry c.args.at (plan_of c.self.inside.book)).orders c.in-Some.facts.course ≡ c.may_report.result
+may : (c : After-may_report) → may_report c.args.report (plan_at c.args.occasion (plan_of c.self.inside.book)).orders c.in-Some.facts.course ≡ c.may_report.result
 may c =
-    sym (may-report-then c.args.report c.args.entry c.args.at (plan_of c.self.inside.book) c.in-Some.facts.course)
+    sym (may-report-then c.args.report c.args.occasion.entry c.args.occasion.at (plan_of c.self.inside.book) c.in-Some.facts.course)
     ∙ sym (ap (λ os. may_report c.args.report os c.in-Some.facts.course) c.orders.ensures) ∙ sym c.may_report.ensures
 
 -- the move
-makes : (c : After-report_move-m) → Makes (report_of c.args.report) c.args.entry (advance_plan c.args.entry c.args.at (plan_of c.self.inside.book)) c.report_move-m.result
+makes : (c : After-report_move-m) → Makes (report_of c.args.report) c.args.occasion.entry (plan_at c.args.occasion (plan_of c.self.inside.book)) c.report_move-m.result
 makes c =
     let p = plan_of c.self.inside.book in
-    let q = advance_plan c.args.entry c.args.at p in
-    report-makes c.args.report c.args.entry q c.in-Some.facts c.report_move-m.result (advance-fit c.args.entry c.args.at p c.self.invariant.fit) (said c.before.before.before)
+    let q = plan_at c.args.occasion p in
+    report-makes c.args.report c.args.occasion.entry q c.in-Some.facts c.report_move-m.result (advance-fit c.args.occasion.entry c.args.occasion.at p c.self.invariant.fit) (said c.before.before.before)
     (may c.before.before.before ∙ c.if-not-may_report.false)
     (c.report_move-m.ensures ∙ ap (λ moment. report_move c.args.report moment c.in-Some.facts) c.moment_at-moment.ensures)
 
 frees : (c : After-report_move-m) → IsFree c.report_move-m.result
 frees c =
     let p = plan_of c.self.inside.book in
-    let q = advance_plan c.args.entry c.args.at p in
-    report-frees c.args.report c.args.entry q c.in-Some.facts c.report_move-m.result (advance-fit c.args.entry c.args.at p c.self.invariant.fit) (said c.before.before.before)
+    let q = plan_at c.args.occasion p in
+    report-frees c.args.report c.args.occasion.entry q c.in-Some.facts c.report_move-m.result (advance-fit c.args.occasion.entry c.args.occasion.at p c.self.invariant.fit) (said c.before.before.before)
     (may c.before.before.before ∙ c.if-not-may_report.false)
     (c.report_move-m.ensures ∙ ap (λ moment. report_move c.args.report moment c.in-Some.facts) c.moment_at-moment.ensures)
 
@@ -67,8 +68,8 @@ pub returns-clause-meets : goal.returns-clause-meets
 returns-clause-meets c =
     let p = plan_of c.self.inside.book in
     let new = plan_of c.make.new.self in
-    seen-meets (report_of c.args.report) c.args.entry c.args.at c.args.limit c.self.inside.book c.self.view_is c.make.result new
-    (made-meets (report_of c.args.report) c.args.entry c.args.limit p (advance_plan c.args.entry c.args.at p) new c.report_move-m.result c.make.result (makes (goal.at.returns-clause-meets c).After-report_move-m) c.make.ensures.meets)
+    seen-meets (report_of c.args.report) c.args.occasion.entry c.args.occasion.at c.args.occasion.limit c.self.inside.book c.self.view_is c.make.result new
+    (made-meets (report_of c.args.report) c.args.occasion.entry c.args.occasion.limit p (plan_at c.args.occasion p) new c.report_move-m.result c.make.result (makes (goal.at.returns-clause-meets c).After-report_move-m) c.make.ensures.meets)
 
 pub returns-clause-spare : goal.returns-clause-spare
 returns-clause-spare c =
@@ -83,15 +84,15 @@ returns-clause-memory c = (let f = frees (goal.at.returns-clause-memory c).After
 pub returns-in_default-clause-meets : goal.returns-in_default-clause-meets
 returns-in_default-clause-meets c =
     let p = plan_of c.self.inside.book in
-    let q = advance_plan c.args.entry c.args.at p in
-    seen-refused (report_of c.args.report) c.args.entry c.args.at c.args.limit c.self.inside.book c.self.view_is (InvalidArgument which.Job) c.refuse.result (plan_of c.refuse.new.self)
-    (report-unkept c.args.report q (read-none (job_of c.args.report) q.rows (c.in_default.ensures {u = tt} ∙ ap (λ (j : JobId). option_map facts_of (row_of j (rows_at c.args.at p))) c.job_of.ensures)))
+    let q = plan_at c.args.occasion p in
+    seen-refused (report_of c.args.report) c.args.occasion.entry c.args.occasion.at c.args.occasion.limit c.self.inside.book c.self.view_is (InvalidArgument which.Job) c.refuse.result (plan_of c.refuse.new.self)
+    (report-unkept c.args.report q (read-none (job_of c.args.report) q.rows (c.in_default.ensures {u = tt} ∙ ap (λ (j : JobId). option_map facts_of (row_of j (rows_at c.args.occasion.at p))) c.job_of.ensures)))
     c.refuse.ensures.refuses
 
 pub returns-then-not-may_report-clause-meets : goal.returns-then-not-may_report-clause-meets
 returns-then-not-may_report-clause-meets c =
     let asked = (goal.at.returns-then-not-may_report-clause-meets c).After-may_report in
     let refused = c.refuse-then-not-may_report in
-    seen-refused (report_of c.args.report) c.args.entry c.args.at c.args.limit c.self.inside.book c.self.view_is (InvalidState c.in-Some.facts.course.state) refused.result (plan_of refused.new.self)
-    (report-barred c.args.report (advance_plan c.args.entry c.args.at (plan_of c.self.inside.book)) c.in-Some.facts (said asked) (may asked ∙ c.if-not-may_report.true))
+    seen-refused (report_of c.args.report) c.args.occasion.entry c.args.occasion.at c.args.occasion.limit c.self.inside.book c.self.view_is (InvalidState c.in-Some.facts.course.state) refused.result (plan_of refused.new.self)
+    (report-barred c.args.report (plan_at c.args.occasion (plan_of c.self.inside.book)) c.in-Some.facts (said asked) (may asked ∙ c.if-not-may_report.true))
     refused.ensures.refuses

@@ -8,9 +8,9 @@ use Rattle.drmaa_model.specs.declared.reservations.Accepted.{Accepted}
 use Rattle.drmaa_model.specs.Fit.{IsFit}
 use Rattle.drmaa_model.specs.Operation.{Outcome, outcome, Meets}
 use Rattle.drmaa_model.specs.Requests.{request, reserved_as, with_reservation}
-use Rattle.drmaa_model.specs.Time.{advance_plan}
 use Rattle.plan_book.specs.Book.{plan_of}
 use Rattle.plan_book.specs.MeetLaws.{refused-never}
+use Rattle.plan_book.specs.Occasions.{plan_at}
 use Rattle.plan_book.specs.Ties.{IsFree, booked_for}
 use Rattle.scheduler_core.specs.Requesting.{accepted_of}
 use Rattle.scheduler_core.specs.View.{View}
@@ -27,45 +27,45 @@ pub accept-requires-clause-next : goal.accept-requires-clause-next
 accept-requires-clause-next c =
     let seen = ap (λ (v : View). v.plan.next_reservation) c.self.view_is in
     let number = c.requires.number in
-    let few = c.requires.entry in
+    let few = c.args.occasion.numbered in
     omega (arith, seen, number, few)
 
 pub accept-requires-clause-free : goal.accept-requires-clause-free
 accept-requires-clause-free c =
     let book = c.self.inside.book in
     subst (λ (a : Accepted). IsFree book.calendar (booked_for a)) (sym (accepted (goal.at.accept-requires-clause-free c).After-accepted_of-accepted))
-    (request-free c.args.entry c.args.at (plan_of book) c.self.invariant.fit c.args.home c.args.template c.in-Ok.offer (c.in-Ok.ensures {u = tt}).offer book.calendar c.self.invariant.tied)
+    (request-free c.args.occasion.entry c.args.occasion.at (plan_of book) c.self.invariant.fit c.args.home c.args.template c.in-Ok.offer (c.in-Ok.ensures {u = tt}).offer book.calendar c.self.invariant.tied)
 
 pub accept-requires-clause-fit : goal.accept-requires-clause-fit
 accept-requires-clause-fit c =
     let p = plan_of c.self.inside.book in
-    subst (λ (a : Accepted). IsFit (with_reservation a (advance_plan c.args.entry c.args.at p))) (sym (accepted (goal.at.accept-requires-clause-fit c).After-accepted_of-accepted))
-    (request-fit c.args.entry c.args.at p c.self.invariant.fit c.args.home c.args.template c.in-Ok.offer (c.in-Ok.ensures {u = tt}).offer)
+    subst (λ (a : Accepted). IsFit (with_reservation a (plan_at c.args.occasion p))) (sym (accepted (goal.at.accept-requires-clause-fit c).After-accepted_of-accepted))
+    (request-fit c.args.occasion.entry c.args.occasion.at p c.self.invariant.fit c.args.home c.args.template c.in-Ok.offer (c.in-Ok.ensures {u = tt}).offer)
 
 pub returns-in-Err-clause-meets : goal.returns-in-Err-clause-meets
 returns-in-Err-clause-meets c =
-    seen-refused (request c.args.home c.args.template) c.args.entry c.args.at c.args.limit c.self.inside.book c.self.view_is c.in-Err.why c.refuse.result (plan_of c.refuse.new.self)
-    (request-refused c.args.entry c.args.at (plan_of c.self.inside.book) c.self.invariant.fit c.args.home c.args.template c.in-Err.why (c.in-Err.ensures {u = tt}).offer) c.refuse.ensures.refuses
+    seen-refused (request c.args.home c.args.template) c.args.occasion.entry c.args.occasion.at c.args.occasion.limit c.self.inside.book c.self.view_is c.in-Err.why c.refuse.result (plan_of c.refuse.new.self)
+    (request-refused c.args.occasion.entry c.args.occasion.at (plan_of c.self.inside.book) c.self.invariant.fit c.args.home c.args.template c.in-Err.why (c.in-Err.ensures {u = tt}).offer) c.refuse.ensures.refuses
 
 pub returns-in-Ok-clause-meets : goal.returns-in-Ok-clause-meets
 returns-in-Ok-clause-meets c =
     let p = plan_of c.self.inside.book in
-    let q = advance_plan c.args.entry c.args.at p in
+    let q = plan_at c.args.occasion p in
     let made : Accepted → Outcome Reserved = λ a. record { answer = Ok (reserved_as a); plan = with_reservation a q } in
-    let comes : outcome (request c.args.home c.args.template) c.args.entry q ≡ made c.accepted_of-accepted.result =
-    request-comes c.args.entry c.args.at p c.self.invariant.fit c.args.home c.args.template c.in-Ok.offer (c.in-Ok.ensures {u = tt}).offer
+    let comes : outcome (request c.args.home c.args.template) c.args.occasion.entry q ≡ made c.accepted_of-accepted.result =
+    request-comes c.args.occasion.entry c.args.occasion.at p c.self.invariant.fit c.args.home c.args.template c.in-Ok.offer (c.in-Ok.ensures {u = tt}).offer
     ∙ ap made (sym (accepted (goal.at.returns-in-Ok-clause-meets c).After-accepted_of-accepted)) in
-    seen-meets (request c.args.home c.args.template) c.args.entry c.args.at c.args.limit c.self.inside.book c.self.view_is c.accept.result (plan_of c.accept.new.book)
-    (subst (λ (o : Outcome Reserved). Meets o p c.args.entry c.args.limit c.accept.result (plan_of c.accept.new.book)) (sym comes) c.accept.ensures.meets)
+    seen-meets (request c.args.home c.args.template) c.args.occasion.entry c.args.occasion.at c.args.occasion.limit c.self.inside.book c.self.view_is c.accept.result (plan_of c.accept.new.book)
+    (subst (λ (o : Outcome Reserved). Meets o p c.args.occasion.entry c.args.occasion.limit c.accept.result (plan_of c.accept.new.book)) (sym comes) c.accept.ensures.meets)
 
 pub returns-in-Err-clause-memory : goal.returns-in-Err-clause-memory
 returns-in-Err-clause-memory c = λ there.
     (let p = plan_of c.self.inside.book in
-    refused-never c.args.entry c.args.limit p (advance_plan c.args.entry c.args.at p) (plan_of c.refuse.new.self) c.in-Err.why c.refuse.result c.refuse.ensures.refuses)
+    refused-never c.args.occasion.entry c.args.occasion.limit p (plan_at c.args.occasion p) (plan_of c.refuse.new.self) c.in-Err.why c.refuse.result c.refuse.ensures.refuses)
 
 pub returns-in-Ok-clause-memory : goal.returns-in-Ok-clause-memory
 returns-in-Ok-clause-memory c =
-    subst (λ (v : View). IsSome ((request c.args.home c.args.template).refusal (advance_plan c.args.entry c.args.at v.plan)) → c.accept.result ≢ Err OutOfMemory) c.self.view_is
+    subst (λ (v : View). IsSome ((request c.args.home c.args.template).refusal (plan_at c.args.occasion v.plan)) → c.accept.result ≢ Err OutOfMemory) c.self.view_is
     (λ there.
-    (let free = request-passes c.args.entry c.args.at (plan_of c.self.inside.book) c.self.invariant.fit c.args.home c.args.template c.in-Ok.offer (c.in-Ok.ensures {u = tt}).offer in
+    (let free = request-passes c.args.occasion.entry c.args.occasion.at (plan_of c.self.inside.book) c.self.invariant.fit c.args.home c.args.template c.in-Ok.offer (c.in-Ok.ensures {u = tt}).offer in
     absurd (false≢true (subst (λ (o : Option Refusal). IsSome o) free there))))

@@ -11,6 +11,7 @@ use Rattle.drmaa_model.specs.Order.{next_launch}
 use Rattle.drmaa_model.specs.Time.{advance_plan}
 use Rattle.plan_book.specs.Book.{plan_of, moved, grows}
 use Rattle.plan_book.specs.MeetLaws.{ok-meets, err-meets}
+use Rattle.plan_book.specs.Occasions.{plan_at}
 use Rattle.scheduler_core.specs.Launches.{IsNextIn}
 use Rattle.scheduler_core.specs.View.{View}
 use Rattle.scheduler_core.proofs.LaunchSteps.{Launches, looked, looked-fit, looked-may, looked-beside, looked-grows}
@@ -19,13 +20,13 @@ use Rattle.scheduler_core.proofs.cores.Core.take_launch.Goals as goal
 use Rattle.scheduler_core.proofs.cores.Core.take_launch.Goals.{In-Ok-Some, After-next_launch}
 
 -- what the look says of the move
-looks : (c : In-Ok-Some) → Launches c.args.entry (advance_plan c.args.entry c.args.at (plan_of c.self.inside.book)) c.in-Ok-Some.next
+looks : (c : In-Ok-Some) → Launches c.args.occasion.entry (plan_at c.args.occasion (plan_of c.self.inside.book)) c.in-Ok-Some.next
 looks c =
-    looked c.args.entry c.args.at (plan_of c.self.inside.book) c.in-Ok-Some.field-0 c.in-Ok-Some.next c.self.invariant.fit c.in-Ok-Some.field-0-is (c.in-Ok-Some.ensures {u = tt}).next
+    looked c.args.occasion.entry c.args.occasion.at (plan_of c.self.inside.book) c.in-Ok-Some.field-0 c.in-Ok-Some.next c.self.invariant.fit c.in-Ok-Some.field-0-is (c.in-Ok-Some.ensures {u = tt}).next
 
 -- where no job is next, none was found
-finds-none : (c : After-next_launch) → next_launch (advance_plan c.args.entry c.args.at c.args.self.now.plan) ≡ None → c.next_launch.result ≡ Ok None
-finds-none c none = c.next_launch.ensures.some (ap (λ (v : View). next_launch (advance_plan c.args.entry c.args.at v.plan)) c.self.view_is ∙ none)
+finds-none : (c : After-next_launch) → next_launch (plan_at c.args.occasion c.args.self.now.plan) ≡ None → c.next_launch.result ≡ Ok None
+finds-none c none = c.next_launch.ensures.some (ap (λ (v : View). next_launch (plan_at c.args.occasion v.plan)) c.self.view_is ∙ none)
 
 pub make-requires-clause-tie : goal.make-requires-clause-tie
 make-requires-clause-tie c = (looks (goal.at.make-requires-clause-tie c).In-Ok-Some).ties
@@ -35,11 +36,11 @@ make-requires-clause-move_is c = (looks (goal.at.make-requires-clause-move_is c)
 
 pub make-requires-clause-fit : goal.make-requires-clause-fit
 make-requires-clause-fit c =
-    looked-fit c.args.entry c.args.at (plan_of c.self.inside.book) c.in-Ok-Some.next c.self.invariant.fit (looks (goal.at.make-requires-clause-fit c).In-Ok-Some)
+    looked-fit c.args.occasion.entry c.args.occasion.at (plan_of c.self.inside.book) c.in-Ok-Some.next c.self.invariant.fit (looks (goal.at.make-requires-clause-fit c).In-Ok-Some)
 
 pub make-requires-clause-beside : goal.make-requires-clause-beside
 make-requires-clause-beside c =
-    looked-beside c.self.inside.book.reservations.items (advance_plan 0 c.args.at (plan_of c.self.inside.book)) c.in-Ok-Some.field-0 c.in-Ok-Some.next c.in-Ok-Some.field-0-is (c.in-Ok-Some.ensures {u = tt}).next
+    looked-beside c.self.inside.book.reservations.items (advance_plan 0 c.args.occasion.at (plan_of c.self.inside.book)) c.in-Ok-Some.field-0 c.in-Ok-Some.next c.in-Ok-Some.field-0-is (c.in-Ok-Some.ensures {u = tt}).next
 
 pub make-requires-clause-may : goal.make-requires-clause-may
 make-requires-clause-may c = looked-may c.self.inside.book.calendar c.in-Ok-Some.field-0 c.in-Ok-Some.next c.in-Ok-Some.field-0-is (c.in-Ok-Some.ensures {u = tt}).may
@@ -62,8 +63,8 @@ returns-in-Ok-None-clause-left c = λ none. (let same = ap (λ (v : View). v.spa
 pub returns-in-Ok-None-clause-meets : goal.returns-in-Ok-None-clause-meets
 returns-in-Ok-None-clause-meets c = λ some.
     (let p = plan_of c.self.inside.book in
-    let none : next_launch (advance_plan c.args.entry c.args.at p) ≡ None = subst (IsNextIn (advance_plan 0 c.args.at p)) c.in-Ok-None.field-0-is (c.in-Ok-None.ensures {u = tt}).next in
-    let lost = sym (ap (λ (v : View). next_launch (advance_plan c.args.entry c.args.at v.plan)) c.self.view_is) ∙ none in
+    let none : next_launch (plan_at c.args.occasion p) ≡ None = subst (IsNextIn (advance_plan 0 c.args.occasion.at p)) c.in-Ok-None.field-0-is (c.in-Ok-None.ensures {u = tt}).next in
+    let lost = sym (ap (λ (v : View). next_launch (plan_at c.args.occasion v.plan)) c.self.view_is) ∙ none in
     absurd (false≢true (subst (λ (o : Option (Row × ℕ)). IsSome o) lost some)))
 
 pub returns-in_default-clause-nothing : goal.returns-in_default-clause-nothing
@@ -87,24 +88,24 @@ returns-in_default-clause-meets c = λ some.
     (let p = plan_of c.self.inside.book in
     let new = plan_of c.make.new.self in
     let told = c.in-Ok-Some.next.launch in
-    seen-meets launch c.args.entry c.args.at c.args.limit c.self.inside.book c.self.view_is (Ok (Some told)) new
-    (subst (λ (o : Outcome (Option Launch)). Meets o p c.args.entry c.args.limit (Ok (Some told)) new) (sym (looks (goal.at.returns-in_default-clause-meets c).In-Ok-Some).comes)
-    (ok-meets tt c.in_default.field-0 (Some told) c.args.entry c.args.limit p (moved c.args.entry c.in-Ok-Some.next.m (advance_plan c.args.entry c.args.at p)) new c.make.result c.in_default.is c.make.ensures.meets)))
+    seen-meets launch c.args.occasion.entry c.args.occasion.at c.args.occasion.limit c.self.inside.book c.self.view_is (Ok (Some told)) new
+    (subst (λ (o : Outcome (Option Launch)). Meets o p c.args.occasion.entry c.args.occasion.limit (Ok (Some told)) new) (sym (looks (goal.at.returns-in_default-clause-meets c).In-Ok-Some).comes)
+    (ok-meets tt c.in_default.field-0 (Some told) c.args.occasion.entry c.args.occasion.limit p (moved c.args.occasion.entry c.in-Ok-Some.next.m (plan_at c.args.occasion p)) new c.make.result c.in_default.is c.make.ensures.meets)))
 
 pub returns-in-Err-make-clause-meets : goal.returns-in-Err-make-clause-meets
 returns-in-Err-make-clause-meets c = λ some.
     (let p = plan_of c.self.inside.book in
     let new = plan_of c.make.new.self in
     let why = c.in-Err-make.why in
-    seen-meets launch c.args.entry c.args.at c.args.limit c.self.inside.book c.self.view_is (Err why) new
-    (subst (λ (o : Outcome (Option Launch)). Meets o p c.args.entry c.args.limit (Err why) new) (sym (looks (goal.at.returns-in-Err-make-clause-meets c).In-Ok-Some).comes)
-    (err-meets tt (Some c.in-Ok-Some.next.launch) why c.args.entry c.args.limit p (moved c.args.entry c.in-Ok-Some.next.m (advance_plan c.args.entry c.args.at p)) new c.make.result c.in-Err-make.is c.make.ensures.meets)))
+    seen-meets launch c.args.occasion.entry c.args.occasion.at c.args.occasion.limit c.self.inside.book c.self.view_is (Err why) new
+    (subst (λ (o : Outcome (Option Launch)). Meets o p c.args.occasion.entry c.args.occasion.limit (Err why) new) (sym (looks (goal.at.returns-in-Err-make-clause-meets c).In-Ok-Some).comes)
+    (err-meets tt (Some c.in-Ok-Some.next.launch) why c.args.occasion.entry c.args.occasion.limit p (moved c.args.occasion.entry c.in-Ok-Some.next.m (plan_at c.args.occasion p)) new c.make.result c.in-Err-make.is c.make.ensures.meets)))
 
 -- a launch wants room for two changes at most
 few : (c : In-Ok-Some) → grows c.in-Ok-Some.next.m ≤ 2
 few c =
     let p = plan_of c.self.inside.book in
-    looked-grows (advance_plan 0 c.args.at p) c.in-Ok-Some.field-0 c.in-Ok-Some.next (advance-fit 0 c.args.at p c.self.invariant.fit) c.in-Ok-Some.field-0-is (c.in-Ok-Some.ensures {u = tt}).next
+    looked-grows (advance_plan 0 c.args.occasion.at p) c.in-Ok-Some.field-0 c.in-Ok-Some.next (advance-fit 0 c.args.occasion.at p c.self.invariant.fit) c.in-Ok-Some.field-0-is (c.in-Ok-Some.ensures {u = tt}).next
 
 pub returns-in_default-clause-spare : goal.returns-in_default-clause-spare
 returns-in_default-clause-spare c =

@@ -10,6 +10,7 @@ use Rattle.drmaa_model.specs.Time.{advance_plan}
 use Rattle.plan_book.specs.declared.moves.Move.{Move}
 use Rattle.plan_book.specs.Book.{plan_of, moved, IsMove}
 use Rattle.plan_book.specs.MeetLaws.{ok-meets, err-meets}
+use Rattle.plan_book.specs.Occasions.{plan_at}
 use Rattle.plan_book.specs.Ties.{KeepsTie}
 use Rattle.scheduler_core.specs.Signals.{IsNext, signal_for, take_move}
 use Rattle.scheduler_core.specs.View.{View}
@@ -19,27 +20,27 @@ use Rattle.scheduler_core.proofs.cores.Core.take_signal.Goals as goal
 use Rattle.scheduler_core.proofs.cores.Core.take_signal.Goals.{In-Some}
 
 -- what the handing out comes to
-takes : (c : In-Some) → Takes c.args.entry (advance_plan c.args.entry c.args.at (plan_of c.self.inside.book)) c.in-Some.next
-takes c = takes-then c.args.entry c.args.at (plan_of c.self.inside.book) c.in-Some.next c.self.invariant.fit (c.in-Some.ensures {u = tt})
+takes : (c : In-Some) → Takes c.args.occasion.entry (plan_at c.args.occasion (plan_of c.self.inside.book)) c.in-Some.next
+takes c = takes-then c.args.occasion.entry c.args.occasion.at (plan_of c.self.inside.book) c.in-Some.next c.self.invariant.fit (c.in-Some.ensures {u = tt})
 
 -- there is a signal to hand out
-there : (c : In-Some) → next_signal (advance_plan c.args.entry c.args.at c.args.self.now.plan) ≡ Some c.in-Some.next.order
+there : (c : In-Some) → next_signal (plan_at c.args.occasion c.args.self.now.plan) ≡ Some c.in-Some.next.order
 there c =
-    let next : IsNext (advance_plan 0 c.args.at (plan_of c.self.inside.book)) c.in-Some.next = c.in-Some.ensures {u = tt} in
-    sym (ap (λ (v : View). next_signal (advance_plan c.args.entry c.args.at v.plan)) c.self.view_is) ∙ next.first
+    let next : IsNext (advance_plan 0 c.args.occasion.at (plan_of c.self.inside.book)) c.in-Some.next = c.in-Some.ensures {u = tt} in
+    sym (ap (λ (v : View). next_signal (plan_at c.args.occasion v.plan)) c.self.view_is) ∙ next.first
 
 pub make-requires-clause-move_is : goal.make-requires-clause-move_is
 make-requires-clause-move_is c =
-    subst (IsMove (advance_plan c.args.entry c.args.at (plan_of c.self.inside.book))) (sym c.take_move-m.ensures) (takes (goal.at.make-requires-clause-move_is c).In-Some).is
+    subst (IsMove (plan_at c.args.occasion (plan_of c.self.inside.book))) (sym c.take_move-m.ensures) (takes (goal.at.make-requires-clause-move_is c).In-Some).is
 
 pub make-requires-clause-fit : goal.make-requires-clause-fit
 make-requires-clause-fit c =
-    subst (λ (m : Move). IsFit (moved c.args.entry m (advance_plan c.args.entry c.args.at (plan_of c.self.inside.book)))) (sym c.take_move-m.ensures) (takes (goal.at.make-requires-clause-fit c).In-Some).fits
+    subst (λ (m : Move). IsFit (moved c.args.occasion.entry m (plan_at c.args.occasion (plan_of c.self.inside.book)))) (sym c.take_move-m.ensures) (takes (goal.at.make-requires-clause-fit c).In-Some).fits
 
 pub make-requires-clause-tie : goal.make-requires-clause-tie
 make-requires-clause-tie c =
-    let q = advance_plan c.args.entry c.args.at (plan_of c.self.inside.book) in
-    subst (λ (m : Move). KeepsTie m.booked m.job q (moved c.args.entry m q)) (sym c.take_move-m.ensures) (takes (goal.at.make-requires-clause-tie c).In-Some).ties
+    let q = plan_at c.args.occasion (plan_of c.self.inside.book) in
+    subst (λ (m : Move). KeepsTie m.booked m.job q (moved c.args.occasion.entry m q)) (sym c.take_move-m.ensures) (takes (goal.at.make-requires-clause-tie c).In-Some).ties
 
 pub returns-in_default-clause-nothing : goal.returns-in_default-clause-nothing
 returns-in_default-clause-nothing c = λ none.
@@ -47,8 +48,8 @@ returns-in_default-clause-nothing c = λ none.
 
 pub returns-in_default-clause-meets : goal.returns-in_default-clause-meets
 returns-in_default-clause-meets c = λ some.
-    (let none : next_signal (advance_plan c.args.entry c.args.at (plan_of c.self.inside.book)) ≡ None = c.in_default.ensures {u = tt} in
-    let lost = sym (ap (λ (v : View). next_signal (advance_plan c.args.entry c.args.at v.plan)) c.self.view_is) ∙ none in
+    (let none : next_signal (plan_at c.args.occasion (plan_of c.self.inside.book)) ≡ None = c.in_default.ensures {u = tt} in
+    let lost = sym (ap (λ (v : View). next_signal (plan_at c.args.occasion v.plan)) c.self.view_is) ∙ none in
     absurd (false≢true (subst (λ (o : Option Order). IsSome o) lost some)))
 
 pub returns-clause-nothing : goal.returns-clause-nothing
@@ -60,22 +61,22 @@ returns-in-Err-clause-nothing c = λ none. (let some = there (goal.at.returns-in
 pub returns-clause-meets : goal.returns-clause-meets
 returns-clause-meets c = λ some.
     (let p = plan_of c.self.inside.book in
-    let q = advance_plan c.args.entry c.args.at p in
+    let q = plan_at c.args.occasion p in
     let next = c.in-Some.next in
     let new = plan_of c.make.new.self in
-    let made = subst (λ (m : Move). Meets (record { answer = Ok tt; plan = moved c.args.entry m q }) p c.args.entry c.args.limit c.make.result new) c.take_move-m.ensures c.make.ensures.meets in
-    seen-meets signal c.args.entry c.args.at c.args.limit c.self.inside.book c.self.view_is (Ok (Some c.signal_for.result)) new
-    (subst (λ (o : Outcome (Option Signal)). Meets o p c.args.entry c.args.limit (Ok (Some c.signal_for.result)) new) (sym (takes (goal.at.returns-clause-meets c).In-Some).comes)
-    (subst (λ (s : Signal). Meets (record { answer = Ok (Some (signal_for next)); plan = moved c.args.entry (take_move next) q }) p c.args.entry c.args.limit (Ok (Some s)) new) (sym c.signal_for.ensures)
-    (ok-meets tt c.in_default-make.field-0 (Some (signal_for next)) c.args.entry c.args.limit p (moved c.args.entry (take_move next) q) new c.make.result c.in_default-make.is made))))
+    let made = subst (λ (m : Move). Meets (record { answer = Ok tt; plan = moved c.args.occasion.entry m q }) p c.args.occasion.entry c.args.occasion.limit c.make.result new) c.take_move-m.ensures c.make.ensures.meets in
+    seen-meets signal c.args.occasion.entry c.args.occasion.at c.args.occasion.limit c.self.inside.book c.self.view_is (Ok (Some c.signal_for.result)) new
+    (subst (λ (o : Outcome (Option Signal)). Meets o p c.args.occasion.entry c.args.occasion.limit (Ok (Some c.signal_for.result)) new) (sym (takes (goal.at.returns-clause-meets c).In-Some).comes)
+    (subst (λ (s : Signal). Meets (record { answer = Ok (Some (signal_for next)); plan = moved c.args.occasion.entry (take_move next) q }) p c.args.occasion.entry c.args.occasion.limit (Ok (Some s)) new) (sym c.signal_for.ensures)
+    (ok-meets tt c.in_default-make.field-0 (Some (signal_for next)) c.args.occasion.entry c.args.occasion.limit p (moved c.args.occasion.entry (take_move next) q) new c.make.result c.in_default-make.is made))))
 
 pub returns-in-Err-clause-meets : goal.returns-in-Err-clause-meets
 returns-in-Err-clause-meets c = λ some.
     (let p = plan_of c.self.inside.book in
-    let q = advance_plan c.args.entry c.args.at p in
+    let q = plan_at c.args.occasion p in
     let next = c.in-Some.next in
     let new = plan_of c.make.new.self in
-    let made = subst (λ (m : Move). Meets (record { answer = Ok tt; plan = moved c.args.entry m q }) p c.args.entry c.args.limit c.make.result new) c.take_move-m.ensures c.make.ensures.meets in
-    seen-meets signal c.args.entry c.args.at c.args.limit c.self.inside.book c.self.view_is (Err c.in-Err.why) new
-    (subst (λ (o : Outcome (Option Signal)). Meets o p c.args.entry c.args.limit (Err c.in-Err.why) new) (sym (takes (goal.at.returns-in-Err-clause-meets c).In-Some).comes)
-    (err-meets tt (Some (signal_for next)) c.in-Err.why c.args.entry c.args.limit p (moved c.args.entry (take_move next) q) new c.make.result c.in-Err.is made)))
+    let made = subst (λ (m : Move). Meets (record { answer = Ok tt; plan = moved c.args.occasion.entry m q }) p c.args.occasion.entry c.args.occasion.limit c.make.result new) c.take_move-m.ensures c.make.ensures.meets in
+    seen-meets signal c.args.occasion.entry c.args.occasion.at c.args.occasion.limit c.self.inside.book c.self.view_is (Err c.in-Err.why) new
+    (subst (λ (o : Outcome (Option Signal)). Meets o p c.args.occasion.entry c.args.occasion.limit (Err c.in-Err.why) new) (sym (takes (goal.at.returns-in-Err-clause-meets c).In-Some).comes)
+    (err-meets tt (Some (signal_for next)) c.in-Err.why c.args.occasion.entry c.args.occasion.limit p (moved c.args.occasion.entry (take_move next) q) new c.make.result c.in-Err.is made)))

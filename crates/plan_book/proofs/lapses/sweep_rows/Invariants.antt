@@ -1,0 +1,29 @@
+use Rattle.std.proofs.Common.{◌≡◌, ◌≤◌, ◌+◌, ◌++◌, map, take, drop, length, vec_len}
+use Rattle.std.specs.Prelude.{vec_capacity}
+use Rattle.std.specs.List.{AllByRecursion, flat_map}
+use Rattle.drmaa_model.specs.TimeLaws.{timed}
+use Rattle.plan_book.specs.Lapses.{ends, kills_then}
+use Rattle.plan_book.specs.Quiet.{IsLeftUntil}
+use Rattle.plan_book.specs.Sums.{AreSums}
+use Rattle.plan_book.proofs.lapses.sweep_rows.Given as goal
+
+-- the jobs so far have gone on and are added up, and there is room for what the rest adds
+abbrev pub invariant-loop-row : goal.invariant-loop-row
+invariant-loop-row l =
+    let all = l.initial.rows in
+    let rs = l.rs.items in
+    let ended = flat_map (ends l.entry l.moment rs) (drop l.row-index all) in
+    let asked = flat_map (kills_then l.moment rs) (drop l.row-index all) in
+    record {
+      rows : l.rows ≡ map (timed l.moment rs) (take l.row-index all) ++ drop l.row-index all;
+      changes : l.changes.items ++ ended ≡ l.fn.changes.items ++ flat_map (ends l.entry l.moment rs) all;
+      changes_room : vec_len l.changes + length ended ≤ vec_capacity l.changes;
+      changes_len : vec_len l.changes + length ended ≡ vec_len l.fn.changes + length (flat_map (ends l.entry l.moment rs) all);
+      changes_capacity : vec_capacity l.changes ≡ vec_capacity l.fn.changes;
+      orders : l.orders.items ++ asked ≡ l.fn.orders.items ++ flat_map (kills_then l.moment rs) all;
+      orders_room : vec_len l.orders + length asked ≤ vec_capacity l.orders;
+      orders_len : vec_len l.orders + length asked ≡ vec_len l.fn.orders + length (flat_map (kills_then l.moment rs) all);
+      orders_capacity : vec_capacity l.orders ≡ vec_capacity l.fn.orders;
+      sums : AreSums (map (timed l.moment rs) (take l.row-index all)) l.sums;
+      soonest : AllByRecursion (IsLeftUntil l.soonest rs) (map (timed l.moment rs) (take l.row-index all));
+    }
