@@ -1,12 +1,12 @@
 //! What is said of the first bad line of a script.
-ghost use Rattle.std.specs.Prelude.{◌≡◌, IfOk, true};
+ghost use Rattle.std.specs.Prelude.{◌≡◌, IfOk, true, string_bytes};
 ghost use Rattle.std.specs.List.{list_all};
 ghost use Rattle.text_codec.specs.Lexical.{no_feed};
 
-use crate::layout::{said, words_of, wrong_layout};
-use crate::showing::{Advice, one_line};
-use crate::states::{BadLine, read_before, wrong_behind, wrong_end};
-use crate::usages::HEADS;
+use crate::layout::{check_layout, words_of};
+use crate::showing::{Checked, Wrong, one_line};
+use crate::states::{BadLine, check_behind, check_end, read_before};
+use crate::words::is_head;
 use drmaa_types::Text;
 use script_text::{Mode, Reader};
 use std::alloc::{AllocError, Global};
@@ -23,9 +23,9 @@ fn readable(bytes: &[u8]) -> &str {
 }
 
 /// Whether a line begins a block.
-fn is_head(line: &str) -> bool {
+fn begins_block(line: &str) -> bool {
     match line.split(' ').next() {
-        Some(first) => first != "queue" && HEADS.contains(&first),
+        Some(first) => first != "queue" && is_head(first),
         None => false,
     }
 }
@@ -36,7 +36,7 @@ fn last_head(text: &str, count: usize) -> u64 {
     let mut number = 0u64;
     for line in text.split('\n').take(count) {
         number = number.saturating_add(1);
-        if is_head(line) {
+        if begins_block(line) {
             head = number;
         }
     }
@@ -51,14 +51,17 @@ struct Spot {
     not_serial: Option<u64>,
 }
 
-/// What is wrong with a line that has its line feed.
-fn wrong_whole_line(alloc: Global, reader: &Reader, head: u64, spot: Spot, line: &str) -> Advice {
-    let words = words_of(alloc, line)?;
-    let wrong = wrong_layout(alloc, line, words.as_slice())?;
-    if wrong.is_some() {
-        return Ok(wrong);
-    }
-    match words.as_slice() {
+/// Checks a line that has its line feed, and these words.
+fn check_words(
+    alloc: Global,
+    reader: &Reader,
+    head: u64,
+    spot: Spot,
+    line: &str,
+    words: &[&str],
+) -> Checked {
+    check_layout(alloc, line, words)?;
+    match words {
         [first, rest @ ..] => {
             let bad = BadLine {
                 line,
@@ -67,36 +70,77 @@ fn wrong_whole_line(alloc: Global, reader: &Reader, head: u64, spot: Spot, line:
                 head,
                 not_serial: spot.not_serial,
             };
-            wrong_behind(alloc, reader, &bad)
+            check_behind(alloc, reader, &bad)
         }
-        [] => Ok(None),
+        [] => Ok(()),
     }
 }
 
-/// What is wrong at a line of a text; `whole` where the text is all of the script.
-fn wrong_at(alloc: Global, text: &str, whole: bool, is_utf8: bool, spot: Spot) -> Advice {
+/// Checks a line that has its line feed.
+fn check_whole_line(alloc: Global, reader: &Reader, head: u64, spot: Spot, line: &str) -> Checked {
+    let words = words_of(alloc, line)?;
+    check_words(alloc, reader, head, spot, line, words.as_slice())
+}
+
+/// Checks a line, where this was read before it; `is_last` where no line feed stands behind it.
+fn check_line_or_end(
+    alloc: Global,
+    reader: &Reader,
+    head: u64,
+    spot: Spot,
+    line: &str,
+    is_last: bool,
+) -> Checked {
+    if !is_last {
+        return check_whole_line(alloc, reader, head, spot, line);
+    }
+    if line.is_empty() {
+        return check_end(alloc, reader, head);
+    }
+    Err(Wrong::said(alloc, "no line feed stands at its end"))
+}
+
+/// Checks what stands behind the last line feed; `whole` where it is the end of the script.
+fn check_rest(alloc: Global, whole: bool, is_utf8: bool) -> Checked {
+    if !is_utf8 {
+        return Err(Wrong::said(alloc, "it is not UTF-8"));
+    }
+    if !whole {
+        return Err(Wrong::said(alloc, "the script has more than 16777216 bytes"));
+    }
+    Ok(())
+}
+
+/// Checks a line of a text; `whole` where the text is all of the script.
+fn check_at(alloc: Global, text: &str, whole: bool, is_utf8: bool, spot: Spot) -> Checked {
     let mut lines = text.split('\n').skip(spot.before);
     let Some(line) = lines.next() else {
-        return Ok(None);
+        return Ok(());
     };
     let is_last = lines.next().is_none();
-    if is_last && !is_utf8 {
-        return said(alloc, "it is not UTF-8");
-    }
-    if is_last && !whole {
-        return said(alloc, "the script has more than 16777216 bytes");
-    }
-    let Some(reader) = read_before(alloc, spot.mode, text, spot.before)? else {
-        return Ok(None);
-    };
-    let head = last_head(text, spot.before);
-    if is_last && line.is_empty() {
-        return wrong_end(alloc, &reader, head);
-    }
     if is_last {
-        return said(alloc, "no line feed stands at its end");
+        check_rest(alloc, whole, is_utf8)?;
     }
-    wrong_whole_line(alloc, &reader, head, spot, line)
+    let head = last_head(text, spot.before);
+    match read_before(alloc, spot.mode, text, spot.before)? {
+        Some(reader) => {
+            let checked = check_line_or_end(alloc, &reader, head, spot, line, is_last);
+            drop(reader);
+            checked
+        }
+        None => Ok(()),
+    }
+}
+
+/// What is said of a line, in one line.
+fn advice_of(alloc: Global, checked: Checked) -> Result<String, AllocError>
+    ensures { IfOk result (λ line. list_all no_feed (string_bytes line) ≡ true) }
+{
+    match checked {
+        Ok(()) => one_line(alloc, OTHERWISE),
+        Err(Wrong::Advice(advice)) => one_line(alloc, advice.as_str()),
+        Err(Wrong::OutOfMemory) => Err(AllocError),
+    }
 }
 
 /// What is said of a script whose first bytes these are, all of them where it is `whole`: of its first bad line, in one line.
@@ -125,10 +169,7 @@ pub fn advice_for(
         before: serial.max(threads).saturating_sub(1) as usize,
         not_serial: if is_serial { None } else { Some(serial) },
     };
-    let advice = wrong_at(alloc, text, whole, text.len() == front.len(), spot)?;
-    let line = match &advice {
-        Some(advice) => one_line(alloc, advice.as_str())?,
-        None => one_line(alloc, OTHERWISE)?,
-    };
-    Ok(Text::from_string(line))
+    let checked = check_at(alloc, text, whole, text.len() == front.len(), spot);
+    let advice = advice_of(alloc, checked)?;
+    Ok(Text::from_string(advice))
 }

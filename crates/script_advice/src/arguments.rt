@@ -1,21 +1,19 @@
-//! What is wrong with what stands behind the word of a line.
+//! What stands behind the word of a line.
 use crate::items::{Item, usage};
-use crate::references::{Scope, wrong_name};
-use crate::showing::{Advice, shown};
-use crate::values::{wrong_text, wrong_value};
+use crate::references::{Scope, check_name};
+use crate::showing::{Checked, Wrong, wrong_unless};
+use crate::values::{check_text, check_value};
 use std::alloc::Global;
+use text_codec::state_of;
 
-/// What is wrong with one item.
-fn wrong_item(alloc: Global, scope: &Scope, item: Item, word: &str) -> Advice {
-    let wrong = wrong_value(alloc, item, word)?;
-    if wrong.is_some() {
-        return Ok(wrong);
-    }
-    wrong_name(alloc, scope, item, word)
+/// Checks one item.
+fn check_item(alloc: Global, scope: &Scope, item: Item, word: &str) -> Checked {
+    check_value(alloc, item, word)?;
+    check_name(alloc, scope, item, word)
 }
 
 /// The keys of the items of a filter, in their order.
-const KEYS: [&str; 10] = [
+const KEYS: &[&str] = &[
     "id",
     "name",
     "state",
@@ -33,7 +31,7 @@ fn place_of(key: &str) -> Option<usize> {
     KEYS.iter().position(|known| *known == key)
 }
 
-/// What an item of a filter has to be.
+/// What an item of a filter has to be, but for a state.
 fn item_of(key: &str) -> Item {
     match key {
         "id" => Item::Job,
@@ -45,97 +43,124 @@ fn item_of(key: &str) -> Item {
     }
 }
 
-/// What is wrong with the items of a filter.
-fn wrong_filters(alloc: Global, scope: &Scope, words: &[&str]) -> Advice {
+/// Checks the value of an item of a filter.
+fn check_filter_value(alloc: Global, scope: &Scope, word: &str, key: &str, value: &str) -> Checked {
+    if key == "state" {
+        let is_state = state_of(value.as_bytes()).is_some();
+        return wrong_unless(alloc, word, is_state, " names no state, as RUNNING");
+    }
+    check_item(alloc, scope, item_of(key), value)
+}
+
+/// Checks an item of a filter, which may have this place in their order or one behind it. Gives the place behind its own.
+fn check_filter(alloc: Global, scope: &Scope, next: usize, word: &str) -> Result<usize, Wrong> {
+    let Some((key, value)) = word.split_once('=') else {
+        return Err(Wrong::of(alloc, word, " is no item of a filter, as state=RUNNING"));
+    };
+    let Some(place) = place_of(key) else {
+        return Err(Wrong::of(
+            alloc,
+            word,
+            " is no item of a filter: there are id, name, state, slots, queue, status, wallclock, submitted, dispatched and finished",
+        ));
+    };
+    if place < next {
+        return Err(Wrong::of(
+            alloc,
+            word,
+            " stands too late: a filter has id, name, state, slots, queue, status, wallclock, submitted, dispatched and finished once each, in this order",
+        ));
+    }
+    check_filter_value(alloc, scope, word, key, value)?;
+    Ok(place.saturating_add(1))
+}
+
+/// Checks the items of a filter.
+fn check_filters(alloc: Global, scope: &Scope, words: &[&str]) -> Checked {
     let mut next = 0;
     for word in words {
-        let written = shown(alloc, word)?;
-        let Some((key, value)) = word.split_once('=') else {
-            return Ok(Some(format!(in alloc;
-                "{written} is no item of a filter, as state=RUNNING"
-            )?));
-        };
-        let Some(place) = place_of(key) else {
-            return Ok(Some(format!(in alloc;
-                "{written} is no item of a filter: there are id, name, state, slots, queue, status, wallclock, submitted, dispatched and finished"
-            )?));
-        };
-        if place < next {
-            return Ok(Some(format!(in alloc;
-                "{written} stands too late: a filter has id, name, state, slots, queue, status, wallclock, submitted, dispatched and finished once each, in this order"
-            )?));
-        }
-        next = place.saturating_add(1);
-        if key != "state" {
-            let wrong = wrong_item(alloc, scope, item_of(key), value)?;
-            if wrong.is_some() {
-                return Ok(wrong);
-            }
-        } else if text_codec::state_of(value.as_bytes()).is_none() {
-            return Ok(Some(format!(in alloc; "{written} names no state, as RUNNING")?));
-        }
+        next = check_filter(alloc, scope, next, word)?;
     }
-    Ok(None)
+    Ok(())
 }
 
-/// What is wrong with the jobs of a wait.
-fn wrong_jobs(alloc: Global, scope: &Scope, words: &[&str]) -> Advice {
+/// Checks the jobs of a wait.
+fn check_jobs(alloc: Global, scope: &Scope, words: &[&str]) -> Checked {
     for word in words {
-        let wrong = wrong_name(alloc, scope, Item::Job, word)?;
-        if wrong.is_some() {
-            return Ok(wrong);
-        }
+        check_name(alloc, scope, Item::Job, word)?;
     }
-    Ok(None)
+    Ok(())
 }
 
-/// What is said of a word that nothing asks for.
-fn too_many(alloc: Global, word: &str, items: &[Item], extra: &str) -> Advice {
-    let written = shown(alloc, extra)?;
-    let form = usage(alloc, word, items)?;
-    Ok(Some(format!(in alloc; "{written} is too much: the line is {form}")?))
+/// What is wrong with a word that nothing asks for.
+pub(crate) fn too_many(alloc: Global, word: &str, items: &[Item], extra: &str) -> Wrong {
+    let form = usage(alloc, " is too much: the line is ", word, items);
+    Wrong::of_written(alloc, extra, form)
 }
 
-/// What is said where words are missing.
-fn too_few(alloc: Global, word: &str, items: &[Item]) -> Advice {
-    let form = usage(alloc, word, items)?;
-    Ok(Some(format!(in alloc; "words are missing: the line is {form}")?))
+/// What is wrong where words are missing.
+fn too_few(alloc: Global, word: &str, items: &[Item]) -> Wrong {
+    Wrong::written(usage(alloc, "words are missing: the line is ", word, items))
 }
 
-/// What is wrong with the words behind the items that a line has to have.
-fn wrong_last(
+/// Checks what stands behind the word `reserved`.
+fn check_reserved(
+    alloc: Global,
+    scope: &Scope,
+    word: &str,
+    items: &[Item],
+    words: &[&str],
+) -> Checked {
+    match words {
+        [] => Err(too_few(alloc, word, items)),
+        [reservation] => check_name(alloc, scope, Item::Reservation, reservation),
+        [_, ..] => Err(too_many(alloc, word, items, "reserved")),
+    }
+}
+
+/// Checks an item that may be left out, where these words stand in its place.
+fn check_maybe(
     alloc: Global,
     scope: &Scope,
     word: &str,
     items: &[Item],
     last: Option<Item>,
     words: &[&str],
-) -> Advice {
+) -> Checked {
     match (last, words) {
-        (Some(Item::Jobs), jobs) => wrong_jobs(alloc, scope, jobs),
-        (Some(Item::Filters), filters) => wrong_filters(alloc, scope, filters),
-        (_, []) => Ok(None),
-        (Some(Item::MaybeText), [text]) => wrong_text(alloc, text),
-        (Some(Item::Reserved), ["reserved", reservation]) => wrong_name(
-            alloc,
-            scope,
-            Item::Reservation,
-            reservation,
-        ),
-        (Some(Item::Reserved), ["reserved"]) => too_few(alloc, word, items),
-        (_, [extra, ..]) => too_many(alloc, word, items, extra),
+        (_, []) => Ok(()),
+        (Some(Item::MaybeText), [text]) => check_text(alloc, text),
+        (Some(Item::Reserved), ["reserved", others @ ..]) => {
+            check_reserved(alloc, scope, word, items, others)
+        }
+        (_, [extra, ..]) => Err(too_many(alloc, word, items, extra)),
     }
 }
 
-/// What is wrong with the first words, as these items.
-fn wrong_items(alloc: Global, scope: &Scope, items: &[Item], words: &[&str]) -> Advice {
-    for (item, word) in items.iter().zip(words) {
-        let wrong = wrong_item(alloc, scope, *item, word)?;
-        if wrong.is_some() {
-            return Ok(wrong);
+/// Checks the words behind the items that a line has to have.
+fn check_last(
+    alloc: Global,
+    scope: &Scope,
+    word: &str,
+    items: &[Item],
+    last: Option<Item>,
+    words: &[&str],
+) -> Checked {
+    match last {
+        Some(Item::Jobs) => check_jobs(alloc, scope, words),
+        Some(Item::Filters) => check_filters(alloc, scope, words),
+        _ => check_maybe(alloc, scope, word, items, last, words),
+    }
+}
+
+/// Checks the first words, as these items.
+fn check_items(alloc: Global, scope: &Scope, items: &[Item], words: &[&str]) -> Checked {
+    for (i, item) in items.iter().enumerate() {
+        if let Some(word) = words.get(i) {
+            check_item(alloc, scope, *item, word)?;
         }
     }
-    Ok(None)
+    Ok(())
 }
 
 /// The items that a line has to have, and the last one that may be left out.
@@ -146,22 +171,19 @@ fn split_items(items: &[Item]) -> (&[Item], Option<Item>) {
     }
 }
 
-/// What is wrong with the words behind the word of a line.
-pub(crate) fn wrong_arguments(
+/// Checks the words behind the word of a line.
+pub(crate) fn check_arguments(
     alloc: Global,
     scope: &Scope,
     word: &str,
     items: &[Item],
     words: &[&str],
-) -> Advice {
+) -> Checked {
     let (needed, last) = split_items(items);
-    let wrong = wrong_items(alloc, scope, needed, words)?;
-    if wrong.is_some() {
-        return Ok(wrong);
-    }
+    check_items(alloc, scope, needed, words)?;
     if words.len() < needed.len() {
-        return too_few(alloc, word, items);
+        return Err(too_few(alloc, word, items));
     }
     let rest = &words[needed.len()..];
-    wrong_last(alloc, scope, word, items, last, rest)
+    check_last(alloc, scope, word, items, last, rest)
 }

@@ -1,9 +1,10 @@
 //! Finds what may be amiss with a script, by single passes over its lines.
-ghost use Rattle.std.specs.Prelude.{◌≡◌, ◌∷◌, ◌++◌, [], IfOk, OnOk, if◌then◌else◌};
+ghost use Rattle.std.specs.Prelude.{◌≡◌, ◌+◌, ◌<◌, ◌∷◌, ◌++◌, [], length, drop, IfOk, OnOk, if◌then◌else◌};
 ghost use Rattle.std.specs.List.{list_all};
+ghost use Rattle.script_lines.specs.declared.lines.Line.{Line};
 ghost use Rattle.script_text.specs.Names.{is_there};
 ghost use Rattle.script_text.specs.Follows.{lines_of};
-ghost use Rattle.script_advice.specs.Holds.{stays_in, remains_in, AreHolds, AreSetupHolds};
+ghost use Rattle.script_advice.specs.Holds.{stays_in, remains_in, AreHolds, AreSetupHolds, Passes};
 ghost use Rattle.script_advice.specs.Roles.{role};
 ghost use Rattle.script_advice.specs.Warnings as amiss;
 
@@ -55,6 +56,23 @@ fn warn_unwaited_at(
     }
 }
 
+/// Adds a warning where the line at a place starts a job whose name is not in the set.
+fn warn_unwaited_in(
+    at: Place,
+    awaited: &NameSet,
+    block: &Block,
+    place: usize,
+    found: &mut Vec<Warning>,
+) -> Result<(), AllocError>
+    requires { place < length block.now }
+    ensures { OnOk result (found.new.items ++ amiss.unwaited at (is_there awaited.now) (drop (place + 1) block.now) ≡ found.old.items ++ amiss.unwaited at (is_there awaited.now) (drop place block.now)) }
+{
+    let line = block.line(place)?;
+    let warned = warn_unwaited_at(at, awaited, &line, found);
+    drop(line);
+    warned
+}
+
 /// Adds a warning for each job that lines start, and whose name is not in the set.
 fn warn_unwaited(
     place: Place,
@@ -65,8 +83,7 @@ fn warn_unwaited(
     ensures { OnOk result (found.new.items ≡ found.old.items ++ amiss.unwaited place (is_there awaited.now) block.now) }
 {
     for i in 0..block.len() {
-        let line = block.line(i)?;
-        warn_unwaited_at(place, awaited, &line, found)?;
+        warn_unwaited_in(place, awaited, block, i, found)?;
     }
     Ok(())
 }
@@ -191,6 +208,42 @@ fn no_holds(alloc: Global, script: &Script) -> Holds
     }
 }
 
+/// Adds a warning where a line waits without end for jobs that all stay held, and then what the line itself holds and lets go.
+fn warn_then_hold(
+    place: Place,
+    script: &Script,
+    earlier: &mut Holds,
+    of_setup: &Holds,
+    line: &Line,
+    found: &mut Vec<Warning>,
+) -> Result<(), AllocError>
+    ensures { OnOk result (Passes place script.now of_setup.now line.now earlier.old earlier.new found.old.items found.new.items) }
+{
+    warn_endless_at(place, &*earlier, of_setup, line, found)?;
+    insert_at(Sort::Held, script, &mut earlier.held, line)?;
+    insert_at(Sort::LetGo, script, &mut earlier.let_go, line)
+}
+
+/// The same for the line at a place.
+fn warn_then_hold_in(
+    at: Place,
+    script: &Script,
+    earlier: &mut Holds,
+    of_setup: &Holds,
+    block: &Block,
+    place: usize,
+    found: &mut Vec<Warning>,
+) -> Result<(), AllocError>
+    requires { place < length block.now }
+    ensures { OnOk result ((line : Line) × (drop place block.now ≡ line ∷ drop (place + 1) block.now)
+        × Passes at script.now of_setup.now line earlier.old earlier.new found.old.items found.new.items) }
+{
+    let line = block.line(place)?;
+    let passed = warn_then_hold(at, script, earlier, of_setup, &line, found);
+    drop(line);
+    passed
+}
+
 /// Adds a warning for each wait without end of a client whose jobs all stay held.
 fn warn_endless(
     alloc: Global,
@@ -205,10 +258,7 @@ fn warn_endless(
 {
     let mut earlier = no_holds(alloc, script);
     for i in 0..block.len() {
-        let line = block.line(i)?;
-        warn_endless_at(place, &earlier, of_setup, &line, found)?;
-        insert_at(Sort::Held, script, &mut earlier.held, &line)?;
-        insert_at(Sort::LetGo, script, &mut earlier.let_go, &line)?;
+        warn_then_hold_in(place, script, &mut earlier, of_setup, block, i, found)?;
     }
     Ok(())
 }

@@ -1,8 +1,9 @@
 //! Names that are gathered from the lines of a script.
-ghost use Rattle.std.specs.Prelude.{◌≡◌, ◌∷◌, ◌++◌, [], OnOk, IfOk};
+ghost use Rattle.std.specs.Prelude.{◌≡◌, ◌+◌, ◌<◌, ◌∷◌, ◌++◌, [], length, drop, OnOk, IfOk};
 ghost use Rattle.std.specs.List.{flat_map};
 ghost use Rattle.std.specs.Map.{lookup};
 ghost use Rattle.std.specs.Str.{bytes_eq};
+ghost use Rattle.script_lines.specs.declared.lines.Line.{Line};
 ghost use Rattle.script_text.specs.Names.{is_there};
 ghost use Rattle.script_text.specs.Follows.{lines_of};
 ghost use Rattle.script_advice.specs.NameSets.{Extends};
@@ -17,7 +18,7 @@ use std::alloc::{AllocError, Global};
 pub(crate) type NameSet = Keyed<()>;
 
 /// For what lines name jobs.
-#[derive(Clone, Copy, Debug, PartialEq, Eq)]
+#[derive(Clone, Copy)]
 pub enum Sort {
     /// They are waited for, or reaped.
     Awaited,
@@ -156,6 +157,23 @@ pub(crate) fn insert_at(
     }
 }
 
+/// Puts the names into the set that the line at a place has of a sort.
+fn insert_of(
+    sort: Sort,
+    script: &Script,
+    names: &mut NameSet,
+    block: &Block,
+    place: usize,
+) -> Result<(), AllocError>
+    requires { place < length block.now }
+    ensures { OnOk result ((line : Line) × (drop place block.now ≡ line ∷ drop (place + 1) block.now) × Extends names.old names.new (amiss.names_at sort script.now line)) }
+{
+    let line = block.line(place)?;
+    let put = insert_at(sort, script, names, &line);
+    drop(line);
+    put
+}
+
 /// Puts the names into the set that lines have of a sort.
 fn insert_in(
     sort: Sort,
@@ -166,8 +184,7 @@ fn insert_in(
     ensures { OnOk result (Extends names.old names.new (amiss.names_in sort script.now block.now)) }
 {
     for i in 0..block.len() {
-        let line = block.line(i)?;
-        insert_at(sort, script, names, &line)?;
+        insert_of(sort, script, names, block, i)?;
     }
     Ok(())
 }

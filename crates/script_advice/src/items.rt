@@ -2,7 +2,7 @@
 use std::alloc::{AllocError, Global};
 
 /// One item behind the word of a line. Those from `MaybeText` on are last items, which may be left out.
-#[derive(Clone, Copy, Debug, PartialEq, Eq)]
+#[derive(Clone, Copy)]
 pub(crate) enum Item {
     /// A name that the line binds.
     Name,
@@ -87,14 +87,26 @@ impl Item {
     }
 }
 
-/// The form of a line: its word, and what stands behind it.
-pub(crate) fn usage(alloc: Global, word: &str, items: &[Item]) -> Result<String, AllocError> {
-    let mut out = String::from_str(alloc, "`")?;
-    out.push_str(word)?;
+/// Writes what may stand behind a word.
+fn push_items(out: &mut String, items: &[Item]) -> Result<(), AllocError> {
     for item in items {
         out.push_str(" ")?;
         out.push_str(item.word())?;
     }
+    Ok(())
+}
+
+/// The form of a line, its word and what may stand behind it, with what stands before that.
+pub(crate) fn usage(
+    alloc: Global,
+    before: &str,
+    word: &str,
+    items: &[Item],
+) -> Result<String, AllocError> {
+    let mut out = String::from_str(alloc, before)?;
+    out.push_str("`")?;
+    out.push_str(word)?;
+    push_items(&mut out, items)?;
     out.push_str("`")?;
     Ok(out)
 }

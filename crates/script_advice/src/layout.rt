@@ -1,7 +1,7 @@
-//! Lines and their words, and what is wrong with how they are laid out.
+//! Lines and their words, and how they are laid out.
 ghost use Rattle.std.specs.Prelude.{◌≤◌, length};
 
-use crate::showing::{Advice, shown};
+use crate::showing::{Checked, Wrong};
 use std::alloc::{AllocError, Global};
 
 /// How many bytes stand before the first blank that is in no text.
@@ -37,9 +37,12 @@ pub(crate) fn words_of(alloc: Global, line: &str) -> Result<Vec<&str>, AllocErro
     }
 }
 
-/// What is said, as it stands.
-pub(crate) fn said(alloc: Global, words: &str) -> Advice {
-    Ok(Some(String::from_str(alloc, words)?))
+/// Whether a line with these words begins with blanks.
+fn is_indented(words: &[&str]) -> bool {
+    match words {
+        [first, ..] => first.is_empty() || first.starts_with('\t'),
+        [] => false,
+    }
 }
 
 /// Whether a word has a tab, and no text.
@@ -47,34 +50,40 @@ fn has_tab(word: &str) -> bool {
     word.as_bytes().contains(&b'\t') && !word.as_bytes().contains(&b'"')
 }
 
-/// What is wrong with the blanks of a line that has these words.
-fn wrong_blanks(alloc: Global, words: &[&str]) -> Advice {
-    match words {
-        ["", ..] => said(alloc, "it is indented: a line begins with its word"),
-        [first, ..] if first.starts_with('\t') => {
-            said(alloc, "it is indented: a line begins with its word")
+/// Checks that no word has a tab in place of a blank.
+fn check_tabs(alloc: Global, words: &[&str]) -> Checked {
+    for word in words {
+        if has_tab(word) {
+            return Err(Wrong::around(
+                alloc,
+                "a tab stands in ",
+                word,
+                ", where one blank has to stand",
+            ));
         }
-        [.., ""] => said(alloc, "a blank stands at its end"),
-        words if words.contains(&"") => { said(alloc, "two blanks stand where one has to stand") }
-        words => match words.iter().find(|word| has_tab(word)) {
-            Some(word) => {
-                let written = shown(alloc, word)?;
-                Ok(Some(format!(in alloc;
-                    "a tab stands in {written}, where one blank has to stand"
-                )?))
-            }
-            None => Ok(None),
-        },
+    }
+    Ok(())
+}
+
+/// What is said of the blanks around the words of a line, where they are amiss.
+fn misplaced(line: &str, words: &[&str]) -> Option<&'static str> {
+    if line.ends_with('\r') {
+        return Some("a carriage return stands at its end: a line ends with a line feed alone");
+    }
+    if is_indented(words) {
+        return Some("it is indented: a line begins with its word");
+    }
+    match words {
+        [.., ""] => Some("a blank stands at its end"),
+        words if words.contains(&"") => Some("two blanks stand where one has to stand"),
+        _ => None,
     }
 }
 
-/// What is wrong with how a line is laid out that has these words.
-pub(crate) fn wrong_layout(alloc: Global, line: &str, words: &[&str]) -> Advice {
-    if line.ends_with('\r') {
-        return said(
-            alloc,
-            "a carriage return stands at its end: a line ends with a line feed alone",
-        );
+/// Checks how a line is laid out that has these words.
+pub(crate) fn check_layout(alloc: Global, line: &str, words: &[&str]) -> Checked {
+    match misplaced(line, words) {
+        Some(said) => Err(Wrong::said(alloc, said)),
+        None => check_tabs(alloc, words),
     }
-    wrong_blanks(alloc, words)
 }

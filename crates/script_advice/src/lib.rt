@@ -17,6 +17,7 @@ mod states;
 mod usages;
 mod values;
 mod warning_kinds;
+mod words;
 
 pub use advice::advice_for;
 pub use finding::warnings;

@@ -1,7 +1,6 @@
 //! The nearest known word.
-use crate::showing::{Advice, shown};
-use crate::usages::{HEADS, spell_job_field, spell_reservation_field};
-use script_lines::{JOB_FIELD_WORDS, LINE_WORDS, RESERVATION_FIELD_WORDS, spell_line_word};
+use crate::showing::Wrong;
+use crate::words::{Among, count_of, word_at};
 use std::alloc::{AllocError, Global};
 use strsim::levenshtein;
 
@@ -11,78 +10,72 @@ const MOST_EDITS: usize = 2;
 /// A word that is longer is near to none.
 const LONGEST: usize = 40;
 
-/// Which words may stand at a place.
-#[derive(Clone, Copy, Debug, PartialEq, Eq)]
-pub(crate) enum Among {
-    /// Outside of blocks.
-    Heads,
-    /// In a job's template.
-    JobFields,
-    /// In a reservation's template.
-    ReservationFields,
-    /// In the setup block, or in a client's.
-    Lines,
+/// The first of the nearest of some known words, where one is near, and in how many places it differs; else more places than a
+/// near word has.
+#[derive(Clone, Copy)]
+struct Near {
+    known: Option<&'static str>,
+    edits: usize,
 }
 
-/// The words that may stand there.
-fn known(alloc: Global, among: Among) -> Result<Vec<&'static str>, AllocError> {
-    let mut words = Vec::new(alloc);
+impl Near {
+    /// With one known word more, where there is one.
+    fn with(
+        self,
+        alloc: Global,
+        word: &str,
+        known: Option<&'static str>,
+    ) -> Result<Near, AllocError> {
+        let Some(other) = known else {
+            return Ok(self);
+        };
+        let edits = levenshtein(alloc, word, other)?;
+        if edits < self.edits {
+            Ok(Near { known, edits })
+        } else {
+            Ok(self)
+        }
+    }
+}
+
+/// The word that ends a block, where one is open.
+fn end_of(among: Among) -> Option<&'static str> {
     match among {
-        Among::Heads => {
-            for word in HEADS {
-                words.push(word)?;
-            }
-        }
-        Among::JobFields => {
-            for word in JOB_FIELD_WORDS {
-                words.push(spell_job_field(word))?;
-            }
-        }
-        Among::ReservationFields => {
-            for word in RESERVATION_FIELD_WORDS {
-                words.push(spell_reservation_field(word))?;
-            }
-        }
-        Among::Lines => {
-            for word in LINE_WORDS {
-                words.push(spell_line_word(word))?;
-            }
-        }
+        Among::Heads => None,
+        Among::JobFields | Among::ReservationFields | Among::Lines => Some("end"),
     }
-    if among != Among::Heads {
-        words.push("end")?;
-    }
-    Ok(words)
 }
 
-/// The first of the nearest words, where it differs in at most two places.
-fn nearest(
-    alloc: Global,
-    word: &str,
-    known: &[&'static str],
-) -> Result<Option<&'static str>, AllocError> {
-    let mut best = None;
-    let mut least = MOST_EDITS + 1;
-    for candidate in known {
-        let edits = levenshtein(alloc, word, candidate)?;
-        if edits < least {
-            least = edits;
-            best = Some(*candidate);
-        }
+/// The first of the nearest words that may stand there, where it differs in at most two places.
+fn nearest(alloc: Global, among: Among, word: &str) -> Result<Option<&'static str>, AllocError> {
+    let mut near = Near {
+        known: None,
+        edits: MOST_EDITS + 1,
+    };
+    for place in 0..count_of(among) {
+        near = near.with(alloc, word, word_at(among, place))?;
     }
-    Ok(best)
+    let near = near.with(alloc, word, end_of(among))?;
+    Ok(near.known)
 }
 
-/// What is said of a word that may not stand there.
-pub(crate) fn unknown(alloc: Global, among: Among, word: &str) -> Advice {
-    let written = shown(alloc, word)?;
-    if word.len() <= LONGEST {
-        let known = known(alloc, among)?;
-        if let Some(near) = nearest(alloc, word, known.as_slice())? {
-            return Ok(Some(format!(in alloc;
-                "{written} may not stand here; the nearest known word is `{near}`"
-            )?));
-        }
+/// The nearest word to one that is not longer than words are.
+fn near_to(alloc: Global, among: Among, word: &str) -> Result<Option<&'static str>, AllocError> {
+    if word.len() > LONGEST {
+        return Ok(None);
     }
-    Ok(Some(format!(in alloc; "{written} may not stand here")?))
+    nearest(alloc, among, word)
+}
+
+/// What is wrong with a word that may not stand there.
+pub(crate) fn unknown(alloc: Global, among: Among, word: &str) -> Wrong {
+    match near_to(alloc, among, word) {
+        Ok(Some(near)) => Wrong::of_written(
+            alloc,
+            word,
+            format!(in alloc; " may not stand here; the nearest known word is `{near}`"),
+        ),
+        Ok(None) => Wrong::of(alloc, word, " may not stand here"),
+        Err(_) => Wrong::OutOfMemory,
+    }
 }

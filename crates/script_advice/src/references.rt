@@ -1,6 +1,6 @@
-//! What is wrong with a name: of what is bound, and of what is not.
+//! Names: of what is bound, and of what is not.
 use crate::items::Item;
-use crate::showing::{Advice, shown};
+use crate::showing::{Checked, Wrong, shown, wrong_unless};
 use drmaa_types::Text;
 use script_lines::Name;
 use script_text::{Block, Kind, Script};
@@ -8,7 +8,7 @@ use std::alloc::{AllocError, Global};
 use text_codec::{is_name, number_of};
 
 /// What a name stands for.
-#[derive(Clone, Copy, Debug, PartialEq, Eq)]
+#[derive(Clone, Copy, PartialEq, Eq)]
 enum Meaning {
     Bound(Kind),
     Template,
@@ -31,14 +31,8 @@ impl Meaning {
     }
 }
 
-/// A word as a name.
-fn name_of(alloc: Global, word: &str) -> Result<Name, AllocError> {
-    let text = Text::of(alloc, word)?;
-    Ok(Name::new(text))
-}
-
 /// What a line sees: the script as it was read before its block, and the lines of its block before it.
-#[derive(Drop)]
+#[derive(Clone, Copy)]
 pub(crate) struct Scope<'a> {
     pub(crate) script: Option<&'a Script>,
     pub(crate) block: Option<&'a Block>,
@@ -66,75 +60,104 @@ fn template_of(scope: &Scope, name: &Name) -> Meaning {
     }
 }
 
-/// What is said of a word that is no name.
-fn no_name(alloc: Global, word: &str) -> Advice {
-    let written = shown(alloc, word)?;
-    Ok(Some(format!(in alloc;
-        "{written} is no name: a small letter, and at most 31 small letters, digits or _ behind it"
-    )?))
+/// What a name stands for to a line, where lines bind it and as a template.
+#[derive(Clone, Copy)]
+struct Standing {
+    bound: Option<Kind>,
+    template: Meaning,
 }
 
-/// What is said of a name that means what it may not, where something is wanted.
-fn other_meaning(alloc: Global, word: &str, meaning: Meaning, wanted: &str) -> Advice {
-    let written = shown(alloc, word)?;
+impl Standing {
+    /// What it stands for, above all where lines bind it.
+    fn as_bound(self) -> Meaning {
+        match self.bound {
+            Some(kind) => Meaning::Bound(kind),
+            None => self.template,
+        }
+    }
+
+    /// What it stands for, above all as a template.
+    fn as_template(self) -> Meaning {
+        match self.template {
+            Meaning::Nothing => self.as_bound(),
+            template => template,
+        }
+    }
+}
+
+/// What this text stands for, which is a name.
+fn standing_of(alloc: Global, scope: &Scope, word: &str) -> Result<Standing, AllocError> {
+    let name = Name::new(Text::of(alloc, word)?);
+    Ok(Standing {
+        bound: bound_to(scope, &name),
+        template: template_of(scope, &name),
+    })
+}
+
+/// What is wrong with a word that is no name.
+fn no_name(alloc: Global, word: &str) -> Wrong {
+    Wrong::of(
+        alloc,
+        word,
+        " is no name: a small letter, and at most 31 small letters, digits or _ behind it",
+    )
+}
+
+/// What is wrong with a name that means what it may not, where something is wanted.
+fn other_meaning(alloc: Global, word: &str, meaning: Meaning, wanted: &str) -> Wrong {
     match meaning {
-        Meaning::Nothing => Ok(Some(format!(in alloc;
-            "{written} is not bound by an earlier line that this one sees, and {wanted} is wanted"
-        )?)),
+        Meaning::Nothing => Wrong::of_written(
+            alloc,
+            word,
+            format!(in alloc;
+                " is not bound by an earlier line that this one sees, and {wanted} is wanted"
+            ),
+        ),
         other => {
             let words = other.words();
-            Ok(Some(format!(in alloc; "{written} is {words}, and {wanted} is wanted")?))
+            Wrong::of_written(
+                alloc,
+                word,
+                format!(in alloc; " is {words}, and {wanted} is wanted"),
+            )
         }
     }
 }
 
 /// What is said of a name that is taken.
-fn taken(alloc: Global, word: &str, meaning: Meaning) -> Advice {
+fn taken_text(alloc: Global, word: &str, meaning: Meaning) -> Result<String, AllocError> {
     let written = shown(alloc, word)?;
     let words = meaning.words();
-    Ok(Some(format!(in alloc; "the name {written} is bound already: it is {words}")?))
+    format!(in alloc; "the name {written} is bound already: it is {words}")
 }
 
-/// What is wrong with a name that a line binds.
-fn wrong_new(alloc: Global, scope: &Scope, word: &str) -> Advice {
-    if !is_name(word.as_bytes()) {
-        return no_name(alloc, word);
-    }
-    let name = name_of(alloc, word)?;
-    match bound_to(scope, &name) {
-        Some(kind) => taken(alloc, word, Meaning::Bound(kind)),
-        None => Ok(None),
-    }
+/// What is wrong with a name that is taken.
+fn taken(alloc: Global, word: &str, meaning: Meaning) -> Wrong {
+    Wrong::written(taken_text(alloc, word, meaning))
 }
 
-/// What is wrong with the name of a new template.
-fn wrong_new_template(alloc: Global, scope: &Scope, word: &str) -> Advice {
-    if !is_name(word.as_bytes()) {
-        return no_name(alloc, word);
-    }
-    let name = name_of(alloc, word)?;
-    match template_of(scope, &name) {
-        Meaning::Nothing => Ok(None),
-        other => taken(alloc, word, other),
+/// Checks a name that a line binds.
+fn check_new(alloc: Global, word: &str, standing: Standing) -> Checked {
+    match standing.bound {
+        Some(kind) => Err(taken(alloc, word, Meaning::Bound(kind))),
+        None => Ok(()),
     }
 }
 
-/// What is wrong with the name of a template.
-fn wrong_template(alloc: Global, scope: &Scope, word: &str, meant: Meaning) -> Advice {
-    if !is_name(word.as_bytes()) {
-        return no_name(alloc, word);
+/// Checks the name of a new template.
+fn check_new_template(alloc: Global, word: &str, standing: Standing) -> Checked {
+    match standing.template {
+        Meaning::Nothing => Ok(()),
+        other => Err(taken(alloc, word, other)),
     }
-    let name = name_of(alloc, word)?;
-    let meaning = template_of(scope, &name);
-    if meaning == meant {
-        return Ok(None);
+}
+
+/// Checks the name of a template.
+fn check_template(alloc: Global, word: &str, standing: Standing, meant: Meaning) -> Checked {
+    if standing.template == meant {
+        return Ok(());
     }
-    match (meaning, bound_to(scope, &name)) {
-        (Meaning::Nothing, Some(kind)) => {
-            other_meaning(alloc, word, Meaning::Bound(kind), meant.words())
-        }
-        (other, _) => other_meaning(alloc, word, other, meant.words()),
-    }
+    Err(other_meaning(alloc, word, standing.as_template(), meant.words()))
 }
 
 /// What an item has to be.
@@ -150,23 +173,42 @@ fn wanted(item: Item) -> &'static str {
 /// Whether what a name is bound to is what an item has to be.
 fn fits(item: Item, kind: Kind) -> bool {
     match kind {
-        Kind::Session => item == Item::Session,
-        Kind::Job => item == Item::Job,
-        Kind::Array { .. } => item == Item::Array,
-        Kind::Reservation => item == Item::Reservation,
+        Kind::Session => matches!(item, Item::Session),
+        Kind::Job => matches!(item, Item::Job),
+        Kind::Array { .. } => matches!(item, Item::Array),
+        Kind::Reservation => matches!(item, Item::Reservation),
     }
 }
 
-/// What is wrong with a reference by name.
-fn wrong_bound(alloc: Global, scope: &Scope, item: Item, word: &str) -> Advice {
-    if !is_name(word.as_bytes()) {
-        return no_name(alloc, word);
+/// Checks the name of something that lines bind.
+fn check_bound(alloc: Global, word: &str, standing: Standing, item: Item) -> Checked {
+    match standing.bound {
+        Some(kind) if fits(item, kind) => Ok(()),
+        _ => Err(other_meaning(alloc, word, standing.as_bound(), wanted(item))),
     }
-    let name = name_of(alloc, word)?;
-    match bound_to(scope, &name) {
-        Some(kind) if fits(item, kind) => Ok(None),
-        Some(kind) => other_meaning(alloc, word, Meaning::Bound(kind), wanted(item)),
-        None => other_meaning(alloc, word, template_of(scope, &name), wanted(item)),
+}
+
+/// Checks a name, where it stands for this.
+fn check_standing(alloc: Global, word: &str, standing: Standing, item: Item) -> Checked {
+    match item {
+        Item::Name => check_new(alloc, word, standing),
+        Item::TemplateName => check_new_template(alloc, word, standing),
+        Item::Template => check_template(alloc, word, standing, Meaning::Template),
+        Item::ReservationTemplate => {
+            check_template(alloc, word, standing, Meaning::ReservationTemplate)
+        }
+        _ => check_bound(alloc, word, standing, item),
+    }
+}
+
+/// Checks a word that has to be a name.
+fn check_word(alloc: Global, scope: &Scope, item: Item, word: &str) -> Checked {
+    if !is_name(word.as_bytes()) {
+        return Err(no_name(alloc, word));
+    }
+    match standing_of(alloc, scope, word) {
+        Ok(standing) => check_standing(alloc, word, standing, item),
+        Err(_) => Err(Wrong::OutOfMemory),
     }
 }
 
@@ -182,57 +224,69 @@ fn is_index(begin: u32, end: u32, step: u32, index: u64) -> bool {
     }
 }
 
-/// What is wrong with a reference to the job of an array.
-fn wrong_member(alloc: Global, scope: &Scope, array: &str, digits: &str) -> Advice {
-    if !is_name(array.as_bytes()) {
-        return no_name(alloc, array);
-    }
-    let name = name_of(alloc, array)?;
+/// What is said of a word that is no index of an array.
+fn indices_text(
+    alloc: Global,
+    array: &str,
+    begin: u32,
+    end: u32,
+    step: u32,
+) -> Result<String, AllocError> {
     let written = shown(alloc, array)?;
-    match bound_to(scope, &name) {
+    format!(in alloc;
+        " is no index of the array {written}, which has those from {begin} to {end} by {step}"
+    )
+}
+
+/// Checks a reference to the job of an array, where the array's name stands for this.
+fn check_index(alloc: Global, array: &str, standing: Standing, digits: &str) -> Checked {
+    match standing.bound {
         Some(Kind::Array { begin, end, step }) => match number_of(digits.as_bytes()) {
-            Some(index) if is_index(begin, end, step, index) => Ok(None),
-            _ => {
-                let index = shown(alloc, digits)?;
-                Ok(Some(format!(in alloc;
-                    "{index} is no index of the array {written}, which has those from {begin} to {end} by {step}"
-                )?))
-            }
+            Some(index) if is_index(begin, end, step, index) => Ok(()),
+            _ => Err(Wrong::of_written(
+                alloc,
+                digits,
+                indices_text(alloc, array, begin, end, step),
+            )),
         },
-        Some(kind) => other_meaning(alloc, array, Meaning::Bound(kind), "an array"),
-        None => other_meaning(alloc, array, template_of(scope, &name), "an array"),
+        _ => Err(other_meaning(alloc, array, standing.as_bound(), "an array")),
     }
 }
 
-/// What is wrong with a reference to a session, a job, an array or a reservation.
-fn wrong_reference(alloc: Global, scope: &Scope, item: Item, word: &str) -> Advice {
+/// Checks a reference to the job of an array.
+fn check_member(alloc: Global, scope: &Scope, array: &str, digits: &str) -> Checked {
+    if !is_name(array.as_bytes()) {
+        return Err(no_name(alloc, array));
+    }
+    match standing_of(alloc, scope, array) {
+        Ok(standing) => check_index(alloc, array, standing, digits),
+        Err(_) => Err(Wrong::OutOfMemory),
+    }
+}
+
+/// Checks a reference to a session, a job, an array or a reservation.
+fn check_reference(alloc: Global, scope: &Scope, item: Item, word: &str) -> Checked {
     if let Some(digits) = word.strip_prefix('#') {
-        return match number_of(digits.as_bytes()) {
-            Some(_) => Ok(None),
-            None => {
-                let written = shown(alloc, word)?;
-                Ok(Some(format!(in alloc; "{written} is no number behind #")?))
-            }
-        };
+        let is_number = number_of(digits.as_bytes()).is_some();
+        return wrong_unless(alloc, word, is_number, " is no number behind #");
     }
     match word.split_once('.') {
-        Some((array, digits)) if item == Item::Job => { wrong_member(alloc, scope, array, digits) }
-        _ => wrong_bound(alloc, scope, item, word),
+        Some((array, digits)) if matches!(item, Item::Job) => {
+            check_member(alloc, scope, array, digits)
+        }
+        _ => check_word(alloc, scope, item, word),
     }
 }
 
-/// What is wrong with an item that names something.
-pub(crate) fn wrong_name(alloc: Global, scope: &Scope, item: Item, word: &str) -> Advice {
+/// Checks an item that names something.
+pub(crate) fn check_name(alloc: Global, scope: &Scope, item: Item, word: &str) -> Checked {
     match item {
-        Item::Name => wrong_new(alloc, scope, word),
-        Item::TemplateName => wrong_new_template(alloc, scope, word),
-        Item::Template => wrong_template(alloc, scope, word, Meaning::Template),
-        Item::ReservationTemplate => {
-            wrong_template(alloc, scope, word, Meaning::ReservationTemplate)
+        Item::Name | Item::TemplateName | Item::Template | Item::ReservationTemplate => {
+            check_word(alloc, scope, item, word)
         }
         Item::Session | Item::Job | Item::Array | Item::Reservation => {
-            wrong_reference(alloc, scope, item, word)
+            check_reference(alloc, scope, item, word)
         }
-        _ => Ok(None),
+        _ => Ok(()),
     }
 }

@@ -1,18 +1,18 @@
-//! What is wrong with a line, by what the reader of scripts has read before it.
-use crate::arguments::wrong_arguments;
-use crate::heads::{wrong_head, wrong_start};
-use crate::layout::said;
-use crate::nearest::{Among, unknown};
+//! Lines, by what the reader of scripts has read before them.
+use crate::arguments::check_arguments;
+use crate::heads::{check_head, check_start};
+use crate::items::Item;
+use crate::nearest::unknown;
 use crate::references::Scope;
-use crate::showing::{Advice, shown};
-use crate::usages::{
-    HEADS, is_serial, is_wait, items_of, items_of_job_field, items_of_reservation_field,
-    job_field_of, reservation_field_of,
-};
+use crate::showing::{Checked, Wrong};
+use crate::usages::{is_serial, is_wait, items_of, items_of_job_field, items_of_reservation_field};
+use crate::words::{Among, is_field, is_head, job_field_of, reservation_field_of};
+use job_template::ReservationTemplate;
 use script_lines::{
-    LineWord, is_reservation_set, is_set, line_word_of, read_job_field, read_reservation_field,
+    Draft, LineWord, is_reservation_set, is_set, line_word_of, read_job_field,
+    read_reservation_field,
 };
-use script_text::{Block, Mode, Reader, Script};
+use script_text::{Mode, Reader};
 use std::alloc::{AllocError, Global};
 use text_codec::Unread;
 use text_lines::{LineReader, Skipping};
@@ -39,7 +39,7 @@ pub(crate) fn read_before(
 }
 
 /// A line of which something is wrong.
-#[derive(Drop)]
+#[derive(Clone, Copy)]
 pub(crate) struct BadLine<'a> {
     pub(crate) line: &'a str,
     /// Its first word.
@@ -52,116 +52,163 @@ pub(crate) struct BadLine<'a> {
     pub(crate) not_serial: Option<u64>,
 }
 
-/// What is said where a block is not ended.
-pub(crate) fn unended(alloc: Global, head: u64) -> Advice {
-    Ok(Some(format!(in alloc; "`end` is missing: the block of line {head} is not ended")?))
+/// What is wrong where a block is not ended.
+pub(crate) fn unended(alloc: Global, head: u64) -> Wrong {
+    Wrong::written(format!(in alloc; "`end` is missing: the block of line {head} is not ended"))
 }
 
-/// What is said of a word that no line of a block has.
-fn wrong_word(alloc: Global, bad: &BadLine, among: Among) -> Advice {
+/// What is wrong with a word that no line of a block has.
+fn wrong_word(alloc: Global, bad: &BadLine, among: Among) -> Wrong {
     let first = bad.first;
     if first == "end" {
-        return said(alloc, "nothing stands behind `end`");
+        return Wrong::said(alloc, "nothing stands behind `end`");
     }
-    if HEADS.contains(&first) {
+    if is_head(first) {
         return unended(alloc, bad.head);
     }
-    let is_line = line_word_of(first.as_bytes()).is_some();
-    let is_field = job_field_of(first).is_some() || reservation_field_of(first).is_some();
-    if among == Among::Lines && is_field {
-        let written = shown(alloc, first)?;
-        return Ok(Some(format!(in alloc;
-            "{written} is a line of a template, and this is no template"
-        )?));
+    match among {
+        Among::Lines if is_field(first) => Wrong::of(
+            alloc,
+            first,
+            " is a line of a template, and this is no template",
+        ),
+        Among::JobFields | Among::ReservationFields if line_word_of(first.as_bytes()).is_some() => {
+            Wrong::of(alloc, first, " is no line of a template")
+        }
+        _ => unknown(alloc, among, first),
     }
-    if among != Among::Lines && is_line {
-        let written = shown(alloc, first)?;
-        return Ok(Some(format!(in alloc; "{written} is no line of a template")?));
-    }
-    unknown(alloc, among, first)
 }
 
-/// What is said of a line of a template that sets what was set.
-fn set_twice(alloc: Global, first: &str) -> Advice {
-    let written = shown(alloc, first)?;
-    Ok(Some(format!(in alloc; "{written} stands in this template already")?))
+/// What is wrong with a line of a template that sets what was set.
+fn set_twice(alloc: Global, first: &str) -> Wrong {
+    Wrong::of(alloc, first, " stands in this template already")
 }
 
-/// What is wrong with what stands behind the word of a template's line.
-fn wrong_field(alloc: Global, bad: &BadLine, items: &[crate::items::Item]) -> Advice {
+/// Checks what stands behind the word of a template's line.
+fn check_field(alloc: Global, bad: &BadLine, items: &[Item]) -> Checked {
     let nothing = Scope {
         script: None,
         block: None,
     };
-    wrong_arguments(alloc, &nothing, bad.first, items, bad.rest)
+    check_arguments(alloc, &nothing, bad.first, items, bad.rest)
 }
 
-/// Why a line does not belong in this kind of script, or not in this block.
-fn wrong_place(alloc: Global, mode: Mode, in_setup: bool, word: LineWord, bad: &BadLine) -> Advice {
-    let written = shown(alloc, bad.first)?;
+/// Whether a line of a job's template sets what was set.
+fn sets_again(alloc: Global, draft: &Draft, line: &str) -> bool {
+    match read_job_field(alloc, line.as_bytes()) {
+        Ok(field) => {
+            let is_again = is_set(draft, &field);
+            drop(field);
+            is_again
+        }
+        Err(_) => false,
+    }
+}
+
+/// Checks a line of a job's template.
+fn check_job_field(alloc: Global, draft: &Draft, bad: &BadLine) -> Checked {
+    let Some(word) = job_field_of(bad.first) else {
+        return Err(wrong_word(alloc, bad, Among::JobFields));
+    };
+    if sets_again(alloc, draft, bad.line) {
+        return Err(set_twice(alloc, bad.first));
+    }
+    check_field(alloc, bad, items_of_job_field(word))
+}
+
+/// Whether a line of a reservation's template sets what was set.
+fn sets_reservation_again(alloc: Global, template: &ReservationTemplate, line: &str) -> bool {
+    match read_reservation_field(alloc, line.as_bytes()) {
+        Ok(field) => {
+            let is_again = is_reservation_set(template, &field);
+            drop(field);
+            is_again
+        }
+        Err(_) => false,
+    }
+}
+
+/// Checks a line of a reservation's template.
+fn check_reservation_field(
+    alloc: Global,
+    template: &ReservationTemplate,
+    bad: &BadLine,
+) -> Checked {
+    let Some(word) = reservation_field_of(bad.first) else {
+        return Err(wrong_word(alloc, bad, Among::ReservationFields));
+    };
+    if sets_reservation_again(alloc, template, bad.line) {
+        return Err(set_twice(alloc, bad.first));
+    }
+    check_field(alloc, bad, items_of_reservation_field(word))
+}
+
+/// What is wrong with a line that stands in a script for one thread alone.
+fn not_for_threads(alloc: Global, bad: &BadLine) -> Wrong {
+    match bad.not_serial {
+        Some(line) => Wrong::of_written(
+            alloc,
+            bad.first,
+            format!(in alloc;
+                " stands in a script for one thread alone, and line {line} in one for threads"
+            ),
+        ),
+        None => Wrong::of(alloc, bad.first, " stands in a script for one thread alone"),
+    }
+}
+
+/// Checks that a line belongs in this kind of script, and in this block.
+fn check_place(
+    alloc: Global,
+    mode: Mode,
+    in_setup: bool,
+    word: LineWord,
+    bad: &BadLine,
+) -> Checked {
     if is_wait(word) && in_setup {
-        return Ok(Some(format!(in alloc;
-            "{written} stands in the block of a client alone: the setup block waits for nobody"
-        )?));
+        return Err(Wrong::of(
+            alloc,
+            bad.first,
+            " stands in the block of a client alone: the setup block waits for nobody",
+        ));
     }
     match mode {
         Mode::Serial => match bad.rest {
-            [_, "infinite", ..] if is_wait(word) => Ok(Some(format!(in alloc;
-                "a wait without end stands in a script for threads alone"
-            )?)),
-            _ => Ok(None),
+            [_, "infinite", ..] if is_wait(word) => Err(Wrong::said(
+                alloc,
+                "a wait without end stands in a script for threads alone",
+            )),
+            _ => Ok(()),
         },
-        Mode::Threads if is_serial(word) => match bad.not_serial {
-            Some(line) => Ok(Some(format!(in alloc;
-                "{written} stands in a script for one thread alone, and line {line} in one for threads"
-            )?)),
-            None => Ok(Some(format!(in alloc;
-                "{written} stands in a script for one thread alone"
-            )?)),
-        },
-        Mode::Threads if word == LineWord::Register && !in_setup => Ok(Some(format!(in alloc;
-            "{written} stands in the setup block of a script for threads"
-        )?)),
-        Mode::Threads => Ok(None),
+        Mode::Threads if is_serial(word) => Err(not_for_threads(alloc, bad)),
+        Mode::Threads if !in_setup && matches!(word, LineWord::Register) => Err(Wrong::of(
+            alloc,
+            bad.first,
+            " stands in the setup block of a script for threads",
+        )),
+        Mode::Threads => Ok(()),
     }
 }
 
-/// What is wrong with a line of the setup block or of a client.
-fn wrong_line(alloc: Global, mode: Mode, in_setup: bool, scope: &Scope, bad: &BadLine) -> Advice {
+/// Checks a line of the setup block or of a client.
+fn check_line(alloc: Global, mode: Mode, in_setup: bool, scope: &Scope, bad: &BadLine) -> Checked {
     let Some(word) = line_word_of(bad.first.as_bytes()) else {
-        return wrong_word(alloc, bad, Among::Lines);
+        return Err(wrong_word(alloc, bad, Among::Lines));
     };
-    let wrong = wrong_place(alloc, mode, in_setup, word, bad)?;
-    if wrong.is_some() {
-        return Ok(wrong);
-    }
-    wrong_arguments(alloc, scope, bad.first, items_of(word), bad.rest)
+    check_place(alloc, mode, in_setup, word, bad)?;
+    check_arguments(alloc, scope, bad.first, items_of(word), bad.rest)
 }
 
-/// What is wrong with a line, where this was read before it.
-pub(crate) fn wrong_behind(alloc: Global, reader: &Reader, bad: &BadLine) -> Advice {
+/// Checks a line, where this was read before it.
+pub(crate) fn check_behind(alloc: Global, reader: &Reader, bad: &BadLine) -> Checked {
     match reader {
-        Reader::Start { .. } => wrong_start(alloc, bad.first, bad.rest),
+        Reader::Start { .. } => check_start(alloc, bad.first, bad.rest),
         Reader::Queueing { script, .. } => {
-            wrong_head(alloc, script.get(), true, bad.first, bad.rest)
+            check_head(alloc, script.get(), true, bad.first, bad.rest)
         }
-        Reader::Top { script, .. } => wrong_head(alloc, script.get(), false, bad.first, bad.rest),
-        Reader::Filling { draft, .. } => match job_field_of(bad.first) {
-            Some(word) => match read_job_field(alloc, bad.line.as_bytes()) {
-                Ok(field) if is_set(draft.get(), &field) => set_twice(alloc, bad.first),
-                _ => wrong_field(alloc, bad, items_of_job_field(word)),
-            },
-            None => wrong_word(alloc, bad, Among::JobFields),
-        },
-        Reader::Reserving { template, .. } => match reservation_field_of(bad.first) {
-            Some(word) => match read_reservation_field(alloc, bad.line.as_bytes()) {
-                Ok(field) if is_reservation_set(template.get(), &field) => {
-                    set_twice(alloc, bad.first)
-                }
-                _ => wrong_field(alloc, bad, items_of_reservation_field(word)),
-            },
-            None => wrong_word(alloc, bad, Among::ReservationFields),
-        },
+        Reader::Top { script, .. } => check_head(alloc, script.get(), false, bad.first, bad.rest),
+        Reader::Filling { draft, .. } => check_job_field(alloc, draft.get(), bad),
+        Reader::Reserving { template, .. } => check_reservation_field(alloc, template.get(), bad),
         Reader::Asking {
             mode,
             script,
@@ -172,21 +219,21 @@ pub(crate) fn wrong_behind(alloc: Global, reader: &Reader, bad: &BadLine) -> Adv
                 script: Some(script.get()),
                 block: Some(block),
             };
-            wrong_line(alloc, *mode, *in_setup, &scope, bad)
+            check_line(alloc, *mode, *in_setup, &scope, bad)
         }
     }
 }
 
-/// What is said where the script is at its end, and this was read.
-pub(crate) fn wrong_end(alloc: Global, reader: &Reader, head: u64) -> Advice {
+/// Checks that a script may end, where this was read.
+pub(crate) fn check_end(alloc: Global, reader: &Reader, head: u64) -> Checked {
     match reader {
-        Reader::Start { .. } => said(
+        Reader::Start { .. } => Err(Wrong::said(
             alloc,
             "the first line is missing: `machine SLOTS TEXT suspend` or `machine SLOTS TEXT nosuspend`",
-        ),
-        Reader::Queueing { .. } | Reader::Top { .. } => Ok(None),
+        )),
+        Reader::Queueing { .. } | Reader::Top { .. } => Ok(()),
         Reader::Filling { .. } | Reader::Reserving { .. } | Reader::Asking { .. } => {
-            unended(alloc, head)
+            Err(unended(alloc, head))
         }
     }
 }

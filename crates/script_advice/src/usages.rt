@@ -1,14 +1,6 @@
 //! What stands behind each word.
-ghost use Rattle.std.specs.Prelude.{◌≡◌};
-ghost use Rattle.script_lines.specs.TemplateFields as fields;
-
 use crate::items::Item;
-use script_lines::{
-    JOB_FIELD_WORDS, JobFieldWord, LineWord, RESERVATION_FIELD_WORDS, ReservationFieldWord,
-};
-
-/// The words of the lines that stand outside of blocks, or begin one.
-pub(crate) const HEADS: [&str; 5] = ["queue", "template", "rtemplate", "setup", "client"];
+use script_lines::{JobFieldWord, LineWord, ReservationFieldWord};
 
 /// What stands behind the word of the machine line.
 pub(crate) const MACHINE: &[Item] = &[Item::Slots, Item::ShortText, Item::Suspend];
@@ -19,38 +11,79 @@ pub(crate) const QUEUE: &[Item] = &[Item::ShortText, Item::Number];
 /// What stands behind the word that begins a template.
 pub(crate) const TEMPLATE: &[Item] = &[Item::TemplateName];
 
+// What stands behind the words of lines of blocks.
+const NOTHING: &[Item] = &[];
+
+const NEW_SESSION: &[Item] = &[Item::Name, Item::MaybeText];
+
+const OPEN_SESSION: &[Item] = &[Item::Name, Item::Text];
+
+const SESSION_NAME: &[Item] = &[Item::Text];
+
+const NEW_MONITOR: &[Item] = &[Item::Name];
+
+const NEW_JOB: &[Item] = &[Item::Name, Item::Session, Item::Template, Item::Reserved];
+
+const NEW_ARRAY: &[Item] = &[
+    Item::Name,
+    Item::Session,
+    Item::Template,
+    Item::Number,
+    Item::Number,
+    Item::Number,
+    Item::Bound,
+    Item::Reserved,
+];
+
+const NEW_RESERVATION: &[Item] = &[Item::Name, Item::Session, Item::ReservationTemplate];
+
+const SESSION: &[Item] = &[Item::Session];
+
+const FILTERED: &[Item] = &[Item::Session, Item::Filters];
+
+const JOB: &[Item] = &[Item::Session, Item::Job];
+
+const ARRAY: &[Item] = &[Item::Session, Item::Array];
+
+const RESERVATION: &[Item] = &[Item::Session, Item::Reservation];
+
+const WAIT: &[Item] = &[Item::Session, Item::Timeout, Item::Jobs];
+
+const MOMENT: &[Item] = &[Item::Moment];
+
+const REPORT: &[Item] = &[Item::Job];
+
+const EXIT: &[Item] = &[Item::Job, Item::Byte];
+
+const SIGNALLED: &[Item] = &[Item::Job, Item::Kind];
+
 /// What stands behind the word of a line.
 pub(crate) fn items_of(word: LineWord) -> &'static [Item] {
     match word {
-        LineWord::CreateJobs | LineWord::CreateReservations => &[Item::Name, Item::MaybeText],
-        LineWord::OpenJobs | LineWord::OpenReservations => &[Item::Name, Item::Text],
-        LineWord::DestroyJobs | LineWord::DestroyReservations => &[Item::Text],
-        LineWord::NamesJobs | LineWord::NamesReservations => &[],
-        LineWord::Monitor => &[Item::Name],
-        LineWord::Run => &[Item::Name, Item::Session, Item::Template, Item::Reserved],
-        LineWord::Bulk => &[
-            Item::Name,
-            Item::Session,
-            Item::Template,
-            Item::Number,
-            Item::Number,
-            Item::Number,
-            Item::Bound,
-            Item::Reserved,
-        ],
-        LineWord::Jobs | LineWord::AllJobs => &[Item::Session, Item::Filters],
+        LineWord::CreateJobs | LineWord::CreateReservations => NEW_SESSION,
+        LineWord::OpenJobs | LineWord::OpenReservations => OPEN_SESSION,
+        LineWord::DestroyJobs | LineWord::DestroyReservations => SESSION_NAME,
+        LineWord::NamesJobs
+        | LineWord::NamesReservations
+        | LineWord::Register
+        | LineWord::Launch
+        | LineWord::Signal => NOTHING,
+        LineWord::Monitor => NEW_MONITOR,
+        LineWord::Run => NEW_JOB,
+        LineWord::Bulk => NEW_ARRAY,
+        LineWord::Jobs | LineWord::AllJobs => FILTERED,
         LineWord::Close
         | LineWord::Reservations
         | LineWord::AllReservations
         | LineWord::Queues
-        | LineWord::Machines => &[Item::Session],
+        | LineWord::Machines => SESSION,
         LineWord::Array
         | LineWord::SuspendArray
         | LineWord::ResumeArray
         | LineWord::HoldArray
         | LineWord::ReleaseArray
         | LineWord::TerminateArray
-        | LineWord::ReapArray => &[Item::Session, Item::Array],
+        | LineWord::ReapArray => ARRAY,
         LineWord::Suspend
         | LineWord::Resume
         | LineWord::Hold
@@ -58,17 +91,14 @@ pub(crate) fn items_of(word: LineWord) -> &'static [Item] {
         | LineWord::Terminate
         | LineWord::Reap
         | LineWord::State
-        | LineWord::Info => &[Item::Session, Item::Job],
-        LineWord::WaitStarted | LineWord::WaitTerminated => {
-            &[Item::Session, Item::Timeout, Item::Jobs]
-        }
-        LineWord::Reserve => &[Item::Name, Item::Session, Item::ReservationTemplate],
-        LineWord::Reservation | LineWord::Cancel => &[Item::Session, Item::Reservation],
-        LineWord::Register | LineWord::Launch | LineWord::Signal => &[],
-        LineWord::At => &[Item::Moment],
-        LineWord::Started | LineWord::StartFailed | LineWord::ExitUnknown => &[Item::Job],
-        LineWord::Exit | LineWord::ExitSignal => &[Item::Job, Item::Byte],
-        LineWord::SignalDone | LineWord::SignalFailed => &[Item::Job, Item::Kind],
+        | LineWord::Info => JOB,
+        LineWord::WaitStarted | LineWord::WaitTerminated => WAIT,
+        LineWord::Reserve => NEW_RESERVATION,
+        LineWord::Reservation | LineWord::Cancel => RESERVATION,
+        LineWord::At => MOMENT,
+        LineWord::Started | LineWord::StartFailed | LineWord::ExitUnknown => REPORT,
+        LineWord::Exit | LineWord::ExitSignal => EXIT,
+        LineWord::SignalDone | LineWord::SignalFailed => SIGNALLED,
     }
 }
 
@@ -94,41 +124,6 @@ pub(crate) fn is_wait(word: LineWord) -> bool {
     matches!(word, LineWord::WaitStarted | LineWord::WaitTerminated)
 }
 
-/// How the word of a line of a job's template is spelled.
-pub(crate) fn spell_job_field(word: JobFieldWord) -> &'static str
-    ensures { result.now ≡ fields.job_word word }
-{
-    match word {
-        JobFieldWord::Command => "command",
-        JobFieldWord::Arg => "arg",
-        JobFieldWord::Hold => "hold",
-        JobFieldWord::Rerunnable => "rerunnable",
-        JobFieldWord::Env => "env",
-        JobFieldWord::Directory => "directory",
-        JobFieldWord::Name => "name",
-        JobFieldWord::Input => "input",
-        JobFieldWord::Output => "output",
-        JobFieldWord::Error => "error",
-        JobFieldWord::Join => "join",
-        JobFieldWord::Queue => "queue",
-        JobFieldWord::MinSlots => "minslots",
-        JobFieldWord::MaxSlots => "maxslots",
-        JobFieldWord::Priority => "priority",
-        JobFieldWord::Start => "start",
-        JobFieldWord::Deadline => "deadline",
-        JobFieldWord::Limit => "limit",
-        JobFieldWord::Other => "other",
-    }
-}
-
-/// The word of a line of a job's template that is spelled so.
-pub(crate) fn job_field_of(word: &str) -> Option<JobFieldWord> {
-    JOB_FIELD_WORDS
-        .iter()
-        .copied()
-        .find(|field| spell_job_field(*field) == word)
-}
-
 /// What stands behind the word of a line of a job's template.
 pub(crate) fn items_of_job_field(word: JobFieldWord) -> &'static [Item] {
     match word {
@@ -148,29 +143,6 @@ pub(crate) fn items_of_job_field(word: JobFieldWord) -> &'static [Item] {
         JobFieldWord::Limit => &[Item::Limit, Item::LongNumber],
         JobFieldWord::Other => &[Item::Attribute],
     }
-}
-
-/// How the word of a line of a reservation's template is spelled.
-pub(crate) fn spell_reservation_field(word: ReservationFieldWord) -> &'static str
-    ensures { result.now ≡ fields.reservation_word word }
-{
-    match word {
-        ReservationFieldWord::Name => "name",
-        ReservationFieldWord::Start => "start",
-        ReservationFieldWord::End => "end",
-        ReservationFieldWord::Duration => "duration",
-        ReservationFieldWord::MinSlots => "minslots",
-        ReservationFieldWord::MaxSlots => "maxslots",
-        ReservationFieldWord::Other => "other",
-    }
-}
-
-/// The word of a line of a reservation's template that is spelled so.
-pub(crate) fn reservation_field_of(word: &str) -> Option<ReservationFieldWord> {
-    RESERVATION_FIELD_WORDS
-        .iter()
-        .copied()
-        .find(|field| spell_reservation_field(*field) == word)
 }
 
 /// What stands behind the word of a line of a reservation's template.

@@ -1,8 +1,8 @@
-//! What is wrong with a text, a number or another value.
+//! Texts, numbers and other values.
 ghost use Rattle.std.specs.Prelude.{◌<◌, ◌≤◌, length, IfOk, IfSome};
 
 use crate::items::Item;
-use crate::showing::{Advice, shown};
+use crate::showing::{Checked, Wrong, wrong_unless};
 use std::alloc::Global;
 use text_codec::{Cursor, Form, attribute_of, integer_of, is_capitals, kind_of, number_of};
 use text_dates::Said;
@@ -28,9 +28,11 @@ fn escape_len(bytes: &[u8]) -> Option<usize>
     }
 }
 
-/// What the bytes behind an opening quote are.
-#[derive(Clone, Copy, Debug, PartialEq, Eq)]
+/// What a word is that has to be a text.
+#[derive(Clone, Copy)]
 enum Quoting {
+    /// There is no opening quote.
+    Bare,
     /// A text with its closing quote, at the end.
     Whole,
     /// More stands behind the closing quote.
@@ -61,7 +63,7 @@ fn first_len(bytes: &[u8]) -> Result<usize, Quoting>
     }
 }
 
-/// What the bytes behind an opening quote are.
+/// What a text is, by the bytes behind its opening quote.
 fn inside(bytes: &[u8]) -> Quoting {
     let mut rest = bytes;
     loop {
@@ -72,70 +74,86 @@ fn inside(bytes: &[u8]) -> Quoting {
     }
 }
 
-/// What is wrong with a text.
-pub(crate) fn wrong_text(alloc: Global, word: &str) -> Advice {
-    let written = shown(alloc, word)?;
-    let Some((b'"', behind)) = word.as_bytes().split_first() else {
-        return Ok(Some(format!(in alloc;
-            "{written} has no quotes: a text stands between \" and \""
-        )?));
-    };
-    match inside(behind) {
-        Quoting::Whole => Ok(None),
-        Quoting::Behind => Ok(Some(format!(in alloc;
-            "more stands behind the closing quote in {written}"
-        )?)),
-        Quoting::Open => Ok(Some(format!(in alloc; "the text {written} has no closing quote")?)),
-        Quoting::BadEscape => Ok(Some(format!(in alloc;
-            "a backslash in {written} begins no escape: there are \\\", \\\\, and \\x with two digits of a control character, as \\x0a"
-        )?)),
-        Quoting::Control => Ok(Some(format!(in alloc;
-            "a control character stands in {written}: it is written as \\x and two digits, as \\x0a"
-        )?)),
+/// What a word is that has to be a text.
+fn quoting_of(word: &str) -> Quoting {
+    match word.as_bytes().split_first() {
+        Some((b'"', behind)) => inside(behind),
+        _ => Quoting::Bare,
     }
 }
 
-/// What is wrong with the name of a machine or of a queue.
-fn wrong_short_text(alloc: Global, word: &str) -> Advice {
-    let wrong = wrong_text(alloc, word)?;
-    if wrong.is_some() {
-        return Ok(wrong);
+/// Checks a text.
+pub(crate) fn check_text(alloc: Global, word: &str) -> Checked {
+    match quoting_of(word) {
+        Quoting::Whole => Ok(()),
+        Quoting::Bare => Err(Wrong::of(
+            alloc,
+            word,
+            " has no quotes: a text stands between \" and \"",
+        )),
+        Quoting::Behind => Err(Wrong::around(
+            alloc,
+            "more stands behind the closing quote in ",
+            word,
+            "",
+        )),
+        Quoting::Open => Err(Wrong::around(alloc, "the text ", word, " has no closing quote")),
+        Quoting::BadEscape => Err(Wrong::around(
+            alloc,
+            "a backslash in ",
+            word,
+            " begins no escape: there are \\\", \\\\, and \\x with two digits of a control character, as \\x0a",
+        )),
+        Quoting::Control => Err(Wrong::around(
+            alloc,
+            "a control character stands in ",
+            word,
+            ": it is written as \\x and two digits, as \\x0a",
+        )),
     }
+}
+
+/// Whether a word is a text of 1 to 255 bytes.
+fn is_short_text(alloc: Global, word: &str) -> bool {
     let mut cursor = Cursor::new(alloc, word.as_bytes());
     match cursor.text() {
-        Ok(text) if (1..=255).contains(&text.as_str().len()) => Ok(None),
-        _ => Ok(Some(format!(in alloc; "this name has to have 1 to 255 bytes")?)),
+        Ok(text) => (1..=255).contains(&text.as_str().len()),
+        Err(_) => false,
     }
 }
 
-/// What is wrong with a number in a range.
-fn wrong_number(alloc: Global, word: &str, least: u64, greatest: u64) -> Advice {
-    let written = shown(alloc, word)?;
-    match number_of(word.as_bytes()) {
-        Some(number) if number < least || number > greatest => Ok(Some(format!(in alloc;
-            "{written} is not from {least} to {greatest}"
-        )?)),
-        Some(_) => Ok(None),
-        None => Ok(Some(format!(in alloc;
-            "{written} is no number: digits alone, and no zero before others, up to {greatest}"
-        )?)),
-    }
-}
-
-/// What is said of a value that is none of what is wanted.
-fn none_of(alloc: Global, word: &str, wanted: &str) -> Advice {
-    let written = shown(alloc, word)?;
-    Ok(Some(format!(in alloc; "{written} is no {wanted}")?))
-}
-
-/// What is wrong with a value, where it has to pass a test.
-fn wrong_unless(alloc: Global, word: &str, passes: bool, wanted: &str) -> Advice {
-    if passes {
-        Ok(None)
+/// Checks the name of a machine or of a queue.
+fn check_short_text(alloc: Global, word: &str) -> Checked {
+    check_text(alloc, word)?;
+    if is_short_text(alloc, word) {
+        Ok(())
     } else {
-        none_of(alloc, word, wanted)
+        Err(Wrong::said(alloc, "this name has to have 1 to 255 bytes"))
     }
 }
+
+/// Checks a number in a range.
+fn check_number(alloc: Global, word: &str, least: u64, greatest: u64) -> Checked {
+    match number_of(word.as_bytes()) {
+        Some(number) if number < least || number > greatest => Err(Wrong::of_written(
+            alloc,
+            word,
+            format!(in alloc; " is not from {least} to {greatest}"),
+        )),
+        Some(_) => Ok(()),
+        None => Err(Wrong::of_written(
+            alloc,
+            word,
+            format!(in alloc;
+                " is no number: digits alone, and no zero before others, up to {greatest}"
+            ),
+        )),
+    }
+}
+
+/// What is said of a word that is no moment.
+const NO_MOMENT: &str =
+    " is no moment: @ and a number of seconds, or a date as 2000-02-29T12:00:00Z";
 
 /// Whether a word is a moment.
 fn is_moment(alloc: Global, word: &str) -> bool {
@@ -146,62 +164,50 @@ fn is_moment(alloc: Global, word: &str) -> bool {
     }
 }
 
-/// Whether a word is a number of 32 bits with a sign.
-fn is_integer(word: &str) -> bool {
-    integer_of(word.as_bytes()).is_some()
-}
-
-/// What is wrong with a value that names nothing.
-pub(crate) fn wrong_value(alloc: Global, item: Item, word: &str) -> Advice {
+/// Whether a word is what an item has to be that is neither a text nor a number nor a name, and what is said of it if not.
+fn test_of(alloc: Global, item: Item, word: &str) -> (bool, &'static str) {
     let bytes = word.as_bytes();
     match item {
-        Item::Text | Item::MaybeText => wrong_text(alloc, word),
-        Item::ShortText => wrong_short_text(alloc, word),
-        Item::Slots => wrong_number(alloc, word, 1, 65_535),
-        Item::Byte => wrong_number(alloc, word, 0, 255),
-        Item::Number => wrong_number(alloc, word, 0, 4_294_967_295),
-        Item::LongNumber => wrong_number(alloc, word, 0, u64::MAX),
-        Item::Timeout if word == "infinite" => Ok(None),
-        Item::Timeout => wrong_unless(
-            alloc,
-            word,
-            number_of(bytes).is_some(),
-            "timeout: a number of seconds, or `infinite`",
+        Item::Timeout => (
+            word == "infinite" || number_of(bytes).is_some(),
+            " is no timeout: a number of seconds, or `infinite`",
         ),
-        Item::Bound if word == "-" => Ok(None),
-        Item::Bound => wrong_number(alloc, word, 0, 4_294_967_295),
-        Item::Beginning if word == "now" => Ok(None),
-        Item::Moment | Item::Beginning => wrong_unless(
-            alloc,
-            word,
-            is_moment(alloc, word),
-            "moment: @ and a number of seconds, or a date as 2000-02-29T12:00:00Z",
-        ),
-        Item::Integer => wrong_unless(alloc, word, is_integer(word), "integer of 32 bits"),
-        Item::Kind => wrong_unless(
-            alloc,
-            word,
+        Item::Moment => (is_moment(alloc, word), NO_MOMENT),
+        Item::Beginning => (word == "now" || is_moment(alloc, word), NO_MOMENT),
+        Item::Integer => (integer_of(bytes).is_some(), " is no integer of 32 bits"),
+        Item::Kind => (
             kind_of(bytes).is_some(),
-            "signal: it is stop, cont or kill",
+            " is no signal: it is stop, cont or kill",
         ),
-        Item::Limit => wrong_unless(
-            alloc,
-            word,
+        Item::Limit => (
             is_capitals(bytes),
-            "word of capitals, as WALLCLOCK_TIME",
+            " is no word of capitals, as WALLCLOCK_TIME",
         ),
-        Item::Attribute => wrong_unless(
-            alloc,
-            word,
+        Item::Attribute => (
             attribute_of(bytes).is_some(),
-            "attribute that a template has",
+            " is no attribute that a template has",
         ),
-        Item::Suspend => wrong_unless(
-            alloc,
-            word,
+        Item::Suspend => (
             word == "suspend" || word == "nosuspend",
-            "end of a machine line: it is suspend or nosuspend",
+            " is no end of a machine line: it is suspend or nosuspend",
         ),
-        _ => Ok(None),
+        _ => (true, ""),
+    }
+}
+
+/// Checks a value that names nothing.
+pub(crate) fn check_value(alloc: Global, item: Item, word: &str) -> Checked {
+    match item {
+        Item::Text | Item::MaybeText => check_text(alloc, word),
+        Item::ShortText => check_short_text(alloc, word),
+        Item::Slots => check_number(alloc, word, 1, 65_535),
+        Item::Byte => check_number(alloc, word, 0, 255),
+        Item::Bound if word == "-" => Ok(()),
+        Item::Number | Item::Bound => check_number(alloc, word, 0, 4_294_967_295),
+        Item::LongNumber => check_number(alloc, word, 0, u64::MAX),
+        _ => {
+            let (passes, otherwise) = test_of(alloc, item, word);
+            wrong_unless(alloc, word, passes, otherwise)
+        }
     }
 }

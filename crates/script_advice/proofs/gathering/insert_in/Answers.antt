@@ -9,9 +9,10 @@ loop-i-init c = fills_at_first c.args.names.now (names_in c.args.sort c.args.scr
 pub loop-i-preserved : goal.loop-i-preserved
 loop-i-preserved c =
     let small : c.loop-i.i < length c.args.block.now = omega arith in
-    fills_more (names_at c.args.sort c.args.script.now) c.loop-i.i c.args.block.now c.in_ok-line.line c.args.names.now c.loop-i.names c.insert_at.new.names
-    (names_in c.args.sort c.args.script.now c.args.block.now) small (first_left c.loop-i.i c.args.block.now c.in_ok-line.line c.in_ok-line.ensures) c.loop-i.invariant
-    c.in_ok-insert_at.ensures
+    let put = c.in_ok-insert_of.ensures in
+    fills_more (names_at c.args.sort c.args.script.now) c.loop-i.i c.args.block.now put.0 c.args.names.now c.loop-i.names c.insert_of.new.names
+    (names_in c.args.sort c.args.script.now c.args.block.now) small (first_left c.loop-i.i c.args.block.now put.0 put.1) c.loop-i.invariant
+    put.2
 
 pub returns : goal.returns
 returns c =
