@@ -17,7 +17,7 @@ use Rattle.drmaa_model.specs.declared.replies.Reply.TheVariants as reply
 use Rattle.drmaa_model.specs.Effects.{gives}
 use Rattle.drmaa_model.specs.History.{IsLegal, replay}
 use Rattle.drmaa_model.specs.HistoryLaws.{legal-last, legal-prefix}
-use Rattle.drmaa_model.specs.KeptCalls.{kept}
+use Rattle.drmaa_model.specs.RecordedCalls.{recorded}
 use Rattle.drmaa_model.specs.LegalRunLaws.{launch-is-new}
 use Rattle.drmaa_model.specs.Launching.{launch_of}
 use Rattle.drmaa_model.specs.Runs.{hands_out, is_launched as was_handed_out}
@@ -41,9 +41,9 @@ use Rattle.attendant.specs.Steps.{entry_of, Takes, Answers, IsLegalReply, Report
 use Rattle.attendant.proofs.Entries.{or_cases}
 
 -- what is kept of a call is read as the call
-pub kept-duty : (c : Call) → duty_of (kept c) ≡ duty_of c
-kept-duty call.Register = refl
-kept-duty _ = refl
+pub recorded-duty : (c : Call) → duty_of (recorded c) ≡ duty_of c
+recorded-duty call.Register = refl
+recorded-duty _ = refl
 
 -- ---- launches
 
@@ -117,7 +117,7 @@ answers config old new at c r m same own legal = record {
   legal = legal-reply config (seen_of old ++ m.between) (number_of old) at c r (mine_of old) (subst (IsLegal config) m.seen legal)
       (own-before old new (entry_by (number_of old) at c r) m (sym same) own ∙ ap (calls_of (seen_of old ++ m.between)) same);
   mine_is = ap acts_of m.mine ∙ map-append act_of (mine_of old) (entry_by (number_of old) at c r ∷ [])
-      ∙ ap (λ (d : Duty). own_acts old ++ entry_of (number_of old) d r ∷ []) (kept-duty c);
+      ∙ ap (λ (d : Duty). own_acts old ++ entry_of (number_of old) d r ∷ []) (recorded-duty c);
 }
 
 -- ---- desks

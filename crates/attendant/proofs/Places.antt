@@ -61,8 +61,8 @@ all_append P (x ∷ xs) ys a b = (a.0, all_append P xs ys a.1 b)
 
 -- ---- the order in hand
 
-run_turned : (job : JobId) (attempt : ℕ) (other : JobId) (n : ℕ) → is_run job attempt other n ≡ true → is_run other n job attempt ≡ true
-run_turned job attempt other n is = (let same = run_same job attempt other n is in
+run_back : (job : JobId) (attempt : ℕ) (other : JobId) (n : ℕ) → is_run job attempt other n ≡ true → is_run other n job attempt ≡ true
+run_back job attempt other n is = (let same = run_same job attempt other n is in
     subst (λ (j : JobId). is_run other n j attempt ≡ true) (sym same.0) (subst (λ (a : ℕ). is_run other n other a ≡ true) (sym same.1) (run_refl other n)))
 
 order_same : {T : Type 0} (at now : ℕ → Option (Held T)) (hand : Option Hand) → ((k : ℕ) (h : Held T) → at k ≡ Some h → now k ≡ None → ⊥) → OrderAfter [] at now hand hand
@@ -106,11 +106,11 @@ order_ended told faults n key job attempt x r old new (Some h) hand2 l is =
     (elim (is_run h.signal.job h.signal.attempt job attempt) as (λ b. is_run h.signal.job h.signal.attempt job attempt ≡ b → OrderAfter (entry_of n (end_call job attempt x) r ∷ []) (get old) (get new) (Some h) hand2) [
       | true ↦ λ same. inr (record {
         gone = is ∙ ap (λ (b : Bool). cond (b && true) None (Some h)) same;
-        why = inl (ap (λ (b : Bool). b || false) (end_is job attempt x h.signal.job h.signal.attempt ∙ run_turned h.signal.job h.signal.attempt job attempt same));
+        why = inl (ap (λ (b : Bool). b || false) (end_is job attempt x h.signal.job h.signal.attempt ∙ run_back h.signal.job h.signal.attempt job attempt same));
       })
       | false ↦ λ apart. inl (record {
         stays = is ∙ ap (λ (b : Bool). cond (b && true) None (Some h)) apart;
-        goes_on = or-false _ ∙ end_is job attempt x h.signal.job h.signal.attempt ∙ false_from_ne_true _ (λ t. both_ways _ apart (run_turned job attempt h.signal.job h.signal.attempt t));
+        goes_on = or-false _ ∙ end_is job attempt x h.signal.job h.signal.attempt ∙ false_from_ne_true _ (λ t. both_ways _ apart (run_back job attempt h.signal.job h.signal.attempt t));
         attended = λ no_answer left. both_ways _ apart (left_run told faults key job attempt x old new h l left);
       })
     ]) refl
@@ -193,8 +193,8 @@ left_early a0 a1 a2 h gone left = record { key = left.key; held = left.held; the
 run_as : {T : Type 0} (h : Hand) (i held : Held T) → SameRun i held → is_run h.signal.job h.signal.attempt i.job i.attempt ≡ true → is_run h.signal.job h.signal.attempt held.job held.attempt ≡ true
 run_as h i held same is = subst (λ (j : JobId). is_run h.signal.job h.signal.attempt j held.attempt ≡ true) same.of_job (subst (λ (a : ℕ). is_run h.signal.job h.signal.attempt i.job a ≡ true) same.of_attempt is)
 
-same_turned : {T : Type 0} (i h : Held T) → SameRun i h → SameRun h i
-same_turned i h s = record { of_job = sym s.of_job; of_attempt = sym s.of_attempt }
+same_back : {T : Type 0} (i h : Held T) → SameRun i h → SameRun h i
+same_back i h s = record { of_job = sym s.of_job; of_attempt = sym s.of_attempt }
 
 left_late : {T : Type 0} (a0 a1 a2 : ℕ → Option (Held T)) (h : Hand) → ((k : ℕ) → a0 k ≡ None → a1 k ≡ None) → ((k : ℕ) (g i : Held T) → a0 k ≡ Some g → a1 k ≡ Some i → SameRun i g) → HasLeft a1 a2 h → HasLeft a0 a2 h
 left_late {T = T} a0 a1 a2 h gone kept left = (elim (a0 left.key) as (λ o. a0 left.key ≡ o → HasLeft a0 a2 h) [
@@ -205,7 +205,7 @@ left_late {T = T} a0 a1 a2 h gone kept left = (elim (a0 left.key) as (λ o. a0 l
 left_once : {T : Type 0} (a0 a1 a2 : ℕ → Option (Held T)) (h : Hand) → ((k : ℕ) (g i : Held T) → a0 k ≡ Some g → a1 k ≡ Some i → SameRun i g) → (HasLeft a0 a1 h → ⊥) → (HasLeft a1 a2 h → ⊥) → HasLeft a0 a2 h → ⊥
 left_once {T = T} a0 a1 a2 h kept first second left = (elim (a1 left.key) as (λ o. a1 left.key ≡ o → ⊥) [
   | None ↦ λ none. first (record { key = left.key; held = left.held; there = left.there; left = none; same = left.same })
-  | Some i ↦ λ some. second (record { key = left.key; held = i; there = some; left = left.left; same = run_as h left.held i (same_turned i left.held (kept left.key left.held i left.there some)) left.same })
+  | Some i ↦ λ some. second (record { key = left.key; held = i; there = some; left = left.left; same = run_as h left.held i (same_back i left.held (kept left.key left.held i left.there some)) left.same })
 ]) refl
 
 order_next : {T : Type 0} (a0 a1 a2 : ℕ → Option (Held T)) (first second : List Act) (h : Hand) (h2 : Option Hand) → ((k : ℕ) → a0 k ≡ None → a1 k ≡ None) → ((k : ℕ) (g i : Held T) → a0 k ≡ Some g → a1 k ≡ Some i → SameRun i g)

@@ -18,6 +18,7 @@ use Rattle.drmaa_model.specs.declared.faults.NoEntry.TheVariants as no
 use Rattle.drmaa_model.specs.declared.replies.Reply.{Reply}
 use Rattle.drmaa_model.specs.declared.replies.Reply.TheVariants as reply
 use Rattle.drmaa_model.specs.declared.replies.Launch.{Launch}
+use Rattle.drmaa_model.specs.Faults.{refusal_for}
 use Rattle.call_history.specs.Clients.{number_of}
 use Rattle.drmaa_types.specs.declared.identifiers.JobId.{JobId}
 use Rattle.attendant.specs.declared.reaper.Held.{Held}
@@ -46,10 +47,7 @@ pub record Answers (number : ℕ) (asked : Call) (reply : Reply) (mine mine_afte
 
 -- why a call that made no entry is refused
 abbrev pub MayFail : NoEntry → Refusal → Type 0
-MayFail no.OutOfMemory why = why ≡ OutOfMemory
-MayFail no.NotYet why = why ≡ OutOfMemory
-MayFail no.Nothing why = why ≡ OutOfMemory
-MayFail (no.Journal size) why = why ≡ OutOfResource (limit.Journal size)
+MayFail fault why = why ≡ refusal_for fault
 
 -- a launch was taken, of a new run
 pub record Takes (number : ℕ) (mine mine_after : List Act) (launch : Launch) : Type 0 where

@@ -17,7 +17,7 @@ use crate::{Held, Reaper};
 use call_history::{Call, Desk, NoEntry, Reply};
 use child_spawner::Spawner;
 use drmaa_model::Launch;
-use drmaa_types::{Clock, Failed, JobId, Limit, Refusal};
+use drmaa_types::{Clock, Failed, JobId, Refusal};
 use slab::Slab;
 use std::sync::Wait;
 
@@ -30,16 +30,6 @@ pub enum Launched {
     Began(JobId),
     /// The child of this job could not be started.
     StartFailed(JobId),
-}
-
-/// Why a take made no entry, as a refusal.
-pub(crate) fn refusal_of(fault: NoEntry) -> Refusal
-    ensures { MayFail fault result }
-{
-    match fault {
-        NoEntry::Journal { size } => Refusal::OutOfResource(Limit::Journal { size }),
-        _ => Refusal::OutOfMemory,
-    }
 }
 
 fn launch_of(reply: Reply) -> Option<Launch>
@@ -70,7 +60,7 @@ fn take_launch<R: Wait, C: Clock>(rt: &R, desk: &mut Desk<C>) -> Result<Option<L
             Ok(Some(launch))
         }
         Err(NoEntry::Nothing) => Ok(None),
-        Err(fault) => Err(refusal_of(fault)),
+        Err(fault) => Err(Refusal::from(fault)),
     }
 }
 

@@ -18,7 +18,6 @@ ghost use Rattle.attendant.specs.Steps.{entry_of, MayFail};
 ghost use Rattle.attendant.specs.Rounds.{signal_report, asked_signal, asked_end, IsRefusedBy, SignalReports, Delivers, Serves, PollSteps, is_over, hand_without, EndReports, end_call, TakeSteps, PollsPlaces, LosesEnd, PollsAll, ServesHand, ServesOrder, ReapSteps, IsTaking, IsRoundRefused};
 
 use crate::asking::ask;
-use crate::launching::refusal_of;
 use crate::{Hand, Held, Reaper};
 use call_history::{Call, Desk, NoEntry, Reply};
 use child_spawner::Child;
@@ -64,7 +63,7 @@ fn take_signal<R: Wait, C: Clock>(rt: &R, desk: &mut Desk<C>) -> Result<Option<S
             Ok(Some(signal))
         }
         Err(NoEntry::Nothing) => Ok(None),
-        Err(fault) => Err(refusal_of(fault)),
+        Err(fault) => Err(Refusal::from(fault)),
     }
 }
 
@@ -136,7 +135,7 @@ fn report_signal<R: Wait, C: Clock>(
 {
     match ask(rt, desk, report_of(signal, answer)) {
         Ok(_) => Ok(()),
-        Err(fault) => Err(refusal_of(fault)),
+        Err(fault) => Err(Refusal::from(fault)),
     }
 }
 

@@ -27,7 +27,7 @@ module _ {B : Type 0} (counted : B → ℕ) (told : B → Option (List Notificat
   keeps-both a b c x y = record { begun = y.begun ∙ x.begun; places = y.places ∙ x.places; heard = λ h. y.heard (x.heard h) }
 
   pub goes-none : (shared : Named Config) (hub : Following B) (seat : Seat) → IsFree shared seat → IsNoteOf shared hub.note → GoesOn counted told shared hub seat hub seat
-  goes-none shared hub seat free note = record { still = beside-none shared seat free; note = note; kept = keeps-none hub }
+  goes-none shared hub seat free note = record { still = beside-none shared seat free; note = note; keeps = keeps-none hub }
 
   pub goes-both : (shared : Named Config) (a b c : Following B) (old mid new : Seat) → GoesOn counted told shared a old b mid → GoesOn counted told shared b mid c new → GoesOn counted told shared a old c new
-  goes-both shared a b c old mid new x y = record { still = beside-both shared old mid new x.still y.still; note = y.note; kept = keeps-both a b c x.kept y.kept }
+  goes-both shared a b c old mid new x y = record { still = beside-both shared old mid new x.still y.still; note = y.note; keeps = keeps-both a b c x.keeps y.keeps }

@@ -21,7 +21,7 @@ pub record KeepsCallbacks {B : Type 0} (counted : B → ℕ) (told : B → Optio
 -- A hub has followed what was seen: its note is of that, and it handed over all changes of it.
 pub record FollowsAll {B : Type 0} (shared : Named Config) (seen : List Entry) (hub : Following B) : Type 0 where
   pub note : IsNoteAt shared seen hub.note
-  pub kept : FollowsNote hub.ears hub.note
+  pub follows : FollowsNote hub.ears hub.note
   pub handed : hub.ears.handed ≡ changes_of shared.fixed seen
 
 -- A client, which has made no entry since, and may have seen more.
@@ -35,7 +35,7 @@ pub record IsStillBeside (shared : Named Config) (old new : Seat) : Type 0 where
 pub record GoesOn {B : Type 0} (counted : B → ℕ) (told : B → Option (List Notification)) (shared : Named Config) (old : Following B) (client : Seat) (new : Following B) (after : Seat) : Type 0 where
   pub still : IsStillBeside shared client after
   pub note : IsNoteOf shared new.note
-  pub kept : KeepsCallbacks counted told old new
+  pub keeps : KeepsCallbacks counted told old new
 
 -- The clock of a hub's client is still the same caller's, and told the moments of the client's entries, if it did before.
 pub record KeepsTime (before : List Entry) (early : Readings) (after : List Entry) (late : Readings) : Type 0 where

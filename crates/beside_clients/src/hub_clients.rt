@@ -27,16 +27,16 @@ pub fn pump_once<R: Wait, C: Clock, B: Callback>(
     rt: &R,
     shared: &SharedMachine,
     hub: &mut Hub<B>,
-    pass: &mut Seated<C>,
+    hub_seat: &mut Seated<C>,
 )
-    requires client { IsFree shared.now pass.old.client }
+    requires client { IsFree shared.now hub_seat.old.client }
     requires note { IsNoteOf shared.now hub.old.note }
     requires size { shared.now.fixed.journal < 2 ^ 64 }
-    ensures on { GoesOn B.counted B.told shared.now hub.old pass.old.client hub.new pass.new.client }
-    ensures follows { FollowsAll shared.now (seen_of pass.new.client) hub.new }
-    ensures timed { StaysTimed (mine_of pass.old.client) (C.given pass.old.clock) (mine_of pass.new.client) (C.given pass.new.clock) }
+    ensures on { GoesOn B.counted B.told shared.now hub.old hub_seat.old.client hub.new hub_seat.new.client }
+    ensures follows { FollowsAll shared.now (seen_of hub_seat.new.client) hub.new }
+    ensures timed { StaysTimed (mine_of hub_seat.old.client) (C.given hub_seat.old.clock) (mine_of hub_seat.new.client) (C.given hub_seat.new.clock) }
 {
-    hub.pump(rt, shared, &mut pass.client, &mut pass.clock);
+    hub.pump(rt, shared, &mut hub_seat.client, &mut hub_seat.clock);
 }
 
 /// Hands over what changes, until the clients are over; nothing, where no number has a place. It may go on for good.
@@ -45,14 +45,14 @@ pub fn follow<R: Wait + Pause, C: Clock, B: Callback>(
     shared: &SharedMachine,
     bell: &Bell,
     hub: &mut Hub<B>,
-    pass: &mut Seated<C>,
+    hub_seat: &mut Seated<C>,
     done: &Done,
 )
-    requires client { IsFree shared.now pass.old.client }
+    requires client { IsFree shared.now hub_seat.old.client }
     requires note { IsNoteOf shared.now hub.old.note }
     requires size { shared.now.fixed.journal < 2 ^ 64 }
-    ensures on { GoesOn B.counted B.told shared.now hub.old pass.old.client hub.new pass.new.client }
-    ensures timed { KeepsTime (mine_of pass.old.client) (C.given pass.old.clock) (mine_of pass.new.client) (C.given pass.new.clock) }
+    ensures on { GoesOn B.counted B.told shared.now hub.old hub_seat.old.client hub.new hub_seat.new.client }
+    ensures timed { KeepsTime (mine_of hub_seat.old.client) (C.given hub_seat.old.clock) (mine_of hub_seat.new.client) (C.given hub_seat.new.clock) }
 {
     if !hub.listens() {
         return;
@@ -60,7 +60,7 @@ pub fn follow<R: Wait + Pause, C: Clock, B: Callback>(
     let mut pace = Pace::new();
     for _ in rt.forever() {
         let strokes = bell.strokes(rt, WaitKind::Started);
-        pump_once(rt, shared, hub, pass);
+        pump_once(rt, shared, hub, hub_seat);
         if done.clients_over(rt) {
             return;
         }
@@ -70,17 +70,17 @@ pub fn follow<R: Wait + Pause, C: Clock, B: Callback>(
 }
 
 /// Lets the hub's client know what launcher and reaper have seen.
-fn tell<C>(shared: &SharedMachine, pair: &mut Pair<C>, pass: &mut Seated<C>)
+fn tell<C>(shared: &SharedMachine, pair: &mut Pair<C>, hub_seat: &mut Seated<C>)
     requires pair { ArePlaced shared.now pair.old }
-    requires pass { IsFree shared.now pass.old.client }
+    requires hub_seat { IsFree shared.now hub_seat.old.client }
     ensures pair { pair.new ≡ pair.old }
-    ensures clock { pass.new.clock ≡ pass.old.clock }
-    ensures still { IsStillBeside shared.now pass.old.client pass.new.client }
-    ensures launcher { BeginsWith (seen_of pass.new.client) (seen_of pair.old.launcher) }
-    ensures reaping { BeginsWith (seen_of pass.new.client) (seen_of pair.old.reaping) }
+    ensures clock { hub_seat.new.clock ≡ hub_seat.old.clock }
+    ensures still { IsStillBeside shared.now hub_seat.old.client hub_seat.new.client }
+    ensures launcher { BeginsWith (seen_of hub_seat.new.client) (seen_of pair.old.launcher) }
+    ensures reaping { BeginsWith (seen_of hub_seat.new.client) (seen_of pair.old.reaping) }
 {
-    shared.hand_over(&mut pair.launcher, &mut pass.client);
-    shared.hand_over(&mut pair.reaping, &mut pass.client);
+    shared.hand_over(&mut pair.launcher, &mut hub_seat.client);
+    shared.hand_over(&mut pair.reaping, &mut hub_seat.client);
 }
 
 /// Hands over all that has changed, after all that launcher and reaper have seen.
@@ -89,19 +89,19 @@ pub fn pump_last<R: Wait, C: Clock, B: Callback>(
     shared: &SharedMachine,
     hub: &mut Hub<B>,
     pair: &mut Pair<C>,
-    pass: &mut Seated<C>,
+    hub_seat: &mut Seated<C>,
 )
     requires pair { ArePlaced shared.now pair.old }
-    requires client { IsFree shared.now pass.old.client }
+    requires client { IsFree shared.now hub_seat.old.client }
     requires note { IsNoteOf shared.now hub.old.note }
     requires size { shared.now.fixed.journal < 2 ^ 64 }
     ensures pair { pair.new ≡ pair.old }
-    ensures on { GoesOn B.counted B.told shared.now hub.old pass.old.client hub.new pass.new.client }
-    ensures follows { FollowsAll shared.now (seen_of pass.new.client) hub.new }
-    ensures launcher { BeginsWith (seen_of pass.new.client) (seen_of pair.old.launcher) }
-    ensures reaping { BeginsWith (seen_of pass.new.client) (seen_of pair.old.reaping) }
-    ensures timed { StaysTimed (mine_of pass.old.client) (C.given pass.old.clock) (mine_of pass.new.client) (C.given pass.new.clock) }
+    ensures on { GoesOn B.counted B.told shared.now hub.old hub_seat.old.client hub.new hub_seat.new.client }
+    ensures follows { FollowsAll shared.now (seen_of hub_seat.new.client) hub.new }
+    ensures launcher { BeginsWith (seen_of hub_seat.new.client) (seen_of pair.old.launcher) }
+    ensures reaping { BeginsWith (seen_of hub_seat.new.client) (seen_of pair.old.reaping) }
+    ensures timed { StaysTimed (mine_of hub_seat.old.client) (C.given hub_seat.old.clock) (mine_of hub_seat.new.client) (C.given hub_seat.new.clock) }
 {
-    tell(shared, pair, pass);
-    pump_once(rt, shared, hub, pass);
+    tell(shared, pair, hub_seat);
+    pump_once(rt, shared, hub, hub_seat);
 }

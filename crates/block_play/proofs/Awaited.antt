@@ -38,7 +38,8 @@ use Rattle.call_history.specs.Calls.{entry_by}
 use Rattle.call_history.specs.Clients.{Seat, mine_of, number_of as number_of_client, Makes}
 use Rattle.call_history.specs.Clocks.{Dial, Gives}
 use Rattle.call_history.specs.Refused.{refusal_of}
-use Rattle.wait_calls.specs.Waited.{Climb, IsWaited, Reaches, Refuses, readings_of}
+use Rattle.wait_calls.proofs.Waiting.{climbed}
+use Rattle.wait_calls.specs.Waited.{IsWaited, Reaches, Refuses, readings_of}
 use Rattle.wait_calls.specs.Waited.Refuses.{by_entry, by_fault}
 use Rattle.block_play.specs.declared.stops.Stopped.{Stopped}
 use Rattle.block_play.specs.declared.stops.Stopped.TheVariants as stopped
@@ -62,10 +63,6 @@ wait-reads : (kind : WaitKind) (session : Ref) (timeout : Timeout) (jobs : List 
     → Gives early (begun ∷ (looks ++ at ∷ [])) late → Gives early (taken_by (wait_line kind session timeout jobs) begun looks at) late
 wait-reads reached.Started session timeout jobs begun at looks early late gave = gave
 wait-reads reached.Terminated session timeout jobs begun at looks early late gave = gave
-
-climbed : (from to : ℕ) (rs : List ℕ) → Climb from rs to → from ≤ to
-climbed from to [] c = c
-climbed from to (r ∷ rs) (first, rest) = let c = climbed r to rs rest in omega (arith, first, c)
 
 -- a fault stops a client
 fault-stops : (f : NoEntry) (why : Refusal) → refusal_of f ≡ Some why → stop_of why ≡ None → ⊥
@@ -155,14 +152,14 @@ module _ (s : Script) (names : List (List ℕ × Given)) (kind : WaitKind) (sess
         → IsWaited config early old (λ begun. call.Wait (record { 0 = n }) js kind begun timeout) (Reaches config old job new) late new
         → PlayedLine s names (wait_line kind session timeout jobs) before (mine_of old) (mine_of new) names late.least
     reached-played config early late old new before job first w =
-        entry-played before old new w.begun w.last late.least (reply.Reached job) (let a = w.least in omega (arith, first, a)) (climbed w.begun w.last (readings_of w.looks) w.order) w.rising w.decided.made
+        entry-played before old new w.begun w.last late.least (reply.Reached job) (let a = w.least in omega (arith, first, a)) (climbed w.begun w.last (readings_of w.looks) w.climb) w.rising w.decided.made
 
     refused-entry : (config : Config) (early late : Dial) (old new : Seat) (before : ℕ) (why : Refusal) → before ≤ early.least
         → (w : IsWaited config early old (λ begun. call.Wait (record { 0 = n }) js kind begun timeout) (Refuses config old why new) late new)
         → Makes old (entry_by (number_of_client old) w.last (call.Wait (record { 0 = n }) js kind w.begun timeout) (reply.Refused why)) new
         → PlayedLine s names (wait_line kind session timeout jobs) before (mine_of old) (mine_of new) names late.least
     refused-entry config early late old new before why first w made =
-        entry-played before old new w.begun w.last late.least (reply.Refused why) (let a = w.least in omega (arith, first, a)) (climbed w.begun w.last (readings_of w.looks) w.order) w.rising made
+        entry-played before old new w.begun w.last late.least (reply.Refused why) (let a = w.least in omega (arith, first, a)) (climbed w.begun w.last (readings_of w.looks) w.climb) w.rising made
 
     -- a wait that was refused by its entry
     pub refused-played : (config : Config) (early late : Dial) (old new : Seat) (before : ℕ) (why : Refusal) → before ≤ early.least → stop_of why ≡ None
@@ -193,8 +190,8 @@ module _ (s : Script) (names : List (List ℕ × Given)) (kind : WaitKind) (sess
           none = none;
           looks = readings_of w.looks;
           read = wait-reads kind session timeout jobs w.begun w.last (readings_of w.looks) early.given late.given w.gave;
-          behind = (let a = w.least in let b = climbed w.begun w.last (readings_of w.looks) w.order in omega (arith, first, a, b));
-          in_time = λ waits. ((let a = w.least in omega (arith, first, a)), climbed w.begun w.last (readings_of w.looks) w.order);
+          behind = (let a = w.least in let b = climbed w.begun w.last (readings_of w.looks) w.climb in omega (arith, first, a, b));
+          in_time = λ waits. ((let a = w.least in omega (arith, first, a)), climbed w.begun w.last (readings_of w.looks) w.climb);
         }))
     stops-by config early late old new before why st first stops w (by_entry made is) =
         subst (λ (x : Stopped). StopsLine config s names (wait_line kind session timeout jobs) before old new early.given late.given x) (sym (entry-stops _ w.last n js kind w.begun timeout why st stops is))

@@ -7,7 +7,7 @@ use Rattle.drmaa_model.specs.declared.entries.Entry.{Entry}
 use Rattle.drmaa_model.specs.declared.faults.NoEntry.{NoEntry}
 use Rattle.drmaa_model.specs.declared.faults.NoEntry.TheVariants as fault
 use Rattle.drmaa_model.specs.History.{replay}
-use Rattle.drmaa_model.specs.KeptCalls.{kept}
+use Rattle.drmaa_model.specs.RecordedCalls.{recorded}
 use Rattle.drmaa_machine.specs.Chronicles.{MakesNone}
 use Rattle.script_lines.specs.declared.lines.Line.{Line}
 use Rattle.script_text.specs.declared.scripts.Script.{Script}
@@ -61,7 +61,7 @@ pub record IsFullFor (config : Config) (s : Script) (names : List (List ℕ × G
   pub call : Call
   pub at : ℕ
   pub asked : asks s names no_attempt begun l ≡ Some call
-  pub none : MakesNone (replay config history) at (kept call) (fault.Journal size)
+  pub none : MakesNone (replay config history) at (recorded call) (fault.Journal size)
   pub looks : List ℕ
   pub read : Gives early (taken_by l begun looks at) late
   pub behind : before ≤ at

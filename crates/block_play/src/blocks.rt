@@ -39,7 +39,11 @@ fn play_at<R: Wait + Pause, C: Clock>(
     ensures { (line : Line) (rest : List Line) → drop place block.now ≡ line ∷ rest → LeftByLine C.given C.least script.now names line desk.old desk.new result }
 {
     match block.line(place) {
-        Ok(line) => play_line(rt, alloc, script, desk, names, &line),
+        Ok(line) => {
+            let left = play_line(rt, alloc, script, desk, names, &line);
+            drop(line);
+            left
+        }
         Err(_) => Err(Stopped::Memory),
     }
 }
@@ -97,7 +101,11 @@ fn play_first_at<R: Wait + Pause, C: Clock, B: Callback>(
     ensures hub { RegistersOn B.counted B.told desk.old.shared.now hub.old desk.old.client hub.new desk.new.client }
 {
     match block.line(place) {
-        Ok(line) => play_first_line(rt, alloc, script, desk, hub, names, &line),
+        Ok(line) => {
+            let left = play_first_line(rt, alloc, script, desk, hub, names, &line);
+            drop(line);
+            left
+        }
         Err(_) => Err(Stopped::Memory),
     }
 }

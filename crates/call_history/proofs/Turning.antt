@@ -7,7 +7,7 @@ use Rattle.drmaa_model.specs.declared.faults.NoEntry.{NoEntry}
 use Rattle.drmaa_model.specs.declared.faults.NoEntry.TheVariants as fault
 use Rattle.drmaa_model.specs.Effects.{not_yet}
 use Rattle.drmaa_model.specs.History.{Ledger, now_of, replay}
-use Rattle.drmaa_model.specs.KeptCalls.{kept}
+use Rattle.drmaa_model.specs.RecordedCalls.{recorded}
 use Rattle.drmaa_model.specs.Steps.{answer}
 use Rattle.drmaa_model.specs.World.{World}
 use Rattle.drmaa_model.specs.declared.looks.Answer.{Answer}
@@ -94,13 +94,13 @@ sees-now old new seen mine = record { between = []; seen = seen ∙ sym (append-
 
 -- no entry was made after this history
 pub unserved-now : (config : Config) (before : Dial) (old : Seat) (asked : Call) (why : NoEntry) (after : Dial) (new : Seat) (at : ℕ) (ledger : Ledger) → IsReading before at after → ledger.config ≡ config
-    → seen_of new ≡ ledger.history → SeesMore old new → MakesNone (now_of ledger) at (kept asked) why → IsUnserved config before old asked why after new
+    → seen_of new ≡ ledger.history → SeesMore old new → MakesNone (now_of ledger) at (recorded asked) why → IsUnserved config before old asked why after new
 unserved-now config before old asked why after new at ledger read same seen more reason = record {
   at = at;
   read = read;
   more = more;
-  reason = subst (λ (k : Config). MakesNone (replay k (seen_of new)) at (kept asked) why) same
-      (subst (λ (h : List Entry). MakesNone (replay ledger.config h) at (kept asked) why) (sym seen) reason);
+  reason = subst (λ (k : Config). MakesNone (replay k (seen_of new)) at (recorded asked) why) same
+      (subst (λ (h : List Entry). MakesNone (replay ledger.config h) at (recorded asked) why) (sym seen) reason);
 }
 
 -- a look that is over came to an entry, or to none
@@ -144,7 +144,7 @@ makes-pushed old new e seen mine = makes-now old new (untold e) (record {
 
 -- the entry of a caller, as the lock has it
 abbrev pub entry_told : ℕ → ℕ → Call → Reply → LockEntry
-entry_told number at asked reply = record { caller = record { 0 = number }; ask = record { at = at; call = kept asked }; answer = reply }
+entry_told number at asked reply = record { caller = record { 0 = number }; ask = record { at = at; call = recorded asked }; answer = reply }
 
 -- the seat that made this entry, and gave the turn away
 abbrev pub with_entry : Seat → LockEntry → Seat

@@ -20,7 +20,7 @@ use Rattle.drmaa_model.specs.declared.looks.Question.TheVariants as question
 use Rattle.drmaa_model.specs.AnswerLaws.{answer-cases}
 use Rattle.drmaa_model.specs.Effects.{StepAnswer, gives, nothing, not_yet}
 use Rattle.drmaa_model.specs.History.{replay}
-use Rattle.drmaa_model.specs.KeptCalls.{kept}
+use Rattle.drmaa_model.specs.RecordedCalls.{recorded}
 use Rattle.drmaa_model.specs.ReplyKinds.{kind_of_call}
 use Rattle.drmaa_model.specs.Size.{size}
 use Rattle.drmaa_model.specs.Steps.{answer}
@@ -104,7 +104,7 @@ too-large w at c not_yet is adds n over = absurd adds
 
 -- nothing was answered for want of memory, or since the journal would be too large
 unserved : (config : Config) (before after : Dial) (old new : Seat) (asked : Question) (answered : Answer) (c : Call) (f : NoEntry)
-    → (is : IsLookedAt config before old asked answered after new) → is_run_report (kept c) ≡ false → Explains (replay config (seen_of new)) is.at (kept c) f
+    → (is : IsLookedAt config before old asked answered after new) → is_run_report (recorded c) ≡ false → Explains (replay config (seen_of new)) is.at (recorded c) f
     → IsUnserved config before old c f after new
 unserved config before after old new asked answered c f is other cause = record {
   at = is.at;
@@ -118,11 +118,11 @@ unserved config before after old new asked answered c f is other cause = record 
 
 -- a submission for which memory is wanting
 pub short-submission : (config : Config) (before after : Dial) (old new : Seat) (asked : Question) (answered : Answer) (c : Call)
-    → is_run_report (kept c) ≡ false → is_answered (kind_of_call (kept c)) ≡ true → is_submission (kept c) ≡ true
+    → is_run_report (recorded c) ≡ false → is_answered (kind_of_call (recorded c)) ≡ true → is_submission (recorded c) ≡ true
     → IsLookedAt config before old asked answered after new → IsRefused config before old c why.OutOfMemory after new
 short-submission config before after old new asked answered c other one submission is =
     by_fault fault.OutOfMemory refl
-    (unserved config before after old new asked answered c fault.OutOfMemory is other (submits (replay config (seen_of new)) is.at (kept c) one submission))
+    (unserved config before after old new asked answered c fault.OutOfMemory is other (submits (replay config (seen_of new)) is.at (recorded c) one submission))
 
 is-none : (o : Option ℕ) → told.Full None ≡ told.Full o → o ≡ None
 is-none o is = cc
@@ -139,26 +139,26 @@ has-none w at c one adds room = record {
 }
 
 short-plain : (config : Config) (before after : Dial) (old new : Seat) (c : Call)
-    → is_run_report (kept c) ≡ false → is_answered (kind_of_call (kept c)) ≡ true → ((w : World) (at : ℕ) → AddsOne (advance w at) (answer w at (kept c)))
+    → is_run_report (recorded c) ≡ false → is_answered (kind_of_call (recorded c)) ≡ true → ((w : World) (at : ℕ) → AddsOne (advance w at) (answer w at (recorded c)))
     → IsLookedAt config before old question.Full (told.Full None) after new → IsRefused config before old c why.OutOfMemory after new
 short-plain config before after old new c other one adds is =
     by_fault fault.OutOfMemory refl
     (unserved config before after old new question.Full (told.Full None) c fault.OutOfMemory is other
-    (has-none (replay config (seen_of new)) is.at (kept c) one (adds (replay config (seen_of new)) is.at) (is-none (overfull (advance (replay config (seen_of new)) is.at)) is.told)))
+    (has-none (replay config (seen_of new)) is.at (recorded c) one (adds (replay config (seen_of new)) is.at) (is-none (overfull (advance (replay config (seen_of new)) is.at)) is.told)))
 
 -- and where it has none
 full-plain : (config : Config) (before after : Dial) (old new : Seat) (c : Call) (n : ℕ)
-    → is_run_report (kept c) ≡ false → ((w : World) (at : ℕ) → AddsOne (advance w at) (answer w at (kept c)))
+    → is_run_report (recorded c) ≡ false → ((w : World) (at : ℕ) → AddsOne (advance w at) (answer w at (recorded c)))
     → IsLookedAt config before old question.Full (told.Full (Some n)) after new → IsRefused config before old c (why.OutOfResource (limit.Journal n)) after new
 full-plain config before after old new c n other adds is =
     by_fault (fault.Journal n) refl
     (unserved config before after old new question.Full (told.Full (Some n)) c (fault.Journal n) is other
-    (too-large (replay config (seen_of new)) is.at (kept c) (answer (replay config (seen_of new)) is.at (kept c)) refl (adds (replay config (seen_of new)) is.at) n
+    (too-large (replay config (seen_of new)) is.at (recorded c) (answer (replay config (seen_of new)) is.at (recorded c)) refl (adds (replay config (seen_of new)) is.at) n
     (is-some (overfull (advance (replay config (seen_of new)) is.at)) n is.told)))
 
 -- each of the two
 plain-refused : (config : Config) (before after : Dial) (old new : Seat) (c : Call) (size : Option ℕ) (reason : Refusal) → reason ≡ shortage size
-    → is_run_report (kept c) ≡ false → is_answered (kind_of_call (kept c)) ≡ true → ((w : World) (at : ℕ) → AddsOne (advance w at) (answer w at (kept c)))
+    → is_run_report (recorded c) ≡ false → is_answered (kind_of_call (recorded c)) ≡ true → ((w : World) (at : ℕ) → AddsOne (advance w at) (answer w at (recorded c)))
     → IsLookedAt config before old question.Full (told.Full size) after new → IsRefused config before old c reason after new
 plain-refused config before after old new c None reason same other one adds is =
     subst (λ (r : Refusal). IsRefused config before old c r after new) (sym same) (short-plain config before after old new c other one adds is)
@@ -167,7 +167,7 @@ plain-refused config before after old new c (Some n) reason same other one adds 
 
 -- what is short is what the look at the journal told
 pub looked-refused : (config : Config) (before after : Dial) (old new : Seat) (c : Call) (looked : Answer) (reason : Refusal) → ((size : Option ℕ) → looked ≡ told.Full size → reason ≡ shortage size)
-    → is_run_report (kept c) ≡ false → is_answered (kind_of_call (kept c)) ≡ true → ((w : World) (at : ℕ) → AddsOne (advance w at) (answer w at (kept c)))
+    → is_run_report (recorded c) ≡ false → is_answered (kind_of_call (recorded c)) ≡ true → ((w : World) (at : ℕ) → AddsOne (advance w at) (answer w at (recorded c)))
     → IsLookedAt config before old question.Full looked after new → IsRefused config before old c reason after new
 looked-refused config before after old new c looked reason tells other one adds is =
     let size : Option ℕ = overfull (advance (replay config (seen_of new)) is.at) in

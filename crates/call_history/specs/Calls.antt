@@ -8,7 +8,7 @@ use Rattle.drmaa_model.specs.declared.looks.Answer.{Answer}
 use Rattle.drmaa_model.specs.declared.looks.Question.{Question}
 use Rattle.drmaa_model.specs.declared.replies.Reply.{Reply}
 use Rattle.drmaa_model.specs.History.{replay}
-use Rattle.drmaa_model.specs.KeptCalls.{kept}
+use Rattle.drmaa_model.specs.RecordedCalls.{recorded}
 use Rattle.drmaa_model.specs.Time.{advance}
 use Rattle.drmaa_machine.specs.Chronicles.{MakesNone}
 use Rattle.drmaa_machine.specs.Looks.{IsAnswer}
@@ -20,7 +20,7 @@ use Rattle.call_history.specs.Clocks.{Dial, IsReading}
 
 -- the entry that a client makes of a call
 abbrev pub entry_by : ℕ → ℕ → Call → Reply → Entry
-entry_by number at asked reply = record { caller = record { 0 = number }; at = at; call = kept asked; reply = reply }
+entry_by number at asked reply = record { caller = record { 0 = number }; at = at; call = recorded asked; reply = reply }
 
 -- The call was served at one reading of the clock, with one entry.
 pub record IsServed (before : Dial) (old : Seat) (asked : Call) (reply : Reply) (after : Dial) (new : Seat) : Type 0 where
@@ -33,7 +33,7 @@ pub record IsUnserved (config : Config) (before : Dial) (old : Seat) (asked : Ca
   pub at : ℕ
   pub read : IsReading before at after
   pub more : SeesMore old new
-  pub reason : MakesNone (replay config (seen_of new)) at (kept asked) why
+  pub reason : MakesNone (replay config (seen_of new)) at (recorded asked) why
 
 -- The question was answered at one reading of the clock, for the world of all that the client has now seen.
 pub record IsLookedAt (config : Config) (before : Dial) (old : Seat) (question : Question) (answer : Answer) (after : Dial) (new : Seat) : Type 0 where

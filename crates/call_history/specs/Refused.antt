@@ -8,17 +8,17 @@ use Rattle.drmaa_model.specs.declared.configs.Config.{Config}
 use Rattle.drmaa_model.specs.declared.faults.NoEntry.{NoEntry}
 use Rattle.drmaa_model.specs.declared.faults.NoEntry.TheVariants as fault
 use Rattle.drmaa_model.specs.declared.replies.Reply.TheVariants as reply
+use Rattle.drmaa_model.specs.Faults.{refusal_for}
 use Rattle.drmaa_model.specs.ReplyKinds.{ReplyKind, nothing_told, a_session, texts, a_job, an_array, jobs, a_state, an_info, a_reached_job, a_reserved, a_reservation, reservations, infos, reservation_infos, a_machine, a_callback, a_launch, a_signal, a_refusal}
 use Rattle.call_history.specs.Calls.{IsServed, IsUnserved}
 use Rattle.call_history.specs.Clients.{Seat}
 use Rattle.call_history.specs.Clocks.{Dial}
 
--- the refusal that stands for a fault; a call that is always answered has no other
+-- the refusal that stands for a fault; a call that is always answered has neither of the first two
 abbrev pub refusal_of : NoEntry → Option Refusal
-refusal_of fault.OutOfMemory = Some why.OutOfMemory
 refusal_of fault.NotYet = None
 refusal_of fault.Nothing = None
-refusal_of (fault.Journal n) = Some (why.OutOfResource (limit.Journal n))
+refusal_of f = Some (refusal_for f)
 
 -- what is short: room in the journal, where it would have this size and that is too large, or else memory
 abbrev pub shortage : Option ℕ → Refusal

@@ -10,7 +10,7 @@ use Rattle.drmaa_model.specs.declared.faults.NoEntry.{NoEntry}
 use Rattle.drmaa_model.specs.declared.looks.Answer.{Answer}
 use Rattle.drmaa_model.specs.declared.looks.Question.{Question}
 use Rattle.drmaa_model.specs.declared.replies.Reply.{Reply}
-use Rattle.drmaa_model.specs.KeptCalls.{kept}
+use Rattle.drmaa_model.specs.RecordedCalls.{recorded}
 use Rattle.call_history.specs.Calls.{entry_by, IsServed, IsUnserved, IsLookedAt}
 use Rattle.call_history.specs.Clients.{Seat, mine_of, number_of}
 use Rattle.call_history.specs.Clocks.{Dial, HasGiven, Gives}
@@ -18,9 +18,9 @@ use Rattle.call_history.specs.ClockLaws.{gives-one}
 use Rattle.call_history.specs.Timed.{begun_in, moments_in, moments_of, StandsIn, HaveStood, StaysTimed}
 
 -- a call that is kept has begun when it began
-pub begun-kept : (c : Call) → begun_in (kept c) ≡ begun_in c
-begun-kept (call.Wait session jobs kind begun timeout) = refl
-begun-kept _ = refl
+pub begun-recorded : (c : Call) → begun_in (recorded c) ≡ begun_in c
+begun-recorded (call.Wait session jobs kind begun timeout) = refl
+begun-recorded _ = refl
 
 -- ---- moments among readings
 
@@ -75,7 +75,7 @@ timed-still before after es readings gives =
 
 one-moment : (number at : ℕ) (asked : Call) (reply : Reply) → begun_in asked ≡ [] → StandsIn (moments_in (entry_by number at asked reply)) (at ∷ [])
 one-moment number at asked reply none =
-    subst (λ (ms : List ℕ). StandsIn ms (at ∷ [])) (sym (ap (λ (l : List ℕ). l ++ at ∷ []) (begun-kept asked ∙ none))) (stands-all (at ∷ []))
+    subst (λ (ms : List ℕ). StandsIn ms (at ∷ [])) (sym (ap (λ (l : List ℕ). l ++ at ∷ []) (begun-recorded asked ∙ none))) (stands-all (at ∷ []))
 
 pub timed-served : (before after : Dial) (old new : Seat) (asked : Call) (reply : Reply) → begun_in asked ≡ [] → IsServed before old asked reply after new
     → StaysTimed (mine_of old) before.given (mine_of new) after.given

@@ -1,17 +1,17 @@
 //! Calls that are always answered: their reply, or why they are refused.
-ghost use Rattle.std.specs.Prelude.{◌≡◌, ◌≢◌, IfOk, IfErr, IfSome, true};
+ghost use Rattle.std.specs.Prelude.{◌≡◌, ◌≢◌, IfOk, IfErr, true};
 ghost use Rattle.drmaa_model.specs.History.{IsLegal};
 ghost use Rattle.drmaa_model.specs.ReplyKinds.{kind_of_call, kind_of_reply, a_refusal};
 ghost use Rattle.turn_lock.specs.Tokens.{IsFree};
 ghost use Rattle.call_history.specs.Clients.{seen_of, number_of, KnowsItsOwn, StaysAt};
 ghost use Rattle.call_history.specs.Clocks.{dial};
 ghost use Rattle.call_history.specs.Calls.{IsServed};
-ghost use Rattle.call_history.specs.Refused.{IsRefused, is_answered, refusal_of};
+ghost use Rattle.call_history.specs.Refused.{IsRefused, is_answered};
 
 use crate::desks::Desk;
 use crate::told::Told;
-use drmaa_machine::{Call, NoEntry, Reply};
-use drmaa_types::{Clock, Limit, Refusal};
+use drmaa_machine::{Call, Reply};
+use drmaa_types::{Clock, Refusal};
 use std::sync::Wait;
 
 impl<'a, C: Clock> Desk<'a, C> {
@@ -60,7 +60,7 @@ impl<'a, C: Clock> Desk<'a, C> {
     {
         match self.call(rt, call) {
             Ok(reply) => unrefused(reply),
-            Err(fault) => Err(refusal_for(fault)),
+            Err(fault) => Err(Refusal::from(fault)),
         }
     }
 }
@@ -74,15 +74,5 @@ fn unrefused(reply: Reply) -> Result<Reply, Refusal>
     match reply {
         Reply::Refused(why) => Err(why),
         told => Ok(told),
-    }
-}
-
-/// The refusal that stands for a fault of a call that is always answered.
-fn refusal_for(fault: NoEntry) -> Refusal
-    ensures { IfSome (refusal_of fault) (λ why. result ≡ why) }
-{
-    match fault {
-        NoEntry::Journal { size } => Refusal::OutOfResource(Limit::Journal { size }),
-        NoEntry::OutOfMemory | NoEntry::NotYet | NoEntry::Nothing => Refusal::OutOfMemory,
     }
 }

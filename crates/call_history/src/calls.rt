@@ -1,7 +1,7 @@
 //! Calls and questions of clients: each waits for the turn, or tries to have it at once.
 ghost use Rattle.std.specs.Prelude.{◌≡◌, ◌+◌, ℕ, IfOk, IfErr, OnOk, OnErr, length, Ok, Err};
 ghost use Rattle.drmaa_model.specs.History.{IsLegal, now_of};
-ghost use Rattle.drmaa_model.specs.KeptCalls.{kept};
+ghost use Rattle.drmaa_model.specs.RecordedCalls.{recorded};
 ghost use Rattle.drmaa_machine.specs.Chronicles.{MakesNone};
 ghost use Rattle.turn_lock.specs.Tokens.{IsFree, Together};
 ghost use Rattle.call_history.specs.Clients.{seen_of, number_of, KnowsItsOwn, Makes, SeesMore};
@@ -192,7 +192,7 @@ impl SharedMachine {
         ensures length { OnOk result (length (seen_of client.new) ≡ length turn.value.ledger.history + 1) }
         ensures err { OnErr result (SeesMore client.old client.new) }
         ensures same { OnErr result (seen_of client.new ≡ turn.value.ledger.history) }
-        ensures fails { IfErr result (MakesNone (now_of turn.value.ledger) at (kept call)) }
+        ensures fails { IfErr result (MakesNone (now_of turn.value.ledger) at (recorded call)) }
         ensures config { turn.value.ledger.config ≡ self.now.fixed }
         ensures own { KnowsItsOwn client.new }
         ensures legal { IsLegal self.now.fixed (seen_of client.new) }

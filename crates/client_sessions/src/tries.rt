@@ -3,8 +3,8 @@ ghost use Rattle.std.specs.Prelude.{◌≡◌, ◌≢◌, IfOk, IfErr};
 ghost use Rattle.drmaa_model.specs.ReplyKinds.{kind_of_reply, a_state, a_refusal};
 ghost use Rattle.client_sessions.specs.Tries.{IsRefusalOf};
 
-use call_history::{NoEntry, Reply, TryFault};
-use drmaa_types::{JobState, Limit, Refusal};
+use call_history::{Reply, TryFault};
+use drmaa_types::{JobState, Refusal};
 
 /// The state that the reply to a question for a state tells, or the refusal that it is.
 pub(crate) fn state_told(reply: Reply) -> Result<JobState, Refusal>
@@ -25,8 +25,6 @@ pub(crate) fn refusal_at_once(fault: TryFault) -> Refusal
 {
     match fault {
         TryFault::Busy { served, drawn } => Refusal::TryLater { served, drawn },
-        TryFault::Not(NoEntry::Journal { size }) => Refusal::OutOfResource(Limit::Journal { size }),
-        TryFault::Not(NoEntry::OutOfMemory | NoEntry::NotYet | NoEntry::Nothing) =>
-            Refusal::OutOfMemory,
+        TryFault::Not(fault) => Refusal::from(fault),
     }
 }

@@ -5,9 +5,9 @@ use Rattle.text_codec.specs.BaseLaws.{decimal_letters}
 use Rattle.text_codec.specs.CleanLaws.{letters_clean, plain_clean, quoted_clean, clean_behind, clean_both}
 use Rattle.text_codec.specs.Lexical.{IsClean, quoted}
 use Rattle.text_codec.specs.StepLaws.{both, by_test}
-use Rattle.text_lines.specs.Lines.{is_skipped, kept, AreLines, IsTextOf}
+use Rattle.text_lines.specs.Lines.{is_skipped, unskipped_lines, AreLines, IsTextOf}
 use Rattle.text_lines.specs.LineLaws.{ended_text}
-use Rattle.text_lines.specs.Skipping.{IsReadable, SpellsKept}
+use Rattle.text_lines.specs.Skipping.{IsReadable, SpellsUnskipped}
 use Rattle.script_text.specs.declared.scripts.Mode.TheVariants.{Threads}
 use Rattle.script_text.specs.Header.{is_machine}
 use Rattle.script_text.specs.HeaderLaws.{header_laws}
@@ -98,34 +98,34 @@ script_clean b h = (
 )
 
 -- a reader skips none of them
-kept_templates : (n : ℕ) (cs rest : List (List ℕ)) → kept (all_templates n cs ++ rest) ≡ all_templates n cs ++ kept rest
-kept_templates n [] rest = refl
-kept_templates n (c ∷ cs) rest = ap (λ t. template_lines n c ++ t) (kept_templates (n + 1) cs rest)
+unskipped_templates : (n : ℕ) (cs rest : List (List ℕ)) → unskipped_lines (all_templates n cs ++ rest) ≡ all_templates n cs ++ unskipped_lines rest
+unskipped_templates n [] rest = refl
+unskipped_templates n (c ∷ cs) rest = ap (λ t. template_lines n c ++ t) (unskipped_templates (n + 1) cs rest)
 
-kept_each : (line : ℕ → List ℕ) → ((n : ℕ) → is_skipped (line n) ≡ false) → (n : ℕ) (cs rest : List (List ℕ)) → kept (for_each line n cs ++ rest) ≡ for_each line n cs ++ kept rest
-kept_each line unskipped n [] rest = refl
-kept_each line unskipped n (c ∷ cs) rest = rw (unskipped n, kept_each line unskipped (n + 1) cs rest) refl
+unskipped_each : (line : ℕ → List ℕ) → ((n : ℕ) → is_skipped (line n) ≡ false) → (n : ℕ) (cs rest : List (List ℕ)) → unskipped_lines (for_each line n cs ++ rest) ≡ for_each line n cs ++ unskipped_lines rest
+unskipped_each line unskipped n [] rest = refl
+unskipped_each line unskipped n (c ∷ cs) rest = rw (unskipped n, unskipped_each line unskipped (n + 1) cs rest) refl
 
-kept_client : (cs : List (List ℕ)) → kept (client_lines cs) ≡ client_lines cs
-kept_client cs =
+unskipped_client : (cs : List (List ℕ)) → unskipped_lines (client_lines cs) ≡ client_lines cs
+unskipped_client cs =
     let runs = for_each run_line 1 cs in
     let waits = for_each wait_line 1 cs in
     let infos = for_each info_line 1 cs in
     let end = codes "end" ∷ [] in
     ap (λ t. codes "client" ∷ codes "create-jobs s \"commands\"" ∷ t)
-    (kept_each run_line (λ n. refl) 1 cs (waits ++ (infos ++ end))
-    ∙ ap (λ t. runs ++ t) (kept_each wait_line (λ n. refl) 1 cs (infos ++ end) ∙ ap (λ t. waits ++ t) (kept_each info_line (λ n. refl) 1 cs end)))
+    (unskipped_each run_line (λ n. refl) 1 cs (waits ++ (infos ++ end))
+    ∙ ap (λ t. runs ++ t) (unskipped_each wait_line (λ n. refl) 1 cs (infos ++ end) ∙ ap (λ t. waits ++ t) (unskipped_each info_line (λ n. refl) 1 cs end)))
 
-kept_script : (b : Batch) → kept (script_lines b) ≡ script_lines b
-kept_script b =
+unskipped_script : (b : Batch) → unskipped_lines (script_lines b) ≡ script_lines b
+unskipped_script b =
     ap (λ t. machine_line b.machine ∷ t)
-    (kept_templates 1 b.commands (client_lines b.commands) ∙ ap (λ t. all_templates 1 b.commands ++ t) (kept_client b.commands))
+    (unskipped_templates 1 b.commands (client_lines b.commands) ∙ ap (λ t. all_templates 1 b.commands ++ t) (unskipped_client b.commands))
 
-pub batch_text : (b : Batch) → IsBatch b → IsTextOf (SpellsKept (Spells Threads)) most_bytes (script_text b) (script_of b)
+pub batch_text : (b : Batch) → IsBatch b → IsTextOf (SpellsUnskipped (Spells Threads)) most_bytes (script_text b) (script_of b)
 batch_text b h =
     let clean = script_clean b h in
-    ended_text (SpellsKept (Spells Threads)) (script_lines b) (script_of b) most_bytes (clean_lines (script_lines b) clean)
-    (record { readable = clean_readable (script_lines b) clean; spelled = subst (λ ls. Spells Threads ls (script_of b)) (sym (kept_script b)) (batch_spelled b h) })
+    ended_text (SpellsUnskipped (Spells Threads)) (script_lines b) (script_of b) most_bytes (clean_lines (script_lines b) clean)
+    (record { readable = clean_readable (script_lines b) clean; spelled = subst (λ ls. Spells Threads ls (script_of b)) (sym (unskipped_script b)) (batch_spelled b h) })
     h.within
 
 -- what is read is a batch

@@ -1,7 +1,7 @@
 -- What is written of commands: our profile.
 use Rattle.std.specs.Prelude.{◌≡◌, ℕ, List}
 use Rattle.text_lines.specs.Lines.{IsTextOf}
-use Rattle.text_lines.specs.Skipping.{SpellsKept}
+use Rattle.text_lines.specs.Skipping.{SpellsUnskipped}
 use Rattle.script_text.specs.declared.scripts.Mode.TheVariants.{Threads}
 use Rattle.script_text.specs.Scripts.{Spells}
 use Rattle.command_scripts.specs.declared.batches.Batch.{Batch}
@@ -16,4 +16,4 @@ pub record IsWritten (m : Machine) (text written : List ℕ) : Type 0 where
   pub batch : Batch
   pub commands : IsTextOf (SpellsBatch m) most_bytes text batch
   pub same : written ≡ script_text batch
-  pub script : IsTextOf (SpellsKept (Spells Threads)) most_bytes written (script_of batch)
+  pub script : IsTextOf (SpellsUnskipped (Spells Threads)) most_bytes written (script_of batch)

@@ -1,7 +1,7 @@
 -- What is printed of what was read is written of it.
 use Rattle.std.proofs.Common.{◌≡◌, ℕ, true, List, sym, subst, IsUtf8}
 use Rattle.text_lines.specs.Lines.{whole_lines, IsTextOf}
-use Rattle.text_lines.specs.Skipping.{SpellsKept}
+use Rattle.text_lines.specs.Skipping.{SpellsUnskipped}
 use Rattle.script_text.specs.declared.scripts.Mode.TheVariants.{Threads}
 use Rattle.script_text.specs.Header.{is_machine}
 use Rattle.script_text.specs.Scripts.{Spells}
@@ -20,5 +20,5 @@ is_written m all bytes batch machine name read same =
       batch = batch;
       commands = read;
       same = same;
-      script = subst (λ bs. IsTextOf (SpellsKept (Spells Threads)) most_bytes bs (script_of batch)) (sym same) (batch_text batch h);
+      script = subst (λ bs. IsTextOf (SpellsUnskipped (Spells Threads)) most_bytes bs (script_of batch)) (sym same) (batch_text batch h);
     }

@@ -2,7 +2,7 @@
 ghost use Rattle.std.specs.Prelude.{◌≡◌, ℕ, List, true, IsUtf8};
 ghost use Rattle.std.specs.List.{AllByRecursion};
 ghost use Rattle.text_lines.specs.Lines.{IsTextOf};
-ghost use Rattle.text_lines.specs.Skipping.{SpellsKept};
+ghost use Rattle.text_lines.specs.Skipping.{SpellsUnskipped};
 ghost use Rattle.script_text.specs.declared.scripts.Mode.TheVariants.{Threads};
 ghost use Rattle.script_text.specs.declared.scripts.Script.{Script};
 ghost use Rattle.script_text.specs.Header.{is_machine};
@@ -18,8 +18,8 @@ ghost use Rattle.command_scripts.specs.Texts.{script_lines, script_text};
 /// command, and nothing else; its text, each line with its line feed, is that script's, and no other's.
 pub fn a_batch_is_one_script()
     ensures lines { (batch : Batch) → IsBatch batch → Spells Threads (script_lines batch) (script_of batch) }
-    ensures text { (batch : Batch) → IsBatch batch → IsTextOf (SpellsKept (Spells Threads)) 16_777_216 (script_text batch) (script_of batch) }
-    ensures one { (batch : Batch) (script : Script) → IsBatch batch → IsTextOf (SpellsKept (Spells Threads)) 16_777_216 (script_text batch) script
+    ensures text { (batch : Batch) → IsBatch batch → IsTextOf (SpellsUnskipped (Spells Threads)) 16_777_216 (script_text batch) (script_of batch) }
+    ensures one { (batch : Batch) (script : Script) → IsBatch batch → IsTextOf (SpellsUnskipped (Spells Threads)) 16_777_216 (script_text batch) script
         → script ≡ script_of batch }
 {}
 

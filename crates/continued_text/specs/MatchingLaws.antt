@@ -13,7 +13,7 @@ use Rattle.text_codec.specs.CleanLaws.{clean_behind}
 use Rattle.text_codec.specs.StepLaws.{both, by_test, bind, chosen}
 use Rattle.text_codec.specs.Queues.{queue}
 use Rattle.text_codec.specs.QueueLaws.{queue_laws}
-use Rattle.text_lines.specs.Lines.{kept, AreLines, GoesOn}
+use Rattle.text_lines.specs.Lines.{unskipped_lines, AreLines, GoesOn}
 use Rattle.text_lines.specs.Automata.{Runs, Reads, GoesBy, from}
 use Rattle.script_lines.specs.declared.lines.Line.{Line}
 use Rattle.script_lines.specs.declared.draft.Draft.{Draft}
@@ -326,13 +326,13 @@ queue_lines : (qs : List QueueSpec) → AllByRecursion queue.valid qs → AreLin
 queue_lines [] v = tt
 queue_lines (q ∷ qs) v = ((clean_behind (codes "queue ") (queue.spell q) refl (queue_laws.clean q v.0)).one_line, queue_lines qs v.1)
 
-queues_kept : (qs : List QueueSpec) → kept (map queue_text qs) ≡ map queue_text qs
-queues_kept [] = refl
-queues_kept (q ∷ qs) = ap (λ ks. queue_text q ∷ ks) (queues_kept qs)
+queues_unskipped : (qs : List QueueSpec) → unskipped_lines (map queue_text qs) ≡ map queue_text qs
+queues_unskipped [] = refl
+queues_unskipped (q ∷ qs) = ap (λ ks. queue_text q ∷ ks) (queues_unskipped qs)
 
-header_kept : (m : ℕ × (List ℕ × Bool)) (ls : List (List ℕ)) → kept (header.spell m ∷ ls) ≡ header.spell m ∷ kept ls
+header_unskipped : (m : ℕ × (List ℕ × Bool)) (ls : List (List ℕ)) → unskipped_lines (header.spell m ∷ ls) ≡ header.spell m ∷ unskipped_lines ls
 unfolding header checked behind
-header_kept m ls = refl
+header_unskipped m ls = refl
 
 valid_behind : (ps qs : List QueueSpec) → AllByRecursion queue.valid (ps ++ qs) → AllByRecursion queue.valid qs
 valid_behind [] qs v = v
@@ -368,7 +368,7 @@ start_on j v ls e = record {
   are_lines = ((header_laws.clean (machine_of j.config) (machine_valid j.config v)).one_line, queue_lines j.config.queues (queues_valid j.config v));
   text = record { journal = j; script = begun (machine_of j.config) j.config.queues };
   spelled = subst (λ ks. SpellsBehind j (ks ++ head_lines j.config) (record { journal = j; script = begun (machine_of j.config) j.config.queues })) (sym e) (head_behind j v);
-  unskipped = header_kept (machine_of j.config) (map queue_text j.config.queues) ∙ ap (λ ks. header.spell (machine_of j.config) ∷ ks) (queues_kept j.config.queues);
+  unskipped = header_unskipped (machine_of j.config) (map queue_text j.config.queues) ∙ ap (λ ks. header.spell (machine_of j.config) ∷ ks) (queues_unskipped j.config.queues);
 }
 
 -- the lines so far, and those of the queues that are left
@@ -392,7 +392,7 @@ queueing_on j v ls s h b =
       are_lines = queue_lines longer.rest valid;
       text = record { journal = j; script = begun (machine_of j.config) j.config.queues };
       spelled = subst (λ ks. SpellsBehind j ks (record { journal = j; script = begun (machine_of j.config) j.config.queues })) (sym (queues_left j.config s ls longer.rest h longer.all longer.queues)) (head_behind j v);
-      unskipped = queues_kept longer.rest;
+      unskipped = queues_unskipped longer.rest;
     }
 
 -- a script that ends here, or with the last line of its block

@@ -4,10 +4,10 @@ use Rattle.std.proofs.lemmas.List.Elements.{filter-append}
 use Rattle.std.proofs.lemmas.Option.{none-some, same_Some}
 use Rattle.text_codec.specs.Formats.{◌>>=◌}
 use Rattle.text_codec.specs.StepLaws.{bind}
-use Rattle.text_lines.specs.Lines.{is_skipped, kept, GoesOn}
+use Rattle.text_lines.specs.Lines.{is_skipped, unskipped_lines, GoesOn}
 use Rattle.text_lines.specs.LineLaws.{both_lines}
 use Rattle.text_lines.specs.Automata.{Runs, Reads, GoesBy, from, runs-append}
-use Rattle.text_lines.specs.Skipping.{SpellsKept, skipping}
+use Rattle.text_lines.specs.Skipping.{SpellsUnskipped, skipping}
 use Rattle.text_lines.specs.SkippingLaws.{reads_all}
 use Rattle.text_lines.specs.declared.skipping.Skipping.{Skipping}
 use Rattle.journal_text.specs.Journals.{IsWritable}
@@ -40,7 +40,7 @@ first_of j = record { reader = start_behind j }
 journals_read : Reads JournalGoes state.Start journals.ends spelled.Spells
 journals_read = reads_from state.Start refl
 
-scripts_read : (j : Journal) → IsWritable j.config j.entries → Reads ScriptGoes (first_of j) (skipping matching).ends (SpellsKept (SpellsBehind j))
+scripts_read : (j : Journal) → IsWritable j.config j.entries → Reads ScriptGoes (first_of j) (skipping matching).ends (SpellsUnskipped (SpellsBehind j))
 scripts_read j w = reads_all matching reads_matching (first_of j) (record { writable = w; start = refl })
 
 -- ---- what was read, by the state that was reached
@@ -95,7 +95,7 @@ crossed_journal : (ls : List (List ℕ)) (u : Skipping MatchingReader) (h : Cros
 crossed_journal ls u h = journals_read.sound h.journal_lines (state.Ended h.journal) h.journal h.journal_run refl
 
 both_spelled : (lines journal_lines script_lines : List (List ℕ)) (j : Journal) (c : Continued) → lines ≡ journal_lines ++ script_lines
-    → spelled.Spells journal_lines j → SpellsKept (SpellsBehind j) script_lines c → Spells lines c
+    → spelled.Spells journal_lines j → SpellsUnskipped (SpellsBehind j) script_lines c → Spells lines c
 both_spelled lines js ss j c e h k = record {
   journal_lines = js;
   script_lines = ss;
@@ -132,7 +132,7 @@ ended_is state.Start j e = absurd (none-some _ e)
 ended_is (state.Going c es) j e = absurd (none-some _ e)
 ended_is (state.Ended k) j e = ap (λ x. state.Ended x) (same_Some k j e)
 
-of_script : (ss : List (List ℕ)) (c : Continued) → SpellsScript ss c.script → c.script.config ≡ c.journal.config → SpellsKept (SpellsBehind c.journal) ss c
+of_script : (ss : List (List ℕ)) (c : Continued) → SpellsScript ss c.script → c.script.config ≡ c.journal.config → SpellsUnskipped (SpellsBehind c.journal) ss c
 of_script ss c h same = record { readable = h.readable; spelled = record { journal = refl; script = h.spelled; same = same } }
 
 complete : (ls : List (List ℕ)) (c : Continued) → Spells ls c → (t : ContinuedReader) × Runs Goes (InJournal state.Start) ls t × (ends t ≡ Some c)
@@ -147,8 +147,8 @@ complete ls c h =
 
 -- ---- from every state such a text goes on
 
-both_kept : (ls ms : List (List ℕ)) → kept ls ≡ ls → kept ms ≡ ms → kept (ls ++ ms) ≡ ls ++ ms
-both_kept ls ms a b = filter-append (λ l. not (is_skipped l)) ls ms ∙ ap (λ ks. ks ++ kept ms) a ∙ ap (λ ks. ls ++ ks) b
+both_unskipped : (ls ms : List (List ℕ)) → unskipped_lines ls ≡ ls → unskipped_lines ms ≡ ms → unskipped_lines (ls ++ ms) ≡ ls ++ ms
+both_unskipped ls ms a b = filter-append (λ l. not (is_skipped l)) ls ms ∙ ap (λ ks. ks ++ unskipped_lines ms) a ∙ ap (λ ks. ls ++ ks) b
 
 journal_on : (ls : List (List ℕ)) (s : JournalReader) → Runs JournalGoes state.Start ls s → GoesOn Spells ls
 journal_on ls s r =
@@ -159,7 +159,7 @@ journal_on ls s r =
       are_lines = both_lines g.more k.more g.are_lines k.are_lines;
       text = k.text;
       spelled = both_spelled (ls ++ (g.more ++ k.more)) (ls ++ g.more) k.more g.text k.text (sym (append_assoc ls g.more k.more)) g.spelled k.spelled;
-      unskipped = both_kept g.more k.more g.unskipped k.unskipped;
+      unskipped = both_unskipped g.more k.more g.unskipped k.unskipped;
     }
 
 script_on : (ls : List (List ℕ)) (u : Skipping MatchingReader) → Crossed ls u → GoesOn Spells ls

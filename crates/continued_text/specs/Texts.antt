@@ -2,7 +2,7 @@
 use Rattle.std.specs.Prelude.{◌≡◌, ℕ, ◌+◌, ◌≤◌, min, Bool, List, [], ◌∷◌, ◌++◌, length, Option, Some, None, is_some, codes, option_map, if◌then◌else◌}
 use Rattle.text_codec.specs.Formats.{strip}
 use Rattle.text_lines.specs.Lines.{whole_lines, IsTextOf}
-use Rattle.text_lines.specs.Skipping.{SpellsKept}
+use Rattle.text_lines.specs.Skipping.{SpellsUnskipped}
 use Rattle.journal_text.specs.Journals as journals
 use Rattle.script_text.specs.Scripts as scripts
 use Rattle.script_text.specs.declared.scripts.Mode.TheVariants.{Serial}
@@ -11,7 +11,7 @@ use Rattle.continued_text.specs.declared.texts.Continued.{Continued}
 
 -- the lines of a serial script; empty ones and comments are skipped
 abbrev pub SpellsScript : List (List ℕ) → Script → Type 0
-SpellsScript = SpellsKept (scripts.Spells Serial)
+SpellsScript = SpellsUnskipped (scripts.Spells Serial)
 
 -- some lines are this script's, which is a serial one
 abbrev pub IsSerial : Script → Type 0

@@ -102,16 +102,16 @@ works clients (suc (suc zero)) some h a b c = absurd (b refl)
 works clients (suc (suc (suc zero))) some h a b c = absurd (c refl)
 works clients (suc (suc (suc (suc n)))) some h a b c = (suc n, omega arith, omega arith)
 
-module _ {C : Type 0} (shared : Named Config) (o o1 p old new launcher reaping pass : Seat) (desks : List (Desk C)) (clients : ℕ) (out : AreOut (retired_of o)) (count : length (retired_of o) ≡ clients + 3)
-    (some : 1 ≤ clients) (many : length desks ≡ clients) (t : AreTakenBack shared o o1 old new desks) (grown : BeginsWith (seen_of launcher) (seen_of new)) (rel : AreReleased shared o1 p launcher reaping pass)
-    (launcher_is : number_of launcher ≡ 1) (reaping_is : number_of reaping ≡ 2) (pass_is : number_of pass ≡ 3) where
+module _ {C : Type 0} (shared : Named Config) (o o1 p old new launcher reaping hub_seat : Seat) (desks : List (Desk C)) (clients : ℕ) (out : AreOut (retired_of o)) (count : length (retired_of o) ≡ clients + 3)
+    (some : 1 ≤ clients) (many : length desks ≡ clients) (t : AreTakenBack shared o o1 old new desks) (grown : BeginsWith (seen_of launcher) (seen_of new)) (rel : AreReleased shared o1 p launcher reaping hub_seat)
+    (launcher_is : number_of launcher ≡ 1) (reaping_is : number_of reaping ≡ 2) (hub_seat_is : number_of hub_seat ≡ 3) where
   -- what was back before stays so
   keeps : (k : ℕ) (own : List Entry) → slice_index_or (retired_of o1) k None ≡ Some own → slice_index_or (retired_of p) k None ≡ Some own
   keeps k own is =
-      retired-keeps shared rel.second p pass rel.of_pass k own (retired-keeps shared rel.first rel.second reaping rel.of_reaping k own (retired-keeps shared o1 rel.first launcher rel.of_launcher k own is))
+      retired-keeps shared rel.second p hub_seat rel.of_hub_seat k own (retired-keeps shared rel.first rel.second reaping rel.of_reaping k own (retired-keeps shared o1 rel.first launcher rel.of_launcher k own is))
 
   size : length (retired_of p) ≡ clients + 3
-  size = retired-count shared rel.second p pass rel.of_pass ∙ (retired-count shared rel.first rel.second reaping rel.of_reaping ∙ (retired-count shared o1 rel.first launcher rel.of_launcher ∙ (t.count ∙ count)))
+  size = retired-count shared rel.second p hub_seat rel.of_hub_seat ∙ (retired-count shared rel.first rel.second reaping rel.of_reaping ∙ (retired-count shared o1 rel.first launcher rel.of_launcher ∙ (t.count ∙ count)))
 
   none-out : left_of (retired_of p) ≡ 0
   none-out =
@@ -119,7 +119,7 @@ module _ {C : Type 0} (shared : Named Config) (o o1 p old new launcher reaping p
       let l = t.left in
       let b = retired-left shared o1 rel.first launcher rel.of_launcher in
       let c = retired-left shared rel.first rel.second reaping rel.of_reaping in
-      let d = retired-left shared rel.second p pass rel.of_pass in
+      let d = retired-left shared rel.second p hub_seat rel.of_hub_seat in
       omega (arith, a, l, b, c, d, many, count)
 
   -- a place that was filled before those of the three has another number than they
@@ -129,7 +129,7 @@ module _ {C : Type 0} (shared : Named Config) (o o1 p old new launcher reaping p
       let second = retired-keeps shared rel.first rel.second reaping rel.of_reaping k own first in (
         λ e. apart (retired_of o1) (number_of launcher) k own rel.of_launcher.was_out is (e ∙ sym launcher_is),
         λ e. apart (retired_of rel.first) (number_of reaping) k own rel.of_reaping.was_out first (e ∙ sym reaping_is),
-        λ e. apart (retired_of rel.second) (number_of pass) k own rel.of_pass.was_out second (e ∙ sym pass_is),
+        λ e. apart (retired_of rel.second) (number_of hub_seat) k own rel.of_hub_seat.was_out second (e ∙ sym hub_seat_is),
       )
 
   within : (k : ℕ) (own : List Entry) → slice_index_or (retired_of p) k None ≡ Some own → k < clients + 3
@@ -147,24 +147,24 @@ module _ {C : Type 0} (shared : Named Config) (o o1 p old new launcher reaping p
       (retired-only shared o1 rel.first launcher rel.of_launcher k own b))
       (λ (b : (k ≡ number_of reaping) × (own ≡ mine_of reaping)). inl (let e = b.0 in let n = reaping_is in (omega arith, omega arith)))
       (retired-only shared rel.first rel.second reaping rel.of_reaping k own a))
-      (λ (a : (k ≡ number_of pass) × (own ≡ mine_of pass)). inl (let e = a.0 in let n = pass_is in (omega arith, omega arith)))
-      (retired-only shared rel.second p pass rel.of_pass k own is)
+      (λ (a : (k ≡ number_of hub_seat) × (own ≡ mine_of hub_seat)). inl (let e = a.0 in let n = hub_seat_is in (omega arith, omega arith)))
+      (retired-only shared rel.second p hub_seat rel.of_hub_seat k own is)
 
-  pub are-back : AreBack shared p clients desks launcher reaping pass
+  pub are-back : AreBack shared p clients desks launcher reaping hub_seat
   are-back = record {
-    opener = rel.of_pass.opener;
+    opener = rel.of_hub_seat.opener;
     count = size;
     none_out = none-out;
     back = λ i d below. keeps (number_of (slice_index_or desks i d).client) (mine_of (slice_index_or desks i d).client) (t.back i d below);
     numbers = λ i d below. works-at (number_of (slice_index_or desks i d).client) (mine_of (slice_index_or desks i d).client) (t.back i d below);
     launcher_back = subst (λ (n : ℕ). slice_index_or (retired_of p) n None ≡ Some (mine_of launcher)) launcher_is
-        (retired-keeps shared rel.second p pass rel.of_pass (number_of launcher) (mine_of launcher)
+        (retired-keeps shared rel.second p hub_seat rel.of_hub_seat (number_of launcher) (mine_of launcher)
         (retired-keeps shared rel.first rel.second reaping rel.of_reaping (number_of launcher) (mine_of launcher) (retired-place shared o1 rel.first launcher rel.of_launcher)));
     reaping_back = subst (λ (n : ℕ). slice_index_or (retired_of p) n None ≡ Some (mine_of reaping)) reaping_is
-        (retired-keeps shared rel.second p pass rel.of_pass (number_of reaping) (mine_of reaping) (retired-place shared rel.first rel.second reaping rel.of_reaping));
-    pass_back = subst (λ (n : ℕ). slice_index_or (retired_of p) n None ≡ Some (mine_of pass)) pass_is (retired-place shared rel.second p pass rel.of_pass);
+        (retired-keeps shared rel.second p hub_seat rel.of_hub_seat (number_of reaping) (mine_of reaping) (retired-place shared rel.first rel.second reaping rel.of_reaping));
+    hub_seat_back = subst (λ (n : ℕ). slice_index_or (retired_of p) n None ≡ Some (mine_of hub_seat)) hub_seat_is (retired-place shared rel.second p hub_seat rel.of_hub_seat);
     known = known;
     launcher_known = begins-both (seen_of launcher) (seen_of rel.first) (seen_of p) rel.of_launcher.from_client
-        (begins-both (seen_of rel.first) (seen_of rel.second) (seen_of p) rel.of_reaping.from_old rel.of_pass.from_old);
-    pass_known = rel.of_pass.from_client;
+        (begins-both (seen_of rel.first) (seen_of rel.second) (seen_of p) rel.of_reaping.from_old rel.of_hub_seat.from_old);
+    hub_seat_known = rel.of_hub_seat.from_client;
   }

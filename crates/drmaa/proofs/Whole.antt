@@ -13,7 +13,7 @@ use Rattle.drmaa_model.specs.declared.looks.Answer.TheVariants as answer
 use Rattle.drmaa_model.specs.Consistent.{IsConsistent}
 use Rattle.drmaa_model.specs.Fit.{IsFit}
 use Rattle.drmaa_model.specs.History.{IsLegal, replay}
-use Rattle.drmaa_model.specs.Order.{settled}
+use Rattle.drmaa_model.specs.NextLaunch.{settled}
 use Rattle.drmaa_model.specs.Plan.{Plan}
 use Rattle.drmaa_model.specs.SettledLaws.{IsQuiet}
 use Rattle.drmaa_model.specs.Time.{advance, advance_plan}
@@ -76,8 +76,8 @@ module _ {B C T : Type 0} (counted : B → ℕ) (told : B → Option (List Notif
     of-reaper : calls_of history 2 ≡ mine_of x.reaping
     of-reaper = closed.lists 2 (mine_of x.reaping) x.back.reaping_back
 
-    of-hub : calls_of history 3 ≡ mine_of x.pass
-    of-hub = closed.lists 3 (mine_of x.pass) x.back.pass_back
+    of-hub : calls_of history 3 ≡ mine_of x.hub_seat
+    of-hub = closed.lists 3 (mine_of x.hub_seat) x.back.hub_seat_back
 
     of-others : (k : ℕ) → clients + 2 < k → calls_of history k ≡ []
     of-others k above = closed.strangers k (let n = x.back.count in omega arith)
@@ -107,7 +107,7 @@ module _ {B C T : Type 0} (counted : B → ℕ) (told : B → Option (List Notif
         (enough-of top 0 launched (λ a. absurd (let h = a.1 in omega arith)) (cases_lt 0 (length (retired_of p))))
         (enough top 1 (number_of x.launcher.client) (seen_of x.launcher.client) (mine_of x.launcher.client) launched of-launcher x.launcher_knows x.launcher_is)
         (enough top 2 (number_of x.reaping) (seen_of x.reaping) (mine_of x.reaping) reaped of-reaper x.reaping_knows x.reaping_is)
-        (enough top 3 (number_of x.early) (seen_of x.early) (mine_of x.early) (begins-both (seen_of x.early) (seen_of x.launcher.client) top x.from_early launched) (of-hub ∙ x.pass_mine) x.early_knows x.early_is)
+        (enough top 3 (number_of x.early) (seen_of x.early) (mine_of x.early) (begins-both (seen_of x.early) (seen_of x.launcher.client) top x.from_early launched) (of-hub ∙ x.hub_seat_mine) x.early_knows x.early_is)
         (λ k above. enough-of top k launched (λ a. absurd (let h = a.0 in omega arith)) (cases_lt k (length (retired_of p)))))
 
     -- ---- the history
@@ -191,11 +191,11 @@ module _ {B C T : Type 0} (counted : B → ℕ) (told : B → Option (List Notif
         → ((config : Config) → MayBe config hub.note → HaveHeard counted told hub.ears → hub.ears.handed ≡ changes_of config (noted hub.note) → places.HaveHeardAll counted told config (noted hub.note) hub.ears.places hub.ears.begun after)
         → HaveHeardAll counted told shared.fixed history before after
     have-heard before after begun_is count_is silence taken =
-        let top : history ≡ seen_of x.pass = all-within (seen_of x.pass) (begins-both (seen_of x.pass) (seen_of p) history x.back.pass_known closed.seen) x.from_launcher x.from_reaping in
+        let top : history ≡ seen_of x.hub_seat = all-within (seen_of x.hub_seat) (begins-both (seen_of x.hub_seat) (seen_of p) history x.back.hub_seat_known closed.seen) x.from_launcher x.from_reaping in
         let f = x.follows in
         let may : MayBe shared.fixed hub.note = may-note shared hub.note f.note.own in
         let at : noted hub.note ≡ history = f.note.seen_is ∙ sym top in
-        let follows : Follows shared.fixed history hub.ears = subst (λ (h : List Entry). Follows shared.fixed h hub.ears) at (f.kept shared.fixed may) in
+        let follows : Follows shared.fixed history hub.ears = subst (λ (h : List Entry). Follows shared.fixed h hub.ears) at (f.follows shared.fixed may) in
         let handed : hub.ears.handed ≡ changes_of shared.fixed (noted hub.note) = f.handed ∙ ap (λ (h : List Entry). changes_of shared.fixed h) (sym f.note.seen_is) in
         let all : places.HaveHeardAll counted told shared.fixed history hub.ears.places before after =
         subst (λ (l : List B). places.HaveHeardAll counted told shared.fixed history hub.ears.places l after) (x.begun ∙ begun_is)
@@ -203,5 +203,5 @@ module _ {B C T : Type 0} (counted : B → ℕ) (told : B → Option (List Notif
         record {
           as_many = all.as_many;
           each = λ i d below. all.each i d below
-              (some-place shared.fixed history hub follows i (place_at hub.ears.places i) refl (registered-at (mine_of x.pass) hub.ears.places x.numbers x.places i (let m = x.as_many in let c = count_is in omega arith)));
+              (some-place shared.fixed history hub follows i (place_at hub.ears.places i) refl (registered-at (mine_of x.hub_seat) hub.ears.places x.numbers x.places i (let m = x.as_many in let c = count_is in omega arith)));
         }

@@ -13,7 +13,7 @@ use Rattle.drmaa_model.specs.declared.entries.Entry.{Entry}
 use Rattle.drmaa_model.specs.declared.replies.Reply.TheVariants.{Callback}
 use Rattle.drmaa_model.specs.Heard.{heard}
 use Rattle.drmaa_model.specs.History.{IsLegal, replay}
-use Rattle.drmaa_model.specs.Order.{settled}
+use Rattle.drmaa_model.specs.NextLaunch.{settled}
 use Rattle.drmaa_model.specs.SettledLaws.{IsQuiet}
 use Rattle.drmaa_model.specs.Time.{advance}
 use Rattle.call_history.specs.Callers.{calls_of}

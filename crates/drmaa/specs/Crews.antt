@@ -65,7 +65,7 @@ pub record AreBegun {C : Type 0} (given : C → Readings) (shared : Named Config
   pub begun : IsBegun given shared p seats.own
   pub launcher : IsNew shared 1 seats.pair.launcher
   pub reaping : IsNew shared 2 seats.pair.reaping
-  pub pass : IsNew shared 3 seats.pass.client
+  pub hub_seat : IsNew shared 3 seats.hub_seat.client
 
 -- The desks of a work are open, so many, and the clients of launcher, reaper and hub with them.
 pub record AreOpened {C : Type 0} (given : C → Readings) (shared : Named Config) (p : Seat) (clients : ℕ) (desks : List (Desk C)) : Type 0 where
@@ -79,7 +79,7 @@ pub record IsOpened {C : Type 0} (given : C → Readings) (shared : Named Config
   pub desks : AreOpened given shared p clients crew.desks.items
   pub launcher : IsNew shared 1 crew.pair.launcher
   pub reaping : IsNew shared 2 crew.pair.reaping
-  pub pass : IsNew shared 3 crew.pass.client
+  pub hub_seat : IsNew shared 3 crew.hub_seat.client
 
 -- these are the caller's entries in a beginning of what was seen
 pub record IsKnown (top : List Entry) (number : ℕ) (own : List Entry) : Type 0 where
@@ -111,16 +111,16 @@ pub record IsRetired (shared : Named Config) (o p client : Seat) : Type 0 where
   pub own : KnowsItsOwn client
 
 -- The launcher's client came back, then the reaper's, then the hub's.
-pub record AreReleased (shared : Named Config) (o p launcher reaping pass : Seat) : Type 0 where
+pub record AreReleased (shared : Named Config) (o p launcher reaping hub_seat : Seat) : Type 0 where
   pub first : Seat
   pub second : Seat
   pub of_launcher : IsRetired shared o first launcher
   pub of_reaping : IsRetired shared first second reaping
-  pub of_pass : IsRetired shared second p pass
+  pub of_hub_seat : IsRetired shared second p hub_seat
 
 -- All are back: the opener has the entries of each, and has seen what the launcher's client and the hub's had. The launcher's has seen
 -- what those of the work had.
-pub record AreBack {C : Type 0} (shared : Named Config) (p : Seat) (clients : ℕ) (desks : List (Desk C)) (launcher reaping pass : Seat) : Type 0 where
+pub record AreBack {C : Type 0} (shared : Named Config) (p : Seat) (clients : ℕ) (desks : List (Desk C)) (launcher reaping hub_seat : Seat) : Type 0 where
   pub opener : BelongsTo shared p
   pub count : length (retired_of p) ≡ clients + 3
   pub none_out : left_of (retired_of p) ≡ 0
@@ -128,10 +128,10 @@ pub record AreBack {C : Type 0} (shared : Named Config) (p : Seat) (clients : �
   pub numbers : All (λ d. IsWorks clients (number_of d.client)) desks
   pub launcher_back : slice_index_or (retired_of p) 1 None ≡ Some (mine_of launcher)
   pub reaping_back : slice_index_or (retired_of p) 2 None ≡ Some (mine_of reaping)
-  pub pass_back : slice_index_or (retired_of p) 3 None ≡ Some (mine_of pass)
+  pub hub_seat_back : slice_index_or (retired_of p) 3 None ≡ Some (mine_of hub_seat)
   pub known : (number : ℕ) (own : List Entry) → slice_index_or (retired_of p) number None ≡ Some own → ((number < 4) × (0 < number)) ⊎ IsKnown (seen_of launcher) number own
   pub launcher_known : BeginsWith (seen_of p) (seen_of launcher)
-  pub pass_known : BeginsWith (seen_of p) (seen_of pass)
+  pub hub_seat_known : BeginsWith (seen_of p) (seen_of hub_seat)
 
 -- What all clients leave, and the hub with them.
 pub record IsLeft {B C T : Type 0} (counted : B → ℕ) (told : B → Option (List Notification)) (tells : T → Option Told) (Does : List (Desk C) → Type 0) (shared : Named Config) (p : Seat) (clients : ℕ)
@@ -141,8 +141,8 @@ pub record IsLeft {B C T : Type 0} (counted : B → ℕ) (told : B → Option (L
   pub reaping : Seat
   -- the hub's client, when it had registered the callbacks, and at the end
   pub early : Seat
-  pub pass : Seat
-  pub back : AreBack shared p clients desks launcher.client reaping pass
+  pub hub_seat : Seat
+  pub back : AreBack shared p clients desks launcher.client reaping hub_seat
   pub does : Does desks
   pub launcher_is : number_of launcher.client ≡ 1
   pub launcher_knows : KnowsItsOwn launcher.client
@@ -150,11 +150,11 @@ pub record IsLeft {B C T : Type 0} (counted : B → ℕ) (told : B → Option (L
   pub reaping_knows : KnowsItsOwn reaping
   pub early_is : number_of early ≡ 3
   pub early_knows : KnowsItsOwn early
-  pub pass_mine : mine_of pass ≡ mine_of early
+  pub hub_seat_mine : mine_of hub_seat ≡ mine_of early
   -- the launcher's client has seen what the hub's had, and the hub's what launcher and reaper had
   pub from_early : BeginsWith (seen_of launcher.client) (seen_of early)
-  pub from_launcher : BeginsWith (seen_of pass) (seen_of launcher.client)
-  pub from_reaping : BeginsWith (seen_of pass) (seen_of reaping)
+  pub from_launcher : BeginsWith (seen_of hub_seat) (seen_of launcher.client)
+  pub from_reaping : BeginsWith (seen_of hub_seat) (seen_of reaping)
   -- launcher and reaper
   pub at : ℕ → Option (Held T)
   pub hand : Option Hand
@@ -165,9 +165,9 @@ pub record IsLeft {B C T : Type 0} (counted : B → ℕ) (told : B → Option (L
   pub begins : IsOk ended → BeginsWith (seen_of launcher.client) (seen_of reaping)
   pub short : IfErr ended IsShort
   -- the hub
-  pub numbers : RegistersFrom 1 (mine_of pass)
-  pub as_many : length (mine_of pass) ≡ count
-  pub places : HavePlaces (mine_of pass) hub.ears.places
+  pub numbers : RegistersFrom 1 (mine_of hub_seat)
+  pub as_many : length (mine_of hub_seat) ≡ count
+  pub places : HavePlaces (mine_of hub_seat) hub.ears.places
   pub begun : hub.ears.begun ≡ first.ears.begun
   pub heard : HaveHeard counted told first.ears → HaveHeard counted told hub.ears
-  pub follows : FollowsAll shared (seen_of pass) hub
+  pub follows : FollowsAll shared (seen_of hub_seat) hub

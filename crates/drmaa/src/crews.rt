@@ -22,7 +22,7 @@ use std::time::Clock as Pause;
 pub(crate) struct Crew<'a, C: Clock> {
     pub desks: Vec<Desk<'a, C>>,
     pub pair: Pair<C>,
-    pub pass: Seated<C>,
+    pub hub_seat: Seated<C>,
 }
 
 /// The work, beside the hub in a thread of its own.
@@ -41,23 +41,23 @@ fn work_beside_hub<
     desks: &mut Vec<D>,
     work: &mut Option<F>,
     hub: &mut Hub<B>,
-    pass: &mut Seated<C>,
+    hub_seat: &mut Seated<C>,
 ) -> Option<T>
     requires callable { IfSome work.old (λ f. (x : _) → x.now ≡ desks.old.items → F.pre f x) }
-    requires client { IsFree shared.now pass.old.client }
+    requires client { IsFree shared.now hub_seat.old.client }
     requires note { IsNoteOf shared.now hub.old.note }
     requires size { shared.now.fixed.journal < 2 ^ 64 }
     ensures some { IsSome work.old → IsSome result }
     ensures worked { IfSome result (λ value. IfSome work.old (λ f. (x : _) × (y : _) × F.post f x value y × (x.now ≡ desks.old.items) × (y.now ≡ desks.new.items))) }
-    ensures hub { GoesOn B.counted B.told shared.now hub.old pass.old.client hub.new pass.new.client }
+    ensures hub { GoesOn B.counted B.told shared.now hub.old hub_seat.old.client hub.new hub_seat.new.client }
 {
     let ((), worked) = join_mut(
         rt,
         &mut ||
-            requires client { IsFree shared.now pass.now.client }
+            requires client { IsFree shared.now hub_seat.now.client }
             requires note { IsNoteOf shared.now hub.now.note }
             requires size { shared.now.fixed.journal < 2 ^ 64 }
-        { follow(rt, shared, bell, hub, pass, done) },
+        { follow(rt, shared, bell, hub, hub_seat, done) },
         &mut || -> Option<T>
             requires { IfSome work.now (λ f. (x : _) → x.now ≡ desks.now.items → F.pre f x) }
         { work_there(rt, desks, work, done) },
@@ -85,11 +85,11 @@ fn join_all<
     desks: &mut Vec<D>,
     work: &mut Option<F>,
     hub: &mut Hub<B>,
-    pass: &mut Seated<C>,
+    hub_seat: &mut Seated<C>,
 ) -> (Option<Attended<C>>, Option<T>)
     requires pair { IfSome pair.old (ArePlaced shared.now) }
     requires callable { IfSome work.old (λ f. (x : _) → x.now ≡ desks.old.items → F.pre f x) }
-    requires client { IsFree shared.now pass.old.client }
+    requires client { IsFree shared.now hub_seat.old.client }
     requires note { IsNoteOf shared.now hub.old.note }
     requires size { shared.now.fixed.journal < 2 ^ 64 }
     ensures attends { IsSome pair.old → IsSome result.0 }
@@ -98,7 +98,7 @@ fn join_all<
         (get reaper.old.children) (get reaper.new.children) reaper.old.order reaper.new.order a.ended)) }
     ensures works { IsSome work.old → IsSome result.1 }
     ensures worked { IfSome result.1 (λ value. IfSome work.old (λ f. (x : _) × (y : _) × F.post f x value y × (x.now ≡ desks.old.items) × (y.now ≡ desks.new.items))) }
-    ensures hub { GoesOn B.counted B.told shared.now hub.old pass.old.client hub.new pass.new.client }
+    ensures hub { GoesOn B.counted B.told shared.now hub.old hub_seat.old.client hub.new hub_seat.new.client }
 {
     join_mut(
         rt,
@@ -107,10 +107,10 @@ fn join_all<
         { attend_there(rt, shared, bell, pair, spawner, reaper, done) },
         &mut || -> Option<T>
             requires callable { IfSome work.now (λ f. (x : _) → x.now ≡ desks.now.items → F.pre f x) }
-            requires client { IsFree shared.now pass.now.client }
+            requires client { IsFree shared.now hub_seat.now.client }
             requires note { IsNoteOf shared.now hub.now.note }
             requires size { shared.now.fixed.journal < 2 ^ 64 }
-        { work_beside_hub(rt, shared, bell, done, desks, work, hub, pass) },
+        { work_beside_hub(rt, shared, bell, done, desks, work, hub, hub_seat) },
     )
 }
 
@@ -134,23 +134,23 @@ pub(crate) fn work_beside<
     desks: &mut Vec<D>,
     work: F,
     hub: &mut Hub<B>,
-    pass: &mut Seated<C>,
+    hub_seat: &mut Seated<C>,
 ) -> (Attended<C>, T)
     requires pair { ArePlaced shared.now pair }
     requires callable { (x : _) → x.now ≡ desks.old.items → F.pre work x }
-    requires client { IsFree shared.now pass.old.client }
+    requires client { IsFree shared.now hub_seat.old.client }
     requires note { IsNoteOf shared.now hub.old.note }
     requires size { shared.now.fixed.journal < 2 ^ 64 }
     ensures attended { HasAttended C.given C.least S.One.told shared.now pair result.0.pair (S.asked spawner.old) (S.asked spawner.new) (S.fate spawner.old) (S.fate spawner.new)
         (get reaper.old.children) (get reaper.new.children) reaper.old.order reaper.new.order result.0.ended }
     ensures worked { (x : _) × (y : _) × F.post work x result.1 y × (x.now ≡ desks.old.items) × (y.now ≡ desks.new.items) }
-    ensures hub { GoesOn B.counted B.told shared.now hub.old pass.old.client hub.new pass.new.client }
+    ensures hub { GoesOn B.counted B.told shared.now hub.old hub_seat.old.client hub.new hub_seat.new.client }
 {
     let done = Done::new(1);
     let mut pair = Some(pair);
     let mut work = Some(work);
     let (attended, worked) = join_all(
-        rt, shared, bell, &done, &mut pair, spawner, reaper, desks, &mut work, hub, pass,
+        rt, shared, bell, &done, &mut pair, spawner, reaper, desks, &mut work, hub, hub_seat,
     );
     let (Some(attended), Some(value)) = (attended, worked) else {
         unreachable!()

@@ -33,15 +33,15 @@ pub(crate) fn take_back<C: Clock + Drop>(
 }
 
 /// Lets the launcher's client know what the hub's has seen.
-pub(crate) fn tell_launcher(shared: &SharedMachine, pass: &mut Client, launcher: &mut Client)
-    requires pass { IsFree shared.now pass.old }
+pub(crate) fn tell_launcher(shared: &SharedMachine, hub_seat: &mut Client, launcher: &mut Client)
+    requires hub_seat { IsFree shared.now hub_seat.old }
     requires launcher { IsFree shared.now launcher.old }
-    ensures pass { pass.new ≡ pass.old }
+    ensures hub_seat { hub_seat.new ≡ hub_seat.old }
     ensures still { IsStillBeside shared.now launcher.old launcher.new }
     ensures knows { KnowsItsOwn launcher.new }
-    ensures from_pass { BeginsWith (seen_of launcher.new) (seen_of pass.old) }
+    ensures from_hub_seat { BeginsWith (seen_of launcher.new) (seen_of hub_seat.old) }
 {
-    shared.hand_over(pass, launcher);
+    shared.hand_over(hub_seat, launcher);
 }
 
 /// Takes the clients of launcher, reaper and hub back.
@@ -49,12 +49,12 @@ pub(crate) fn release<C: Drop>(
     shared: &SharedMachine,
     opener: &mut MachineOpener,
     pair: Pair<C>,
-    pass: Client,
+    hub_seat: Client,
 )
     requires opener { BelongsTo shared.now opener.old }
     requires pair { ArePlaced shared.now pair }
-    requires pass { IsFree shared.now pass }
-    ensures { AreReleased shared.now opener.old opener.new pair.launcher pair.reaping pass }
+    requires hub_seat { IsFree shared.now hub_seat }
+    ensures { AreReleased shared.now opener.old opener.new pair.launcher pair.reaping hub_seat }
 {
     let Pair {
         launcher,
@@ -64,5 +64,5 @@ pub(crate) fn release<C: Drop>(
     } = pair;
     shared.retire(opener, launcher);
     shared.retire(opener, reaping);
-    shared.retire(opener, pass);
+    shared.retire(opener, hub_seat);
 }

@@ -18,17 +18,17 @@ fn register_number<R: Wait, C: Clock, B: Callback>(
     rt: &R,
     shared: &SharedMachine,
     hub: &mut Hub<B>,
-    pass: &mut Seated<C>,
+    hub_seat: &mut Seated<C>,
     number: usize,
 ) -> Result<(), Refusal>
-    requires client { IsFree shared.now pass.old.client }
-    requires own { KnowsItsOwn pass.old.client }
+    requires client { IsFree shared.now hub_seat.old.client }
+    requires own { KnowsItsOwn hub_seat.old.client }
     requires note { IsNoteOf shared.now hub.old.note }
     requires size { shared.now.fixed.journal < 2 ^ 64 }
-    ensures ok { OnOk result (HasRegistered B.counted B.told shared.now hub.old pass.old.client number hub.new pass.new.client) }
+    ensures ok { OnOk result (HasRegistered B.counted B.told shared.now hub.old hub_seat.old.client number hub.new hub_seat.new.client) }
     ensures err { IfErr result CannotBegin }
 {
-    let given = hub.register(rt, shared, &mut pass.client, &mut pass.clock)?;
+    let given = hub.register(rt, shared, &mut hub_seat.client, &mut hub_seat.clock)?;
     if given as usize == number {
         Ok(())
     } else {
@@ -45,19 +45,19 @@ pub(crate) fn register_all<R: Wait, C: Clock, B: Callback>(
     rt: &R,
     shared: &SharedMachine,
     hub: &mut Hub<B>,
-    pass: &mut Seated<C>,
+    hub_seat: &mut Seated<C>,
     count: usize,
 ) -> Result<(), Refusal>
-    requires client { IsFree shared.now pass.old.client }
-    requires own { KnowsItsOwn pass.old.client }
-    requires new { mine_of pass.old.client ≡ [] }
+    requires client { IsFree shared.now hub_seat.old.client }
+    requires own { KnowsItsOwn hub_seat.old.client }
+    requires new { mine_of hub_seat.old.client ≡ [] }
     requires note { IsNoteOf shared.now hub.old.note }
     requires size { shared.now.fixed.journal < 2 ^ 64 }
-    ensures ok { OnOk result (HaveRegistered B.counted B.told shared.now hub.old pass.old.client count hub.new pass.new.client) }
+    ensures ok { OnOk result (HaveRegistered B.counted B.told shared.now hub.old hub_seat.old.client count hub.new hub_seat.new.client) }
     ensures err { IfErr result CannotBegin }
 {
     for place in 0..count {
-        register_number(rt, shared, hub, pass, place + 1)?;
+        register_number(rt, shared, hub, hub_seat, place + 1)?;
     }
     Ok(())
 }

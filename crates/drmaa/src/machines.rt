@@ -93,9 +93,9 @@ fn run_crew<
     let Crew {
         mut desks,
         pair,
-        mut pass,
+        mut hub_seat,
     } = crew;
-    register_all(rt, shared, hub, &mut pass, count)?;
+    register_all(rt, shared, hub, &mut hub_seat, count)?;
     let mut reaper = Reaper::new(alloc);
     let (attended, value) = work_beside(
         rt,
@@ -107,17 +107,17 @@ fn run_crew<
         &mut desks,
         work,
         hub,
-        &mut pass,
+        &mut hub_seat,
     );
     let Attended { mut pair, ended } = attended;
     take_back(shared, opener, &mut pair.launcher, desks);
-    tell_launcher(shared, &mut pass.client, &mut pair.launcher);
+    tell_launcher(shared, &mut hub_seat.client, &mut pair.launcher);
     let Attended {
         mut pair,
         ended: attended,
     } = attend_last(rt, shared, bell, pair, spawner, &mut reaper, ended);
-    pump_last(rt, shared, hub, &mut pair, &mut pass);
-    release(shared, opener, pair, pass.client);
+    pump_last(rt, shared, hub, &mut pair, &mut hub_seat);
+    release(shared, opener, pair, hub_seat.client);
     nothing_is_kept::<S::One>();
     Ok(Left { value, attended })
 }

@@ -35,7 +35,7 @@ fn seat<K: Clocks>(
 struct Seats<C> {
     own: Seated<C>,
     pair: Pair<C>,
-    pass: Seated<C>,
+    hub_seat: Seated<C>,
 }
 
 /// The clients of the work's first desk, of the launcher, of the reaper and of the hub, in this order.
@@ -52,7 +52,7 @@ fn open_seats<K: Clocks>(
     let own = seat(shared, opener, clocks, 0);
     let launcher = seat(shared, opener, clocks, 1);
     let reaping = seat(shared, opener, clocks, 2);
-    let pass = seat(shared, opener, clocks, 3);
+    let hub_seat = seat(shared, opener, clocks, 3);
     Seats {
         own,
         pair: Pair {
@@ -61,7 +61,7 @@ fn open_seats<K: Clocks>(
             reaping: reaping.client,
             reaping_clock: reaping.clock,
         },
-        pass,
+        hub_seat,
     }
 }
 
@@ -129,7 +129,15 @@ pub(crate) fn open_crew<'a, K: Clocks>(
     requires most { clients ≤ 65_535 }
     ensures { IfOk result (IsOpened K.One.given shared.now opener.new clients) }
 {
-    let Seats { own, pair, pass } = open_seats(shared, opener, clocks);
+    let Seats {
+        own,
+        pair,
+        hub_seat,
+    } = open_seats(shared, opener, clocks);
     let desks = open_desks(alloc, shared, bell, opener, clocks, own, clients)?;
-    Ok(Crew { desks, pair, pass })
+    Ok(Crew {
+        desks,
+        pair,
+        hub_seat,
+    })
 }

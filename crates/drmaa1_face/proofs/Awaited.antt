@@ -51,7 +51,7 @@ module _ (config : Config) (old new : Post) (session : SessionId) (jobs : List â
     last = w.last;
     gave = w.gave;
     least = w.least;
-    order = w.order;
+    climb = w.climb;
     rising = w.rising;
     early = w.early;
     decided = decided;

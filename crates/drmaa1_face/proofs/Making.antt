@@ -16,7 +16,8 @@ use Rattle.call_history.specs.Clients.{Seat, seen_of, mine_of, number_of, StaysA
 use Rattle.call_history.specs.Clocks.{Dial, IsReading}
 use Rattle.call_history.specs.Refused.{IsRefused}
 use Rattle.call_history.specs.Refused.IsRefused.{by_entry as refused_by_entry, by_fault as refused_by_fault}
-use Rattle.wait_calls.specs.Waited.{Climb, readings_of}
+use Rattle.wait_calls.specs.Waited.{readings_of}
+use Rattle.wait_calls.proofs.Waiting.{climbed}
 use Rattle.wait_calls.proofs.Seats.{still-stays}
 use Rattle.drmaa1_face.specs.Posts.{Post}
 use Rattle.drmaa1_face.specs.Steps.{Ask, at_once, waiting, Step, reads, enters, Enters, Takes, Follows, AreEntriesOf, IsMade, Halts, Stops}
@@ -74,15 +75,11 @@ made-one config old new (waiting session jobs begun timeout) told same w = recor
 
 -- ---- no reading is below an earlier one
 
-climbed : (from to : ℕ) (rs : List ℕ) → Climb from rs to → from ≤ to
-climbed from to [] c = c
-climbed from to (r ∷ rs) c = let d = climbed r to rs c.1 in omega (arith, c.0, d)
-
 takes-least : (config : Config) (old new : Post) (s : Step) → Takes config old s new → old.clock.least ≤ new.clock.least
 takes-least config old new (reads at) t = omega (arith, t.1.least, t.1.rising)
 takes-least config old new (enters (at_once c) told) t = omega (arith, t.read.least, t.read.rising)
 takes-least config old new (enters (waiting session jobs begun timeout) told) t =
-    let d = climbed t.waited.begun t.waited.last (readings_of t.waited.looks) t.waited.order in
+    let d = climbed t.waited.begun t.waited.last (readings_of t.waited.looks) t.waited.climb in
     omega (arith, t.waited.least, d, t.waited.rising)
 
 pub follows-least : (config : Config) (old new : Post) (xs : List Step) → Follows config old xs new → old.clock.least ≤ new.clock.least

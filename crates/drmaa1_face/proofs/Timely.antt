@@ -19,7 +19,7 @@ use Rattle.drmaa_model.specs.Controlling.{reap_tests}
 use Rattle.drmaa_model.specs.Effects.{StepAnswer, gives}
 use Rattle.drmaa_model.specs.History.{IsLegal, replay}
 use Rattle.drmaa_model.specs.Homes.{session_test, reap_test, reapers}
-use Rattle.drmaa_model.specs.KeptCalls.{kept}
+use Rattle.drmaa_model.specs.RecordedCalls.{recorded}
 use Rattle.drmaa_model.specs.Steps.{answer}
 use Rattle.drmaa_model.specs.Time.{advance}
 use Rattle.drmaa_model.specs.World.{World}
@@ -70,13 +70,13 @@ reaping-timely w at session job =
     ])
     (λ free next same. cc)
 
-module _ (config : Config) (old new : Post) (c : Call) (legal : IsLegal config (seen_of new.client)) (timely : (w : World) (at : _) → IsTimely (answer w at (kept c))) where
+module _ (config : Config) (old new : Post) (c : Call) (legal : IsLegal config (seen_of new.client)) (timely : (w : World) (at : _) → IsTimely (answer w at (recorded c))) where
   served-timely : IsServed old.clock old.client c (reply.Refused why.Timeout) new.clock new.client → ⊥
   served-timely s =
       let step = made-step config old.client (entry_by (number_of old.client) s.at c (reply.Refused why.Timeout)) new.client legal s.made in
       timely (replay config (seen_of old.client ++ s.made.between)) s.at _ step.answered
 
-module _ (config : Config) (old new : Post) (c : Call) (legal : IsLegal config (seen_of new.client)) (timely : (w : World) (at : _) → IsTimely (answer w at (kept c))) where
+module _ (config : Config) (old new : Post) (c : Call) (legal : IsLegal config (seen_of new.client)) (timely : (w : World) (at : _) → IsTimely (answer w at (recorded c))) where
   halts-timely : Halts config old [] (at_once c) why.Timeout new → ⊥
   halts-timely (by_entry m) =
       served-timely config old m.follows.0 c (subst (λ (p : Post). IsLegal config (seen_of p.client)) m.follows.3 legal) timely m.follows.2

@@ -13,7 +13,7 @@ use Rattle.drmaa_model.specs.declared.faults.NoEntry.{NoEntry}
 use Rattle.drmaa_model.specs.declared.replies.Reply.{Reply}
 use Rattle.drmaa_model.specs.declared.replies.Reply.TheVariants as reply
 use Rattle.drmaa_model.specs.History.{replay}
-use Rattle.drmaa_model.specs.KeptCalls.{kept}
+use Rattle.drmaa_model.specs.RecordedCalls.{recorded}
 use Rattle.drmaa_machine.specs.Chronicles.{MakesNone}
 use Rattle.call_history.specs.Calls.{entry_by, IsServed, IsUnserved}
 use Rattle.call_history.specs.Clients.{Seat, seen_of, mine_of, number_of, SeesMore}
@@ -80,7 +80,7 @@ pub record IsMade (config : Config) (old : Post) (steps : List Step) (new : Post
 -- a wait made no entry: at its last look memory ran out, or the journal would be too large, after all that is seen then
 abbrev pub MakesNoEntry : Config → Seat → Refusal → Seat → Call → ℕ → Type 0
 MakesNoEntry config old why new asked last =
-    (f : NoEntry) × (refusal_of f ≡ Some why) × SeesMore old new × MakesNone (replay config (seen_of new)) last (kept asked) f
+    (f : NoEntry) × (refusal_of f ≡ Some why) × SeesMore old new × MakesNone (replay config (seen_of new)) last (recorded asked) f
 
 pub data IsUnwaited (config : Config) (old : Post) (session : SessionId) (jobs : List ℕ) (timeout : Timeout) (why : Refusal) (new : Post) : Type 0 where
   -- there was no memory for the list of the one job, and nothing was asked

@@ -10,11 +10,11 @@ use Rattle.drmaa_model.specs.declared.faults.NoEntry.{NoEntry}
 use Rattle.drmaa_model.specs.declared.faults.NoEntry.TheVariants as fault
 use Rattle.drmaa_model.specs.declared.replies.Reply.{Reply}
 use Rattle.drmaa_model.specs.declared.replies.Reply.TheVariants as reply
-use Rattle.drmaa_model.specs.AnswerLaws.{refused-gives}
+use Rattle.drmaa_model.specs.AnswerLaws.{given-reply, given-world, refused-gives}
 use Rattle.drmaa_model.specs.Consistent.{IsConsistent}
 use Rattle.drmaa_model.specs.Effects.{StepAnswer, gives, nothing, not_yet}
 use Rattle.drmaa_model.specs.Honoured.{reservations-honoured}
-use Rattle.drmaa_model.specs.Order.{next_launch}
+use Rattle.drmaa_model.specs.NextLaunch.{next_launch}
 use Rattle.drmaa_model.specs.Size.{size}
 use Rattle.drmaa_model.specs.StepLaws.{advance-consistent, step-edges}
 use Rattle.drmaa_model.specs.Steps.{answer, IsStep}
@@ -26,8 +26,8 @@ use Rattle.machine_calls.specs.Serving.{Comes, is_sized_first}
 use Rattle.machine_calls.specs.Serving.Comes.{answers, is_full, finds_none, waits, is_short}
 use Rattle.drmaa_machine.specs.Applies.{ComesTo, entry_of}
 use Rattle.drmaa_machine.specs.Applying.{IsTooLarge, is_submission}
-use Rattle.drmaa_machine.proofs.KeptOnes.{sized-or}
-use Rattle.drmaa_machine.proofs.Refusing.{given-reply, given-world, refused-for, over-answer}
+use Rattle.drmaa_machine.proofs.RecordedLaws.{sized-or}
+use Rattle.drmaa_machine.proofs.Refusing.{refused-for, over-answer}
 
 gives-nothing : (r : Reply) (w : World) → gives r w ≡ nothing → ⊥
 gives-nothing r w e = cc
@@ -191,7 +191,7 @@ module _ (w : World) (caller : CallerId) (at : ℕ) (asked : Call) where
   -- the replies and the next world of a call that is served
   pub record Answered (replies : Replies) (next : World) : Type 0 where
     pub answered : answer w at asked ≡ gives replies.told next
-    pub twice : replies.kept ≡ replies.told
+    pub twice : replies.recorded ≡ replies.told
     pub within : size next ≤ w.config.journal
 
   same-replies : (r s : Replies) → ◌≡◌ {A = Result Replies NoEntry} (Ok r) (Ok s) → r ≡ s

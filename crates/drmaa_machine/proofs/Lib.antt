@@ -1,6 +1,6 @@
 pub mod Askings
 pub mod Comings
-pub mod KeptOnes
+pub mod RecordedLaws
 pub mod Refusing
 pub mod Storing
 pub mod Tellings

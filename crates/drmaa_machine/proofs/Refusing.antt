@@ -1,5 +1,5 @@
 -- Which refusals a call is answered: those of its table, and at a wait a timeout.
-use Rattle.std.proofs.Common.{◌≡◌, ℕ, ◌+◌, true, false, inl, inr, List, Option, Some, None, refl, sym, ◌∙◌, ap, subst}
+use Rattle.std.proofs.Common.{◌≡◌, ℕ, ◌+◌, true, false, inl, inr, List, Some, None, refl, sym, ◌∙◌, ap, subst}
 use Rattle.std.specs.Prelude.{◌⊎◌}
 use Rattle.std.specs.Option.{option_map_or}
 use Rattle.drmaa_types.specs.declared.identifiers.JobId.{JobId}
@@ -11,16 +11,14 @@ use Rattle.drmaa_types.specs.declared.refusals.Refusal.TheVariants as why
 use Rattle.drmaa_types.specs.declared.states.WaitKind.{WaitKind}
 use Rattle.drmaa_model.specs.declared.calls.Call.{Call}
 use Rattle.drmaa_model.specs.declared.calls.Call.TheVariants as call
-use Rattle.drmaa_model.specs.declared.replies.Reply.{Reply}
 use Rattle.drmaa_model.specs.declared.replies.Reply.TheVariants as reply
 use Rattle.drmaa_model.specs.declared.reservations.Accepted.{Accepted}
 use Rattle.drmaa_model.specs.declared.rows.Row.{Row}
-use Rattle.drmaa_model.specs.AnswerLaws.{refused-gives, served-gives}
-use Rattle.drmaa_model.specs.Effects.{StepAnswer, gives, nothing, not_yet, makes, effect, through_some, info_reply, reservation_reply, wait_answer}
+use Rattle.drmaa_model.specs.AnswerLaws.{given-reply, given-world, refused-gives, served-gives, some-cases}
+use Rattle.drmaa_model.specs.Effects.{StepAnswer, gives, nothing, not_yet, makes, effect, info_reply, reservation_reply, wait_answer}
 use Rattle.drmaa_model.specs.Infos.{info, reservation_info}
 use Rattle.drmaa_model.specs.Launching.{launch, signal}
 use Rattle.drmaa_model.specs.Load.{reservation_of}
-use Rattle.drmaa_model.specs.Operation.{Operation}
 use Rattle.drmaa_model.specs.Refusals.{refusal}
 use Rattle.drmaa_model.specs.ReplyKinds.{kind_of_reply, a_refusal}
 use Rattle.drmaa_model.specs.Rows.{row_of}
@@ -30,12 +28,6 @@ use Rattle.drmaa_model.specs.WaitLaws.{wait-timeout}
 use Rattle.drmaa_model.specs.Waiting.{first_reached, is_timed_out}
 use Rattle.drmaa_model.specs.World.{World, counted}
 use Rattle.drmaa_machine.specs.Applying.{IsOver, IsRefusedFor}
-
-pub given-reply : (r s : Reply) (v w : World) → gives r v ≡ gives s w → r ≡ s
-given-reply r s v w same = cc
-
-pub given-world : (r s : Reply) (v w : World) → gives r v ≡ gives s w → v ≡ w
-given-world r s v w same = cc
 
 same-why : (a b : Refusal) → reply.Refused a ≡ reply.Refused b → a ≡ b
 same-why a b same = cc
@@ -51,14 +43,6 @@ Quiet not_yet = Unit {0}
 quiet-never : (a : StepAnswer) (reason : Refusal) (next : World) → Quiet a → a ≡ gives (reply.Refused reason) next → ⊥
 unfolding Quiet
 quiet-never a reason next quiet is = (let never : kind_of_reply (reply.Refused reason) ≡ a_refusal → ⊥ = subst Quiet is quiet in never refl)
-
-quiet-some : {A : Type 0} (tell : A → Reply) (op : Operation (Option A)) (w : World) → ((told : A) → kind_of_reply (tell told) ≡ a_refusal → ⊥) → Quiet (through_some tell op w)
-unfolding Quiet
-quiet-some tell op w each =
-    elim (op.told w.plan) as (λ o. Quiet (option_map_or (λ told. makes (tell told) (record w { plan = op.effect (w.entries + 1) w.plan })) o nothing)) [
-      | None ↦ tt
-      | Some told ↦ each told
-    ]
 
 quiet-info : (w : World) (job : JobId) → kind_of_reply (info_reply w job) ≡ a_refusal → ⊥
 quiet-info w job =
@@ -87,8 +71,8 @@ unfolding Quiet
 effect-quiet at w (call.GetInfo session job) = inl (quiet-info w job)
 effect-quiet at w (call.Wait session listed kind begun timeout) = inr (record { session = session; listed = listed; kind = kind; begun = begun; timeout = timeout; is = refl })
 effect-quiet at w (call.GetReservation session number) = inl (quiet-reservation w number)
-effect-quiet at w call.TakeLaunch = inl (quiet-some reply.Launch launch w (λ told e. absurd (cc)))
-effect-quiet at w call.TakeSignal = inl (quiet-some reply.Signal signal w (λ told e. absurd (cc)))
+effect-quiet at w call.TakeLaunch = inl (some-cases Quiet reply.Launch launch w tt (λ told e. absurd (cc)))
+effect-quiet at w call.TakeSignal = inl (some-cases Quiet reply.Signal signal w tt (λ told e. absurd (cc)))
 effect-quiet at w _ = inl (λ e. absurd (cc))
 
 -- ---- a refusal

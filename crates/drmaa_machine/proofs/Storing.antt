@@ -14,7 +14,7 @@ use Rattle.drmaa_model.specs.Effects.{gives}
 use Rattle.drmaa_model.specs.History.{Ledger, IsLegal, now_of}
 use Rattle.drmaa_model.specs.HistoryLaws.{legal-push, replay-step}
 use Rattle.drmaa_model.specs.Honoured.{IsOnTime, IsDueInside, honoured-slots}
-use Rattle.drmaa_model.specs.Order.{held}
+use Rattle.drmaa_model.specs.NextLaunch.{held}
 use Rattle.drmaa_model.specs.Size.{size}
 use Rattle.drmaa_model.specs.SizeLaws.{legal-length}
 use Rattle.drmaa_model.specs.StepLaws.{advance-consistent, step-consistent, step-moment}
@@ -36,7 +36,7 @@ same-ledger c d h i a b =
 
 module _ (s : Store) (m : IsMachine s) where
   pub now-consistent : IsConsistent (now_of (ledger_of s))
-  now-consistent = subst IsConsistent m.replayed m.kept.consistent
+  now-consistent = subst IsConsistent m.replayed m.store.consistent
 
   pub now-moment : (now_of (ledger_of s)).plan.moment ≤ greatest
   now-moment = subst (λ (w : World). w.plan.moment ≤ greatest) m.replayed m.moment
@@ -47,7 +47,7 @@ module _ (s : Store) (m : IsMachine s) where
   slots-free at coming row time due =
       let now = m.moment in
       let low : max s.core.plan.moment at ≤ greatest = omega (arith, now, coming) in
-      honoured-slots (world_at at s).plan row low (advance-consistent (world_of s) at m.kept.consistent).fit time due
+      honoured-slots (world_at at s).plan row low (advance-consistent (world_of s) at m.store.consistent).fit time due
 
   -- nothing but memory has changed
   pub machine-same : (t : Store) → Keeps s t → world_of t ≡ world_of s → IsMachine t × (ledger_of t ≡ ledger_of s)
@@ -56,14 +56,14 @@ module _ (s : Store) (m : IsMachine s) where
       let journal : t.config.journal ≡ s.config.journal = ap (λ (c : Config). c.journal) keeps.config in
       let size_is : size (world_of t) ≡ size (world_of s) = ap size same in
       let reports : reports_to_come t.core.plan.rows ≡ reports_to_come s.core.plan.rows = ap (λ (w : World). reports_to_come w.plan.rows) same in
-      let fits = m.kept.within in
-      let low = m.kept.journal in
-      let room = m.kept.room in
+      let fits = m.store.within in
+      let low = m.store.journal in
+      let room = m.store.room in
       let len = keeps.len in
       let more = keeps.more in (
         record {
-          kept = record {
-            consistent = subst IsConsistent (sym same) m.kept.consistent;
+          store = record {
+            consistent = subst IsConsistent (sym same) m.store.consistent;
             within = omega (arith, journal, size_is, fits);
             journal = omega (arith, journal, low);
             room = omega (arith, reports, room, len, more);
@@ -79,7 +79,7 @@ module _ (s : Store) (m : IsMachine s) where
     -- a call that makes no entry
     pub applies-err : (t : Store) (e : NoEntry) → Keeps s t → at ≤ greatest → Comes (world_of s) at asked (Err e) (world_of t) → IsMachine t × Applies (ledger_of s) caller at asked (Err e) (ledger_of t)
     applies-err t e keeps coming comes =
-        let both = comes-err (world_of s) caller at asked e (world_of t) m.kept.consistent m.moment coming comes in
+        let both = comes-err (world_of s) caller at asked e (world_of t) m.store.consistent m.moment coming comes in
         let after = machine-same t keeps both.1 in
         let now : world_of s ≡ now_of (ledger_of s) = m.replayed in
         let then : world_of t ≡ now_of (ledger_of t) = after.0.replayed in (
@@ -94,7 +94,7 @@ module _ (s : Store) (m : IsMachine s) where
 
     -- a call that makes one
     pub applies-ok : (mid t : Store) (replies : Replies) → Keeps s mid → HasPlace 1 mid → at ≤ greatest → Comes (world_of s) at asked (Ok replies) (world_of mid)
-        → world_of t ≡ world_of mid → t.history.items ≡ mid.history.items ++ entry_of caller at asked replies.kept ∷ []
+        → world_of t ≡ world_of mid → t.history.items ≡ mid.history.items ++ entry_of caller at asked replies.recorded ∷ []
         → vec_len t.history ≡ vec_len mid.history + 1 → vec_capacity t.history ≡ vec_capacity mid.history
         → IsMachine t × Applies (ledger_of s) caller at asked (Ok replies.told) (ledger_of t)
     applies-ok mid t replies keeps place coming comes same items len capacity =
@@ -112,17 +112,17 @@ module _ (s : Store) (m : IsMachine s) where
         let step : IsStep w entry next = record { answered = answered; within = within } in
         let config : t.config ≡ s.config = ap (λ (v : World). v.config) same ∙ keeps.config in
         let items_are : t.history.items ≡ s.history.items ++ entry ∷ [] =
-        items ∙ ap (λ (h : List Entry). h ++ entry_of caller at asked replies.kept ∷ []) keeps.items ∙ ap (λ (r : Reply). s.history.items ++ entry_of caller at asked r ∷ []) old.twice in
+        items ∙ ap (λ (h : List Entry). h ++ entry_of caller at asked replies.recorded ∷ []) keeps.items ∙ ap (λ (r : Reply). s.history.items ++ entry_of caller at asked r ∷ []) old.twice in
         let ledger : ledger_of t ≡ served was entry = same-ledger t.config s.config t.history.items (s.history.items ++ entry ∷ []) config items_are in
         let replayed : now_of (ledger_of t) ≡ next = ap now_of ledger ∙ replay-step s.config s.history.items entry next step in
         let ok : IsConsistent w = now-consistent in
         let journal : t.config.journal ≡ s.config.journal = ap (λ (c : Config). c.journal) config in
         let reports : reports_to_come t.core.plan.rows ≡ reports_to_come mid.core.plan.rows = ap (λ (v : World). reports_to_come v.plan.rows) same in
-        let few = m.kept.journal in
+        let few = m.store.journal in
         let before = now-moment in
         let moment = step-moment w entry next ok step in (
           record {
-            kept = record {
+            store = record {
               consistent = step-consistent w entry next ok step;
               within = omega (arith, journal, journal_was, within);
               journal = omega (arith, journal, few);
@@ -147,4 +147,4 @@ keeps-all s = record { config = refl; items = refl; len = refl; more = omega ari
 
 -- a machine has no more entries than the greatest journal
 pub few-entries : (s : Store) → IsMachine s → length s.history.items ≤ 4000000
-few-entries s m = let within = legal-length s.config s.history.items m.legal in let most = m.kept.journal in omega (arith, within, most)
+few-entries s m = let within = legal-length s.config s.history.items m.legal in let most = m.store.journal in omega (arith, within, most)

@@ -11,7 +11,7 @@ use Rattle.drmaa_model.specs.declared.faults.NoEntry.TheVariants as fault
 use Rattle.drmaa_model.specs.declared.replies.Reply.{Reply}
 use Rattle.drmaa_model.specs.Effects.{nothing, not_yet}
 use Rattle.drmaa_model.specs.History.{IsLegal, replay}
-use Rattle.drmaa_model.specs.KeptCalls.{kept}
+use Rattle.drmaa_model.specs.RecordedCalls.{recorded}
 use Rattle.drmaa_model.specs.Refusals.{refusal}
 use Rattle.drmaa_model.specs.Steps.{answer}
 use Rattle.drmaa_model.specs.Time.{advance}
@@ -31,9 +31,9 @@ untold e = record { caller = e.caller; at = e.ask.at; call = e.ask.call; reply =
 abbrev pub history_of : List (ChronicleEntry Ask Reply) → List Entry
 history_of entries = map untold entries
 
--- what is kept of what is asked: the kept call, at the same moment
-abbrev pub kept_ask : Ask → Ask
-kept_ask ask = record { at = ask.at; call = kept ask.call }
+-- what is recorded of what is asked: the recorded call, at the same moment
+abbrev pub recorded_ask : Ask → Ask
+recorded_ask ask = record { at = ask.at; call = recorded ask.call }
 
 -- the entries of a lock's history are legal
 abbrev pub IsLegalTold : Config → List (ChronicleEntry Ask Reply) → Type 0
@@ -59,4 +59,4 @@ pub record MakesNone (w : World) (at : ℕ) (asked : Call) (why : NoEntry) : Typ
 
 -- the same after the entries of a lock's history, to whoever asks
 abbrev pub FailsTold : Config → List (ChronicleEntry Ask Reply) → CallerId → Ask → NoEntry → Type 0
-FailsTold config entries caller ask why = MakesNone (replay config (history_of entries)) ask.at (kept ask.call) why
+FailsTold config entries caller ask why = MakesNone (replay config (history_of entries)) ask.at (recorded ask.call) why

@@ -10,7 +10,7 @@ use Rattle.drmaa_model.specs.declared.looks.Question.{Question}
 use Rattle.drmaa_model.specs.declared.looks.Question.TheVariants as question
 use Rattle.drmaa_model.specs.declared.rows.Row.{Row}
 use Rattle.drmaa_model.specs.Homes.{home_in}
-use Rattle.drmaa_model.specs.Order.{held, settled}
+use Rattle.drmaa_model.specs.NextLaunch.{held, settled}
 use Rattle.drmaa_model.specs.Rows.{row_of}
 use Rattle.drmaa_model.specs.Size.{size}
 use Rattle.drmaa_model.specs.World.{World, counted}

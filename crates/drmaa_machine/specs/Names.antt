@@ -2,7 +2,7 @@
 use Rattle.std.specs.Prelude.{Bool, List}
 use Rattle.std.specs.List.{list_all}
 use Rattle.job_template.specs.declared.templates.ResourceLimit.{ResourceLimit}
-use Rattle.drmaa_model.specs.KeptCalls.{is_word}
+use Rattle.drmaa_model.specs.RecordedCalls.{is_word}
 
 abbrev pub has_words : List ResourceLimit → Bool
 has_words limits = list_all (λ (limit : ResourceLimit). is_word limit.name) limits

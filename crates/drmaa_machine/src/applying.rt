@@ -3,8 +3,8 @@ ghost use Rattle.std.specs.Prelude.{◌≡◌, ◌≢◌, ◌+◌, ◌≤◌, �
 ghost use Rattle.drmaa_types.specs.Moments.{greatest};
 ghost use Rattle.drmaa_model.specs.declared.rows.Row.{Row};
 ghost use Rattle.drmaa_model.specs.Honoured.{IsOnTime, IsDueInside};
-ghost use Rattle.drmaa_model.specs.KeptCalls.{kept};
-ghost use Rattle.drmaa_model.specs.Order.{held};
+ghost use Rattle.drmaa_model.specs.RecordedCalls.{recorded};
+ghost use Rattle.drmaa_model.specs.NextLaunch.{held};
 ghost use Rattle.drmaa_model.specs.Refusals.{refusal};
 ghost use Rattle.machine_readings.specs.Stores.{world_of, world_at};
 ghost use Rattle.machine_calls.specs.Serving.{HasPlace, spare_of};
@@ -12,8 +12,8 @@ ghost use Rattle.drmaa_machine.specs.Applies.{Applies, entry_of};
 ghost use Rattle.drmaa_machine.specs.Applying.{is_foreseen, is_frugal, is_run_report};
 ghost use Rattle.drmaa_machine.specs.Invariant.{IsMachine, ledger_of};
 
-use crate::kept_calls::kept_call;
 use crate::performs::perform;
+use crate::recorded_calls::recorded_call;
 use drmaa_model::{Call, Entry, NoEntry, Reply};
 use drmaa_types::{CallerId, Moment};
 use machine_calls::Replies;
@@ -23,19 +23,19 @@ use machine_readings::Store;
 pub fn serve(store: &mut Store, caller: CallerId, at: Moment, call: Call) -> Result<Reply, NoEntry>
     requires machine { IsMachine store.old }
     ensures machine { IsMachine store.new }
-    ensures applies { Applies (ledger_of store.old) caller at (kept call) result (ledger_of store.new) }
-    ensures memory { is_foreseen (kept call) ≡ true → 1 ≤ spare_of store.old → result ≢ Err NoEntry.OutOfMemory }
-    ensures spare { is_frugal (kept call) ≡ true → spare_of store.old ≤ spare_of store.new + 1 }
-    ensures reports { is_run_report (kept call) ≡ true → refusal (world_at at store.old) (kept call) ≡ None → IsOk result }
-    ensures promised { is_run_report (kept call) ≡ true → refusal (world_at at store.old) (kept call) ≡ None → spare_of store.old ≤ spare_of store.new }
+    ensures applies { Applies (ledger_of store.old) caller at (recorded call) result (ledger_of store.new) }
+    ensures memory { is_foreseen (recorded call) ≡ true → 1 ≤ spare_of store.old → result ≢ Err NoEntry.OutOfMemory }
+    ensures spare { is_frugal (recorded call) ≡ true → spare_of store.old ≤ spare_of store.new + 1 }
+    ensures reports { is_run_report (recorded call) ≡ true → refusal (world_at at store.old) (recorded call) ≡ None → IsOk result }
+    ensures promised { is_run_report (recorded call) ≡ true → refusal (world_at at store.old) (recorded call) ≡ None → spare_of store.old ≤ spare_of store.new }
     ensures unspent { OnErr result (spare_of store.old ≤ spare_of store.new) }
     ensures honoured_slots { (row : Row) → IsOnTime (world_at at store.old).plan → IsDueInside (world_at at store.old).plan row
         → held (world_at at store.old).plan.rows + row.wants.min ≤ (world_at at store.old).plan.total }
 {
     a_moment_is_within(at);
-    match kept_call(store.alloc, call) {
-        Ok(kept) => match perform(store, at, &kept) {
-            Ok(replies) => Ok(push(store, caller, at, kept, replies)),
+    match recorded_call(store.alloc, call) {
+        Ok(recorded) => match perform(store, at, &recorded) {
+            Ok(replies) => Ok(push(store, caller, at, recorded, replies)),
             Err(why) => Err(why),
         },
         Err(_) => Err(NoEntry::OutOfMemory),
@@ -55,7 +55,7 @@ fn push(store: &mut Store, caller: CallerId, at: Moment, call: Call, replies: Re
     ensures told { result ≡ replies.told }
     ensures world { world_of store.new ≡ world_of store.old }
     ensures core { store.new.core ≡ store.old.core }
-    ensures items { store.new.history.items ≡ store.old.history.items ++ entry_of caller at call replies.kept ∷ [] }
+    ensures items { store.new.history.items ≡ store.old.history.items ++ entry_of caller at call replies.recorded ∷ [] }
     ensures len { vec_len store.new.history ≡ vec_len store.old.history + 1 }
     ensures capacity { vec_capacity store.new.history ≡ vec_capacity store.old.history }
 {
@@ -63,7 +63,7 @@ fn push(store: &mut Store, caller: CallerId, at: Moment, call: Call, replies: Re
         caller,
         at,
         call,
-        reply: replies.kept,
+        reply: replies.recorded,
     });
     replies.told
 }

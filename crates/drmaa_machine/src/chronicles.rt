@@ -12,7 +12,7 @@ pub struct Ask {
 
 impl Chronicle for Machine {
     ghost use Rattle.std.specs.Prelude.{map};
-    ghost use Rattle.drmaa_machine.specs.Chronicles.{told, kept_ask, IsLegalTold, FailsTold};
+    ghost use Rattle.drmaa_machine.specs.Chronicles.{told, recorded_ask, IsLegalTold, FailsTold};
 
     type Ask = Ask;
 
@@ -26,7 +26,7 @@ impl Chronicle for Machine {
 
     ghost fixed = { λ m. m.ledger.config };
 
-    ghost kept = { kept_ask };
+    ghost kept = { recorded_ask };
 
     ghost legal = { IsLegalTold };
 
@@ -35,8 +35,6 @@ impl Chronicle for Machine {
     /// Serves the call at its moment, as `Machine::apply`.
     fn act(&mut self, caller: CallerId, ask: Ask) -> Result<Reply, NoEntry> {
         let Ask { at, call } = ask;
-        let served = self.apply(caller, at, call);
-        let _ = self.entries();
-        served
+        self.apply(caller, at, call)
     }
 }

@@ -3,10 +3,10 @@
 
 mod applying;
 mod chronicles;
-mod kept_calls;
 mod looks;
 mod machines;
 mod performs;
+mod recorded_calls;
 mod waits;
 
 pub use chronicles::Ask;

@@ -2,7 +2,7 @@
 ghost use Rattle.std.specs.Prelude.{◌≡◌, ◌⊎◌, ◌≤◌, ◌↔◌, OnOk, IfErr, IsTrue, take, drop, IfOk};
 ghost use Rattle.drmaa_model.specs.Effects.{not_yet};
 ghost use Rattle.drmaa_model.specs.Steps.{answer};
-ghost use Rattle.machine_readings.specs.Stores.{world_of, world_at, IsKept};
+ghost use Rattle.machine_readings.specs.Stores.{world_of, world_at, IsStore};
 ghost use Rattle.drmaa_model.specs.declared.looks.Answer.{Answer};
 ghost use Rattle.drmaa_machine.specs.Looks.{IsAnswer, overfull, template_of, opened_name};
 ghost use Rattle.drmaa_machine.specs.Waits.{call_of};
@@ -19,9 +19,9 @@ const MOST_CHANGES: usize = 64;
 
 /// Takes the memory for so many further entries and changes.
 pub fn reserve_in(store: &mut Store, n: u32) -> Result<(), Refusal>
-    requires kept { IsKept store.old }
+    requires store { IsStore store.old }
     ensures world { world_of store.new ≡ world_of store.old }
-    ensures kept { IsKept store.new }
+    ensures store { IsStore store.new }
     ensures keeps { Keeps store.old store.new }
     ensures spare { OnOk result (n ≤ spare_of store.new) }
     ensures more { spare_of store.old ≤ spare_of store.new }
@@ -36,7 +36,7 @@ pub fn reserve_in(store: &mut Store, n: u32) -> Result<(), Refusal>
 
 /// Whether a wait has no answer yet at a moment.
 pub fn must_wait_in(store: &Store, at: Moment, awaited: &Awaited) -> bool
-    requires { IsKept store.now }
+    requires { IsStore store.now }
     ensures { IsTrue result ↔ (answer (world_of store.now) at (call_of awaited.now) ≡ not_yet) }
 {
     store
@@ -50,7 +50,7 @@ pub fn must_wait_in(store: &Store, at: Moment, awaited: &Awaited) -> bool
 
 /// Answers a question.
 pub fn look_in(store: &Store, at: Moment, question: Question) -> Answer
-    requires { IsKept store.now }
+    requires { IsStore store.now }
     ensures { IsAnswer (world_at at store.now) (world_of store.now) question result }
 {
     match question {
@@ -65,7 +65,7 @@ pub fn look_in(store: &Store, at: Moment, question: Question) -> Answer
 
 /// The template of a kept job, shared with the machine.
 fn template_answer(store: &Store, job: JobId) -> Answer
-    requires { IsKept store.now }
+    requires { IsStore store.now }
     ensures { (result ≡ Answer.Template (template_of job (world_of store.now).plan.rows)) ⊎ (result ≡ Answer.OutOfMemory) }
 {
     match store.core.template(job) {
@@ -76,7 +76,7 @@ fn template_answer(store: &Store, job: JobId) -> Answer
 
 /// The name of the session that a number was opened on.
 fn name_answer(store: &Store, session: SessionId) -> Answer
-    requires { IsKept store.now }
+    requires { IsStore store.now }
     ensures { (result ≡ Answer.SessionName (opened_name session (world_of store.now).sessions)) ⊎ (result ≡ Answer.OutOfMemory) }
 {
     match opened_name(store, session) {
@@ -86,7 +86,7 @@ fn name_answer(store: &Store, session: SessionId) -> Answer
 }
 
 fn opened_name(store: &Store, session: SessionId) -> Result<Option<Text>, AllocError>
-    requires { IsKept store.now }
+    requires { IsStore store.now }
     ensures { IfOk result (λ name. name ≡ opened_name session (world_of store.now).sessions) }
 {
     let Some(home) = store.home_in(session) else {
@@ -100,7 +100,7 @@ fn opened_name(store: &Store, session: SessionId) -> Result<Option<Text>, AllocE
 
 /// The size that the journal would have with one entry more, where that is above the greatest.
 fn overfull(store: &Store) -> Option<u64>
-    requires { IsKept store.now }
+    requires { IsStore store.now }
     ensures { result ≡ overfull (world_of store.now) }
 {
     let size = store.entries + 1 + store.core.size();

@@ -10,9 +10,9 @@ ghost use Rattle.drmaa_model.specs.Events.{next_event, started_from, started_of}
 ghost use Rattle.drmaa_model.specs.History.{IsLegal, now_of};
 ghost use Rattle.drmaa_model.specs.Honoured.{IsOnTime, IsDueInside};
 ghost use Rattle.drmaa_model.specs.Infos.{infos, reservation_info};
-ghost use Rattle.drmaa_model.specs.KeptCalls.{kept};
+ghost use Rattle.drmaa_model.specs.RecordedCalls.{recorded};
 ghost use Rattle.drmaa_model.specs.Load.{first_overfull};
-ghost use Rattle.drmaa_model.specs.Order.{held};
+ghost use Rattle.drmaa_model.specs.NextLaunch.{held};
 ghost use Rattle.drmaa_model.specs.Refusals.{refusal};
 ghost use Rattle.drmaa_model.specs.Size.{size};
 ghost use Rattle.drmaa_model.specs.Steps.{answer, IsStep};
@@ -99,8 +99,8 @@ impl Machine {
         })
     }
 
-    /// Serves a call, as one step and one entry; a refusal is a reply too. The entry has the call as it is kept: a limit whose
-    /// name no journal can print is kept as `OTHER`.
+    /// Serves a call, as one step and one entry; a refusal is a reply too. The entry has the call as it is recorded: a limit
+    /// whose name no journal can print is recorded as `OTHER`.
     ///
     /// # Errors
     ///
@@ -110,26 +110,27 @@ impl Machine {
     pub fn apply(&mut self, caller: CallerId, at: Moment, call: Call) -> Result<Reply, NoEntry>
         // One step of the machine, with exactly one entry.
         ensures step { IfOk result (λ reply. IsStep (now_of self.old.ledger)
-            (record { caller = caller; at = at; call = kept call; reply = reply }) (now_of self.new.ledger)) }
+            (record { caller = caller; at = at; call = recorded call; reply = reply }) (now_of self.new.ledger)) }
         ensures entry { IfOk result (λ reply. self.new.ledger ≡
-            served self.old.ledger (record { caller = caller; at = at; call = kept call; reply = reply })) }
+            served self.old.ledger (record { caller = caller; at = at; call = recorded call; reply = reply })) }
         ensures legal { IsLegal self.new.ledger.config self.new.ledger.history }
         ensures consistent { IsConsistent (now_of self.new.ledger) }
+        ensures few { length self.new.ledger.history ≤ 4_000_000 }
 
         // No entry, no change.
         ensures err { OnErr result (self.new.ledger ≡ self.old.ledger) }
-        ensures waits { (result ≡ Err NoEntry.NotYet) ↔ (answer (now_of self.old.ledger) at (kept call) ≡ not_yet) }
-        ensures finds_nothing { (result ≡ Err NoEntry.Nothing) ↔ (answer (now_of self.old.ledger) at (kept call) ≡ nothing) }
-        ensures full { (n : ℕ) → result ≡ Err (NoEntry.Journal n) → IsTooLarge (now_of self.old.ledger) at (kept call) n }
-        ensures above { (n : ℕ) → IsTooLarge (now_of self.old.ledger) at (kept call) n →
+        ensures waits { (result ≡ Err NoEntry.NotYet) ↔ (answer (now_of self.old.ledger) at (recorded call) ≡ not_yet) }
+        ensures finds_nothing { (result ≡ Err NoEntry.Nothing) ↔ (answer (now_of self.old.ledger) at (recorded call) ≡ nothing) }
+        ensures full { (n : ℕ) → result ≡ Err (NoEntry.Journal n) → IsTooLarge (now_of self.old.ledger) at (recorded call) n }
+        ensures above { (n : ℕ) → IsTooLarge (now_of self.old.ledger) at (recorded call) n →
             (result ≡ Err (NoEntry.Journal n)) ⊎ ((result ≡ Err NoEntry.OutOfMemory) × (is_submission call ≡ true)) }
 
         // The first refusal of the table, and no other but a timeout. It changes nothing but time.
-        ensures refuses { (why : Refusal) → refusal (advance (now_of self.old.ledger) at) (kept call) ≡ Some why →
+        ensures refuses { (why : Refusal) → refusal (advance (now_of self.old.ledger) at) (recorded call) ≡ Some why →
             IfOk result (λ reply. reply ≡ Reply.Refused why) }
-        ensures over { IsOver (now_of self.old.ledger) at (kept call) → IfOk result (λ reply. reply ≡ Reply.Refused Refusal.Timeout) }
+        ensures over { IsOver (now_of self.old.ledger) at (recorded call) → IfOk result (λ reply. reply ≡ Reply.Refused Refusal.Timeout) }
         ensures refused { (why : Refusal) → result ≡ Ok (Reply.Refused why) →
-            IsRefusedFor (now_of self.old.ledger) at (kept call) why × (now_of self.new.ledger ≡ counted (advance (now_of self.old.ledger) at)) }
+            IsRefusedFor (now_of self.old.ledger) at (recorded call) why × (now_of self.new.ledger ≡ counted (advance (now_of self.old.ledger) at)) }
 
         // Each change is an edge of the state model, from the state that the job had.
         ensures edges { OnOk result (GoesByEdges (now_of self.old.ledger) (now_of self.new.ledger)) }

@@ -1,6 +1,6 @@
 //! The functions that serve the calls.
 ghost use Rattle.std.specs.Prelude.{OnOk};
-ghost use Rattle.machine_readings.specs.Stores.{world_of, IsKept};
+ghost use Rattle.machine_readings.specs.Stores.{world_of, IsStore};
 ghost use Rattle.machine_calls.specs.Serving.{Comes, Keeps, HasPlace};
 ghost use Rattle.drmaa_machine.specs.Sparing.{Sparing};
 
@@ -14,7 +14,7 @@ use machine_readings::Store;
 
 /// Serves a call, but for its entry, whose memory is there then.
 pub fn perform(store: &mut Store, at: Moment, call: &Call) -> Result<Replies, NoEntry>
-    requires kept { IsKept store.old }
+    requires store { IsStore store.old }
     ensures comes { Comes (world_of store.old) at call.now result (world_of store.new) }
     ensures keeps { Keeps store.old store.new }
     ensures place { OnOk result (HasPlace 1 store.new) }

@@ -24,7 +24,7 @@ use Rattle.drmaa_model.specs.Effects.{StepAnswer, gives, nothing, not_yet, makes
 use Rattle.drmaa_model.specs.Homes.{session_test, home_number}
 use Rattle.drmaa_model.specs.Launching.{launch_of, launch_row, signal, next_signal, signal_of}
 use Rattle.drmaa_model.specs.OperationLaws.{no_test}
-use Rattle.drmaa_model.specs.Order.{next_launch}
+use Rattle.drmaa_model.specs.NextLaunch.{next_launch}
 use Rattle.drmaa_model.specs.Plan.{Plan}
 use Rattle.drmaa_model.specs.Refusals.{refusal}
 use Rattle.drmaa_model.specs.Reporting.{report_of}

@@ -43,6 +43,13 @@ refused-gives at w c why is = ap (λ (o : Option Refusal). option_map_or (λ (r 
 pub served-gives : (at : ℕ) (w : World) (c : Call) → refusal w c ≡ None → answer_now at w c ≡ effect at w c
 served-gives at w c is = ap (λ (o : Option Refusal). option_map_or (λ (r : Refusal). makes (reply.Refused r) w) o (effect at w c)) is
 
+-- an answer that makes an entry has one reply, and leads to one world
+pub given-reply : (r s : Reply) (v w : World) → gives r v ≡ gives s w → r ≡ s
+given-reply r s v w same = cc
+
+pub given-world : (r s : Reply) (v w : World) → gives r v ≡ gives s w → v ≡ w
+given-world r s v w same = cc
+
 -- what is true of a refusal and of an effect that is not refused is true of the answer
 pub answer-cases : (at : ℕ) (w : World) (c : Call) (P : StepAnswer → Type 0) → ((why : Refusal) → refusal w c ≡ Some why → P (makes (reply.Refused why) w))
     → (refusal w c ≡ None → P (effect at w c)) → P (answer_now at w c)
@@ -52,6 +59,15 @@ answer-cases at w c P refused served =
       | Some why ↦ λ is. refused why is
     ]) refl
 
+-- what is true where an operation finds nothing, and of each thing that it finds, is true of its answer
+pub some-cases : {A : Type 0} (P : StepAnswer → Type 0) (tell : A → Reply) (op : Operation (Option A)) (w : World) → P nothing
+    → ((told : A) → P (makes (tell told) (record w { plan = op.effect (w.entries + 1) w.plan }))) → P (through_some tell op w)
+some-cases P tell op w none each =
+    elim (op.told w.plan) as (λ o. P (option_map_or (λ told. makes (tell told) (record w { plan = op.effect (w.entries + 1) w.plan })) o nothing)) [
+      | None ↦ none
+      | Some told ↦ each told
+    ]
+
 -- ---- the kinds of replies
 
 -- where an answer makes an entry, its reply is of the call's own kind, or a refusal
@@ -59,14 +75,6 @@ Tells : Call → StepAnswer → Type 0
 Tells c (gives r next) = IsReplyOf c r
 Tells c nothing = Unit {0}
 Tells c not_yet = Unit {0}
-
-tells-some : {A : Type 0} (c : Call) (tell : A → Reply) (op : Operation (Option A)) (w : World) → ((told : A) → kind_of_reply (tell told) ≡ kind_of_call c) → Tells c (through_some tell op w)
-unfolding Tells
-tells-some c tell op w each =
-    elim (op.told w.plan) as (λ o. Tells c (option_map_or (λ told. makes (tell told) (record w { plan = op.effect (w.entries + 1) w.plan })) o nothing)) [
-      | None ↦ tt
-      | Some told ↦ inr (each told)
-    ]
 
 tells-wait : (session : SessionId) (listed : List ℕ) (kind : WaitKind) (begun : ℕ) (timeout : Timeout) (first : Option ℕ) (over : Bool) (w : World)
     → Tells (call.Wait session listed kind begun timeout) (wait_answer first over w)
@@ -139,8 +147,8 @@ effect-tells at w (call.GetInfo session job) free =
 effect-tells at w (call.Wait session listed kind begun timeout) free = tells-wait session listed kind begun timeout (first_reached kind w.plan.rows listed) (is_timed_out at begun timeout) w
 effect-tells at w (call.GetReservation session number) free =
     inr (tells-reservation w number (own-accepted session number w (second-free (session_test (Reservations ∷ []) session w) (reservation_test session number w) free)))
-effect-tells at w call.TakeLaunch free = tells-some call.TakeLaunch reply.Launch launch w (λ told. refl)
-effect-tells at w call.TakeSignal free = tells-some call.TakeSignal reply.Signal signal w (λ told. refl)
+effect-tells at w call.TakeLaunch free = some-cases (Tells call.TakeLaunch) reply.Launch launch w tt (λ told. inr refl)
+effect-tells at w call.TakeSignal free = some-cases (Tells call.TakeSignal) reply.Signal signal w tt (λ told. inr refl)
 effect-tells at w _ free = inr refl
 
 -- the reply to a call is of the call's own kind, or a refusal

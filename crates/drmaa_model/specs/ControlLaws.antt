@@ -29,7 +29,7 @@ use Rattle.drmaa_model.specs.FitLaws.{queue-under, Eases, eases-same, eases-fail
 use Rattle.drmaa_model.specs.Launching.{is_alive}
 use Rattle.drmaa_model.specs.Load.{in_queue, held_in_queue, uses_at, is_using, held_inside, in_reservation, holds_in}
 use Rattle.drmaa_model.specs.OperationLaws.{KeepsFit}
-use Rattle.drmaa_model.specs.OrderLaws.{rising-filter}
+use Rattle.drmaa_model.specs.NextLaunchLaws.{rising-filter}
 use Rattle.drmaa_model.specs.Plan.{Plan}
 use Rattle.drmaa_model.specs.RowLaws.{all-filter, all-implied, all-both, rising-found, row_of-map}
 use Rattle.drmaa_model.specs.Rows.{is_of, row_of, change_of, change_rows}
@@ -73,7 +73,7 @@ eases-state r state kind sound =
       planned = λ u. refl;
       sound = record {
         least = sound.least;
-        order = sound.order;
+        range = sound.range;
         known = kind.known;
         idle = λ e. sound.idle (sym kind.kind ∙ e);
         started = λ e. sound.started (sym kind.kind ∙ e);

@@ -20,7 +20,7 @@ use Rattle.drmaa_model.specs.declared.rows.Wants.{Wants}
 use Rattle.drmaa_model.specs.Launching.{is_alive}
 use Rattle.drmaa_model.specs.Plan.{Plan}
 use Rattle.drmaa_model.specs.Rows.{row_of}
-use Rattle.drmaa_model.specs.Order.{held}
+use Rattle.drmaa_model.specs.NextLaunch.{held}
 
 -- the numbers rise
 abbrev pub IsRising : {X : Type 0} → (X → ℕ) → List X → Type 0
@@ -38,7 +38,7 @@ number_of row = row.job.0
 -- A job is sound: what it asks for has a meaning, and its phase, slots and planned end go with its state.
 pub record IsSound (wants : Wants) (course : Course) : Type 0 where
   pub least : 1 ≤ wants.min
-  pub order : wants.min ≤ wants.max
+  pub range : wants.min ≤ wants.max
   pub known : course.state ≢ Undetermined
   -- a job that is not started holds nothing
   pub idle : is_started course.state ≡ false → (course.phase ≡ Idle) × (course.held ≡ 0)

@@ -32,7 +32,7 @@ use Rattle.drmaa_model.specs.Courses.{failed, called}
 use Rattle.drmaa_model.specs.Fit.{IsRising, number_of, IsSound, IsFor, IsFit, IsBound, IsAlike, reservation_number, launched_at}
 use Rattle.drmaa_model.specs.Launching.{is_alive}
 use Rattle.drmaa_model.specs.Reporting.{orders_without}
-use Rattle.drmaa_model.specs.Order.{held}
+use Rattle.drmaa_model.specs.NextLaunch.{held}
 use Rattle.drmaa_model.specs.Plan.{Plan}
 use Rattle.drmaa_model.specs.Rows.{is_of, row_of, change_of, with_course, go_on}
 use Rattle.drmaa_model.specs.RowLaws.{all-implied, all-map, all-filter, all-passes, all-both, numbered-map, row_of-is, row_of-all, row_of-map, with_course-number, sum_with_course, all_with_course, rising-found}
@@ -179,7 +179,7 @@ eased f same wants p fit eases changes more orders asked =
 pub sound-failed : (moment : ℕ) (n : Note) (r : Row) → IsSound r.wants r.course → IsSound r.wants (failed moment n r.course)
 sound-failed moment n r sound = record {
   least = sound.least;
-  order = sound.order;
+  range = sound.range;
   known = λ e. cc;
   idle = λ e. (refl, refl);
   started = λ e. absurd (cc);
@@ -192,7 +192,7 @@ sound-failed moment n r sound = record {
 pub sound-called : (n : Note) (r : Row) → is_started r.course.state ≡ true → IsSound r.wants r.course → IsSound r.wants (called n r.course)
 sound-called n r is sound = record {
   least = sound.least;
-  order = sound.order;
+  range = sound.range;
   known = sound.known;
   idle = sound.idle;
   started = sound.started;

@@ -21,7 +21,7 @@ pub record IsFrame (now : ℕ) (f : Frame) : Type 0 where
   pub lasting : 0 < f.span
   pub inside : f.from + f.span ≤ f.until
   pub least : 1 ≤ f.min
-  pub order : f.min ≤ f.max
+  pub range : f.min ≤ f.max
 
 -- an interval that lies ahead and has a moment
 record IsAhead (now : ℕ) (i : Interval) : Type 0 where
@@ -96,4 +96,4 @@ frame-is now t free =
     let k = no_test less [] h.1 in
     let is = ahead now t.start_time t.end_time t.duration (record { late = a.0; alone = b.0; early = c.0; unset = d.0; backward = e.0; long = g.0 }) in
     let some = eqb-false f.min 0 h.0 in
-    record { since = is.since; lasting = is.lasting; inside = is.inside; least = omega arith; order = ltb-false f.max f.min k.0 }
+    record { since = is.since; lasting = is.lasting; inside = is.inside; least = omega arith; range = ltb-false f.max f.min k.0 }

@@ -13,7 +13,7 @@ use Rattle.drmaa_types.specs.declared.infos.ReservationInfo.{ReservationInfo}
 use Rattle.drmaa_model.specs.declared.courses.Course.{Course}
 use Rattle.drmaa_model.specs.declared.reservations.Accepted.{Accepted}
 use Rattle.drmaa_model.specs.declared.rows.Row.{Row}
-use Rattle.drmaa_model.specs.Order.{held}
+use Rattle.drmaa_model.specs.NextLaunch.{held}
 use Rattle.drmaa_model.specs.World.{World}
 
 -- the name that stands for a queue where there are none

@@ -22,8 +22,8 @@ use Rattle.drmaa_model.specs.Launching.{launch, launch_row}
 use Rattle.drmaa_model.specs.Load.{is_in_queue, in_queue, held_in_queue, names, held_inside, holds_in, is_member, in_reservation, in_array, is_ordinary, ends_after, covers, load, reservation_of, fits}
 use Rattle.drmaa_model.specs.MomentLaws.{fits-at, ends-before}
 use Rattle.drmaa_model.specs.OperationLaws.{KeepsFit, row-sound}
-use Rattle.drmaa_model.specs.Order.{next_launch, has_slots, has_slots_in, has_slots_free, has_room_in, is_within_bound}
-use Rattle.drmaa_model.specs.OrderLaws.{IsNextLaunch, next_launch-is, ready-parts}
+use Rattle.drmaa_model.specs.NextLaunch.{next_launch, has_slots, has_slots_in, has_slots_free, has_room_in, is_within_bound}
+use Rattle.drmaa_model.specs.NextLaunchLaws.{IsNextLaunch, next_launch-is, ready-parts}
 use Rattle.drmaa_model.specs.Plan.{Plan}
 use Rattle.drmaa_model.specs.RowLaws.{all-implied, all-both, row_of-all, changes_with_course}
 use Rattle.drmaa_model.specs.Rows.{change_of, with_course}
@@ -36,7 +36,7 @@ sound-launched : (moment slots : ℕ) (row : Row) → IsSound row.wants row.cour
     IsSound row.wants (launched moment slots (planned_end row.wants moment) row.course)
 sound-launched moment slots row sound least most = record {
   least = sound.least;
-  order = sound.order;
+  range = sound.range;
   known = λ e. cc;
   idle = λ e. absurd (cc);
   started = λ e. ((λ same. cc), least, most);
@@ -125,26 +125,26 @@ launch-inside : (n k most : ℕ) (named : Bool) → n ≤ most → (named ≡ tr
 launch-inside n k most false low fits = omega arith
 launch-inside n k most true low fits = fits refl
 
--- where an array has a bound and it is the job's turn, one member more may hold slots
-turn-below : (rows : List Row) (w : Wants) (array : ArrayId) (bound : ℕ) → w.array ≡ Some array → w.bound ≡ Some bound
+-- where an array has a bound and the job is within it, one member more may hold slots
+in_bound-below : (rows : List Row) (w : Wants) (array : ArrayId) (bound : ℕ) → w.array ≡ Some array → w.bound ≡ Some bound
     → option_map_or (λ (b : ℕ). option_map_or (λ (a : ArrayId). ltb (in_array a rows) b) w.array true) w.bound true ≡ true → in_array array rows < bound
-turn-below rows w array bound is is' turn =
+in_bound-below rows w array bound is is' in_bound =
     ltb-true (in_array array rows) bound
     (sym (ap (λ (o : Option ℕ). option_map_or (λ (b : ℕ). option_map_or (λ (a : ArrayId). ltb (in_array a rows) b) w.array true) o true) is'
-    ∙ ap (λ (o : Option ArrayId). option_map_or (λ (a : ArrayId). ltb (in_array a rows) bound) o true) is) ∙ turn)
+    ∙ ap (λ (o : Option ArrayId). option_map_or (λ (a : ArrayId). ltb (in_array a rows) bound) o true) is) ∙ in_bound)
 
 member-is : (array : ArrayId) (o : Option ArrayId) → option_map_or (λ (a : ArrayId). eqb a.0 array.0) o false ≡ true → o ≡ Some array
 member-is array None is = absurd (cc)
 member-is array (Some a) is = ap (λ (n : ℕ). let b : ArrayId = record { 0 = n } in Some b) (eqb-true a.0 array.0 is)
 
 launch-member : (array : ArrayId) (bound n : ℕ) (member positive positive' : Bool) → n ≤ bound → (member ≡ true → n < bound) → n + cond {A = ℕ} (member && positive) 1 0 ≤ bound + cond {A = ℕ} (member && positive') 1 0
-launch-member array bound n false positive positive' low turn = omega arith
-launch-member array bound n true true positive' low turn = (let t = turn refl in omega arith)
-launch-member array bound n true false positive' low turn = omega arith
+launch-member array bound n false positive positive' low in_bound = omega arith
+launch-member array bound n true true positive' low in_bound = (let t = in_bound refl in omega arith)
+launch-member array bound n true false positive' low in_bound = omega arith
 
-launch-bound : (p : Plan) (row after r : Row) → after.wants ≡ row.wants → is_within_bound p.rows row ≡ true → IsBound p.rows r × IsAlike r row
+launch-bound : (p : Plan) (row after r : Row) → after.wants ≡ row.wants → is_within_bound p.rows row.wants ≡ true → IsBound p.rows r × IsAlike r row
     → IfSome r.wants.bound (λ (bound : ℕ). IfSome r.wants.array (λ (array : ArrayId). in_array array p.rows + holds_in array after ≤ bound + holds_in array row))
-launch-bound p row after r same turn both =
+launch-bound p row after r same in_bound both =
     (elim r.wants.bound as (λ b. r.wants.bound ≡ b → IfSome b (λ (bound : ℕ). IfSome r.wants.array (λ (array : ArrayId). in_array array p.rows ≤ bound))
     → IfSome b (λ (bound : ℕ). IfSome r.wants.array (λ (array : ArrayId). in_array array p.rows + holds_in array after ≤ bound + holds_in array row))) [
       | None ↦ λ e h. tt
@@ -156,7 +156,7 @@ launch-bound p row after r same turn both =
                 (let member : is_member array after ≡ is_member array row = ap (λ (w : Wants). option_map_or (λ (a : ArrayId). eqb a.0 array.0) w.array false) same in
                 subst (λ t. in_array array p.rows + cond {A = ℕ} (t && ltb 0 after.course.held) 1 0 ≤ bound + holds_in array row) (sym member)
                 (launch-member array bound (in_array array p.rows) (is_member array row) (ltb 0 after.course.held) (ltb 0 row.course.held) h
-                (λ is. (let own = member-is array row.wants.array is in turn-below p.rows row.wants array bound own (sym (both.1 array e' own) ∙ e) turn))))
+                (λ is. (let own = member-is array row.wants.array is in in_bound-below p.rows row.wants array bound own (sym (both.1 array e' own) ∙ e) in_bound))))
           ]) refl
     ]) refl both.0
 
@@ -173,7 +173,7 @@ launch_row-fit entry p row slots fit next =
     let parts = ready-parts p slots row next.ready_at in
     let on : GoesOn entry p row course = record {
       found = next.kept;
-      sound = sound-launched p.moment slots row sound next.least (next.most sound.order);
+      sound = sound-launched p.moment slots row sound next.least (next.most sound.range);
       fits = (let fits = next.fits in omega arith);
       attempt = omega (arith, before, ap length added, length-append p.changes (flat_map (λ r. change_of entry r (with_course row.job course r)) p.rows));
       dispatched = omega arith;
@@ -190,7 +190,7 @@ launch_row-fit entry p row slots fit next =
       queued = λ place. queue-more (queue_at place p.queues) (in_queue place p.rows) (held_in_queue place (record row { course = course })) (held_in_queue place row)
           (launch-queued p slots place row parts.has (fit.queued place));
       bounds = all-implied (λ (r : Row). IsBound p.rows r × IsAlike r row) (λ (r : Row). IfSome r.wants.bound (λ (bound : ℕ). IfSome r.wants.array (λ (array : ArrayId). in_array array p.rows + holds_in array (record row { course = course }) ≤ bound + holds_in array row)))
-          (λ r both. launch-bound p row (record row { course = course }) r refl parts.turn both) p.rows
+          (λ r both. launch-bound p row (record row { course = course }) r refl parts.in_bound both) p.rows
           (all-both (IsBound p.rows) (λ (r : Row). IsAlike r row) p.rows fit.bounds
           (all-implied (λ (r : Row). AllByRecursion (IsAlike r) p.rows) (λ (r : Row). IsAlike r row) (λ r all. row_of-all (IsAlike r) row.job p.rows row all next.kept) p.rows fit.alike));
     } in

@@ -13,8 +13,8 @@ use Rattle.drmaa_model.specs.AnswerLaws.{reply-kind, launch-of-launch}
 use Rattle.drmaa_model.specs.Courses.{launched, planned_end}
 use Rattle.drmaa_model.specs.Effects.{gives}
 use Rattle.drmaa_model.specs.Launching.{launch_of, launch_row}
-use Rattle.drmaa_model.specs.Order.{is_ready, slots_for, first_in_order, next_launch}
-use Rattle.drmaa_model.specs.OrderLaws.{first_in_order-all}
+use Rattle.drmaa_model.specs.NextLaunch.{is_ready, slots_for, best_of, next_launch}
+use Rattle.drmaa_model.specs.NextLaunchLaws.{best_of-all}
 use Rattle.drmaa_model.specs.ReplyKinds.{IsReplyOf}
 use Rattle.std.specs.Option.{option_map, option_map_or}
 use Rattle.drmaa_model.specs.Plan.{Plan}
@@ -120,9 +120,9 @@ next-all : (P : Row → Type 0) (p : Plan) (row : Row) (slots : ℕ) → AllByRe
 next-all P p row slots all is =
     let ready : Row → Bool = λ r. is_ready p r.wants.min r in
     let pick : Row → Row × ℕ = λ r. (r, slots_for p r) in
-    (elim (first_in_order (filter ready p.rows)) as (λ o. first_in_order (filter ready p.rows) ≡ o → option_map pick o ≡ Some (row, slots) → P row) [
+    (elim (best_of (filter ready p.rows)) as (λ o. best_of (filter ready p.rows) ≡ o → option_map pick o ≡ Some (row, slots) → P row) [
       | None ↦ λ e h. absurd (cc)
-      | Some r ↦ λ e h. (let same : r ≡ row = ap (λ (o : Option (Row × ℕ)). option_map_or (λ (n : Row × ℕ). n.0) o r) h in subst P same (first_in_order-all P (filter ready p.rows) r (all-filter P ready p.rows all) e))
+      | Some r ↦ λ e h. (let same : r ≡ row = ap (λ (o : Option (Row × ℕ)). option_map_or (λ (n : Row × ℕ). n.0) o r) h in subst P same (best_of-all P (filter ready p.rows) r (all-filter P ready p.rows all) e))
     ]) refl is
 
 -- a step that hands out a launch: of the job that is launched next, once more than before

@@ -10,7 +10,7 @@ use Rattle.drmaa_model.specs.declared.replies.Signal.{Signal}
 use Rattle.drmaa_model.specs.declared.rows.Row.{Row}
 use Rattle.drmaa_model.specs.Courses.{planned_end, launched}
 use Rattle.drmaa_model.specs.Operation.{Operation}
-use Rattle.drmaa_model.specs.Order.{next_launch}
+use Rattle.drmaa_model.specs.NextLaunch.{next_launch}
 use Rattle.drmaa_model.specs.Plan.{Plan}
 use Rattle.drmaa_model.specs.Rows.{row_of, go_on}
 

@@ -7,6 +7,7 @@ pub mod Controlling
 pub mod Courses
 pub mod Effects
 pub mod Events
+pub mod Faults
 pub mod Fit
 pub mod FitLaws
 pub mod FrameLaws
@@ -18,7 +19,7 @@ pub mod HomeLaws
 pub mod Homes
 pub mod Honoured
 pub mod Infos
-pub mod KeptCalls
+pub mod RecordedCalls
 pub mod LaunchFit
 pub mod LaunchLaws
 pub mod Launching
@@ -29,8 +30,8 @@ pub mod MoveLaws
 pub mod Moving
 pub mod Operation
 pub mod OperationLaws
-pub mod Order
-pub mod OrderLaws
+pub mod NextLaunch
+pub mod NextLaunchLaws
 pub mod Plan
 pub mod PlanSteps
 pub mod QueueLaws

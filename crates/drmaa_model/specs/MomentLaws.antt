@@ -6,8 +6,8 @@ use Rattle.drmaa_types.specs.Moments.{greatest}
 use Rattle.drmaa_types.specs.declared.moments.End.{End}
 use Rattle.drmaa_types.specs.declared.moments.End.TheVariants.{At, Never}
 use Rattle.drmaa_model.specs.Load.{ends_after, load, first_from, bound_of, is_overfull, first_overfull, fits, earliest}
-use Rattle.drmaa_model.specs.Order.{greatest_from}
-use Rattle.drmaa_model.specs.OrderLaws.{greatest_from-least, greatest_from-most, greatest_from-no_more}
+use Rattle.drmaa_model.specs.NextLaunch.{greatest_from}
+use Rattle.drmaa_model.specs.NextLaunchLaws.{greatest_from-least, greatest_from-most, greatest_from-no_more}
 use Rattle.drmaa_model.specs.Plan.{Plan}
 
 module _ (test : ℕ → Bool) where

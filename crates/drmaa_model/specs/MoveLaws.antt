@@ -14,8 +14,8 @@ use Rattle.drmaa_model.specs.Launching.{launch}
 use Rattle.drmaa_model.specs.LaunchFit.{launch-effect}
 use Rattle.drmaa_model.specs.Moving.{MovesOne, ReportMoves, job_of, course_after}
 use Rattle.drmaa_model.specs.OperationLaws.{own-job}
-use Rattle.drmaa_model.specs.Order.{next_launch}
-use Rattle.drmaa_model.specs.OrderLaws.{next_launch-is}
+use Rattle.drmaa_model.specs.NextLaunch.{next_launch}
+use Rattle.drmaa_model.specs.NextLaunchLaws.{next_launch-is}
 use Rattle.drmaa_model.specs.Plan.{Plan}
 use Rattle.drmaa_model.specs.Reporting.{may_begin, may_exit, may_tell, start_row, unstart_row, end_row, lose_row, done_row, undone_row, report_of}
 use Rattle.drmaa_model.specs.ReportLaws.{report-leads}

@@ -1,5 +1,5 @@
 -- Operations on a plan, and what one comes to: our profile.
-use Rattle.std.specs.Prelude.{◌≡◌, ℕ, ◌+◌, ◌≤◌, ◌<◌, Bool, true, false, Option, Result, Ok, Err, IfErr}
+use Rattle.std.specs.Prelude.{ℕ, ◌+◌, Bool, true, false, Option, Result, Ok, Err}
 use Rattle.std.specs.Option.{option_map_or}
 use Rattle.drmaa_types.specs.declared.refusals.Refusal.{Refusal}
 use Rattle.drmaa_types.specs.declared.refusals.Refusal.TheVariants.{DeniedByDrms, TryLater, Timeout, InvalidArgument, InvalidSession, InvalidState, OutOfResource, OutOfMemory, UnsupportedAttribute, UnsupportedOperation}
@@ -48,27 +48,3 @@ is_answer UnsupportedOperation = true
 -- the size of the journal after an entry of this number that leads to this plan
 abbrev pub size_at : ℕ → Plan → ℕ
 size_at entry p = entry + weight p
-
--- it is answered as it is to be, and the journal has room for that
-pub record IsServed {A : Type 0} (o : Outcome A) (entry limit : ℕ) (result : Result A Refusal) (new : Plan) : Type 0 where
-  pub answered : result ≡ o.answer
-  pub answers : IfErr result (λ why. is_answer why ≡ true)
-  pub plan : new ≡ o.plan
-  pub within : size_at entry o.plan ≤ limit
-
--- the journal would be too large
-pub record IsFull {A : Type 0} (o : Outcome A) (old : Plan) (entry limit : ℕ) (result : Result A Refusal) (new : Plan) : Type 0 where
-  pub answered : result ≡ Err (OutOfResource (resource.Journal (size_at entry o.plan)))
-  pub above : limit < size_at entry o.plan
-  pub plan : new ≡ old
-
--- memory ran out
-pub record IsShort {A : Type 0} (old : Plan) (result : Result A Refusal) (new : Plan) : Type 0 where
-  pub answered : result ≡ Err OutOfMemory
-  pub plan : new ≡ old
-
--- An operation is answered as it is to be, or nothing changes, since the journal would be too large or memory ran out.
-pub data Meets {A : Type 0} (o : Outcome A) (old : Plan) (entry limit : ℕ) (result : Result A Refusal) (new : Plan) : Type 0 where
-  served : IsServed o entry limit result new → Meets o old entry limit result new
-  full : IsFull o old entry limit result new → Meets o old entry limit result new
-  short : IsShort old result new → Meets o old entry limit result new

@@ -1,6 +1,6 @@
 -- What an operation comes to, and what keeps a plan fit: one job goes on that takes no more than it took.
 use Rattle.std.proofs.Common.{◌≡◌, ℕ, ◌+◌, ◌≤◌, Bool, true, false, cond, ◌&&◌, List, [], ◌∷◌, ◌++◌, length, Option, Some, None, refl, sym, ap, subst, arith, length-append, ltb}
-use Rattle.std.specs.Prelude.{IfSome, Result, Ok, Err}
+use Rattle.std.specs.Prelude.{IfSome, Ok, Err}
 use Rattle.std.specs.List.{flat_map}
 use Rattle.std.specs.Option.{option_map_or}
 use Rattle.std.proofs.lemmas.Bool.{ltb-true, lt-ltb}
@@ -19,9 +19,8 @@ use Rattle.drmaa_model.specs.declared.rows.Wants.{Wants}
 use Rattle.drmaa_model.specs.Fit.{IsSound, IsFit, IsBound, launched_at}
 use Rattle.drmaa_model.specs.FitLaws.{GoesOn, unused}
 use Rattle.drmaa_model.specs.Load.{is_in_queue, in_queue, held_in_queue, uses_at, names, held_inside, holds_in, is_member, in_reservation, in_array}
-use Rattle.drmaa_model.specs.Operation.{Operation, Outcome, outcome, Meets}
-use Rattle.drmaa_model.specs.Operation.Meets.{served, full, short}
-use Rattle.drmaa_model.specs.Order.{held}
+use Rattle.drmaa_model.specs.Operation.{Operation, Outcome, outcome}
+use Rattle.drmaa_model.specs.NextLaunch.{held}
 use Rattle.drmaa_model.specs.Plan.{Plan}
 use Rattle.drmaa_model.specs.RowLaws.{all-implied, row_of-all, row_of-is}
 use Rattle.drmaa_model.specs.Rows.{row_of, change_of, with_course, go_on}
@@ -47,16 +46,6 @@ outcome-refused {A} op entry p why is =
 pub outcome-served : {A : Type 0} (op : Operation A) (entry : ℕ) (p : Plan) → op.refusal p ≡ None → outcome op entry p ≡ record { answer = Ok (op.told p); plan = op.effect entry p }
 outcome-served {A} op entry p is =
     ap (λ (o : Option Refusal). option_map_or {U = Outcome A} (λ (r : Refusal). record { answer = Err r; plan = p }) o (record { answer = Ok (op.told p); plan = op.effect entry p })) is
-
--- where an operation is met, the plan stays fit
-pub meets-fit : {A : Type 0} (op : Operation A) (entry limit : ℕ) (p q new : Plan) (result : Result A Refusal) → KeepsFit op → IsFit p → IsFit q
-    → Meets (outcome op entry q) p entry limit result new → IsFit new
-meets-fit {A} op entry limit p q new result keeps fit_p fit_q met =
-    elim met [
-      | served s ↦ subst IsFit (sym s.plan) (outcome-fit op keeps entry q fit_q)
-      | full f ↦ subst IsFit (sym f.plan) fit_p
-      | short s ↦ subst IsFit (sym s.plan) fit_p
-    ]
 
 -- ---- tables of tests
 

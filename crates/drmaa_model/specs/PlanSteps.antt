@@ -39,8 +39,8 @@ use Rattle.drmaa_model.specs.Effects.{left_by, is_forgotten, forget_home}
 use Rattle.drmaa_model.specs.Fit.{IsRising, IsFit, number_of}
 use Rattle.drmaa_model.specs.FitLaws.{all-append, same-kind, ends-waiting}
 use Rattle.drmaa_model.specs.Launching.{launch_row, signal}
-use Rattle.drmaa_model.specs.Order.{next_launch}
-use Rattle.drmaa_model.specs.OrderLaws.{next_launch-is}
+use Rattle.drmaa_model.specs.NextLaunch.{next_launch}
+use Rattle.drmaa_model.specs.NextLaunchLaws.{next_launch-is}
 use Rattle.drmaa_model.specs.OperationLaws.{refusal-append, no_test, own-job, row-sound}
 use Rattle.drmaa_model.specs.Plan.{Plan}
 use Rattle.drmaa_model.specs.Reporting.{is_idle, may_begin, may_exit, may_tell, is_taken, orders_without, drop_first, start_row, over_row, unstart_row, end_row, lose_row, done_row, undone_row, report_of}

@@ -41,7 +41,7 @@ use Rattle.drmaa_model.specs.Load.{fits, in_queue}
 use Rattle.drmaa_model.specs.MoveLaws.{report-moves}
 use Rattle.drmaa_model.specs.Moving.{course_after}
 use Rattle.drmaa_model.specs.OperationLaws.{no_test, refusal-append}
-use Rattle.drmaa_model.specs.Order.{has_room_in, has_slots_free}
+use Rattle.drmaa_model.specs.NextLaunch.{has_room_in, has_slots_free}
 use Rattle.drmaa_model.specs.Plan.{Plan}
 use Rattle.drmaa_model.specs.Requests.{is_other}
 use Rattle.drmaa_model.specs.RowLaws.{all-each, all-filter, all-implied, all-map}

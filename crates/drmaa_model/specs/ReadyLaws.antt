@@ -19,7 +19,7 @@ use Rattle.drmaa_model.specs.Fit.{IsFit}
 use Rattle.drmaa_model.specs.FitLaws.{held-advance, inside-advance, queue-advance, array-advance, load-advance, load-let_go}
 use Rattle.drmaa_model.specs.Load.{ends_after, covers, in_reservation, in_queue, in_array, reservation_of, fits}
 use Rattle.drmaa_model.specs.MomentLaws.{LoadsAlike, fits-same, greatest_from-same}
-use Rattle.drmaa_model.specs.Order.{held, is_queued, is_reached, is_within_bound, has_slots_in, has_slots_free, has_room_in, has_slots, may_come, is_ready, slots_for}
+use Rattle.drmaa_model.specs.NextLaunch.{held, is_queued, is_reached, is_within_bound, has_slots_in, has_slots_free, has_room_in, has_slots, may_come, is_ready, slots_for}
 use Rattle.drmaa_model.specs.Plan.{Plan}
 use Rattle.drmaa_model.specs.Time.{come_to, let_go, is_late, is_stranded, lapses, lapsed, advance_plan}
 use Rattle.drmaa_model.specs.TimeLaws.{timed, lapsed-cases, called-cases}
@@ -35,8 +35,8 @@ pub record SeenAlike (p q : Plan) : Type 0 where
   pub queued : (place : ℕ) → in_queue place p.rows ≡ in_queue place q.rows
   pub loads : LoadsAlike p q p.moment
 
-turn-same : (p q : Plan) (row : Row) → SeenAlike p q → is_within_bound p.rows row ≡ is_within_bound q.rows row
-turn-same p q row alike =
+in_bound-same : (p q : Plan) (row : Row) → SeenAlike p q → is_within_bound p.rows row.wants ≡ is_within_bound q.rows row.wants
+in_bound-same p q row alike =
     elim row.wants.bound as (λ o. option_map_or (λ (bound : ℕ). option_map_or (λ (array : ArrayId). ltb (in_array array p.rows) bound) row.wants.array true) o true
     ≡ option_map_or (λ (bound : ℕ). option_map_or (λ (array : ArrayId). ltb (in_array array q.rows) bound) row.wants.array true) o true) [
       | None ↦ refl
@@ -73,8 +73,8 @@ slots-same p q slots row alike =
 
 pub come-same : (p q : Plan) (row : Row) → SeenAlike p q → may_come p row ≡ may_come q row
 come-same p q row alike =
-    ap (λ (m : ℕ). is_queued row.course.state && is_reached m row.wants.start && is_within_bound p.rows row) alike.moment
-    ∙ ap (λ b. is_queued row.course.state && is_reached q.moment row.wants.start && b) (turn-same p q row alike)
+    ap (λ (m : ℕ). is_queued row.course.state && is_reached m row.wants.start && is_within_bound p.rows row.wants) alike.moment
+    ∙ ap (λ b. is_queued row.course.state && is_reached q.moment row.wants.start && b) (in_bound-same p q row alike)
 
 pub ready-same : (p q : Plan) (slots : ℕ) (row : Row) → SeenAlike p q → is_ready p slots row ≡ is_ready q slots row
 ready-same p q slots row alike =

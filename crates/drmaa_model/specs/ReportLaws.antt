@@ -112,7 +112,7 @@ may_exit-busy attempt course may = not-true (is_idle course.phase) (and_parts (n
 sound-begun : (row : Row) → IsSound row.wants row.course → is_started row.course.state ≡ true → IsSound row.wants (begun row.course)
 sound-begun row sound is = record {
   least = sound.least;
-  order = sound.order;
+  range = sound.range;
   known = sound.known;
   idle = λ e. absurd (false≢true (sym e ∙ is));
   started = λ e. ((λ h. cc), (sound.started e).1, (sound.started e).2);
@@ -201,7 +201,7 @@ lost-stops moment rerunnable course = record { over = after_loss-over rerunnable
 sound-stopped : (wants : Wants) (before next : Course) → IsSound wants before → Stops before next → IsSound wants next
 sound-stopped wants before next sound stops = record {
   least = sound.least;
-  order = sound.order;
+  range = sound.range;
   known = stops.over.known;
   idle = λ e. (stops.phase, stops.held);
   started = λ e. absurd (false≢true (sym stops.over.stopped ∙ e));
@@ -286,7 +286,7 @@ sound-marked wants before next sound marks is =
     let had = sound.started is in
     record {
       least = sound.least;
-      order = sound.order;
+      range = sound.range;
       known = λ e. sound.known (sym marks.state ∙ e);
       idle = λ e. absurd (false≢true (sym e ∙ still));
       started = λ e. ((λ h. had.0 (sym marks.phase ∙ h)), subst (λ (n : ℕ). wants.min ≤ n) (sym marks.held) had.1, subst (λ (n : ℕ). n ≤ wants.max) (sym marks.held) had.2);

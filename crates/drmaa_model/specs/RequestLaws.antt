@@ -19,7 +19,7 @@ use Rattle.drmaa_model.specs.Fit.{reservation_number, IsFit}
 use Rattle.drmaa_model.specs.FitLaws.{fewer-fit, expire-fit, call_in-fit}
 use Rattle.drmaa_model.specs.Load.{covers, slots_at, booked, load, in_reservation, held_inside, fits}
 use Rattle.drmaa_model.specs.MomentLaws.{first-some, fits-at}
-use Rattle.drmaa_model.specs.OrderLaws.{greatest_from-meets}
+use Rattle.drmaa_model.specs.NextLaunchLaws.{greatest_from-meets}
 use Rattle.drmaa_model.specs.OperationLaws.{KeepsFit, refusal-append, no_test}
 use Rattle.drmaa_model.specs.Plan.{Plan}
 use Rattle.drmaa_model.specs.Requests.{most_reservations, denied_at, start_in, slots_in, accepted_at, chosen_start, with_reservation, request, is_other, without_reservation, end_reservation}

@@ -15,7 +15,7 @@ use Rattle.drmaa_types.specs.declared.refusals.Limit.TheVariants as resource
 use Rattle.drmaa_model.specs.declared.reservations.Accepted.{Accepted}
 use Rattle.drmaa_model.specs.Load.{fits, first_overfull, earliest}
 use Rattle.drmaa_model.specs.Operation.{Operation}
-use Rattle.drmaa_model.specs.Order.{greatest_from}
+use Rattle.drmaa_model.specs.NextLaunch.{greatest_from}
 use Rattle.drmaa_model.specs.Plan.{Plan}
 use Rattle.drmaa_model.specs.Time.{is_accepted, expire, call_in}
 

@@ -43,7 +43,7 @@ use Rattle.drmaa_model.specs.History.{replay, IsLegal}
 use Rattle.drmaa_model.specs.HistoryLaws.{legal-keeps}
 use Rattle.drmaa_model.specs.Launching.{launch_row}
 use Rattle.drmaa_model.specs.OperationLaws.{no_test, refusal-append, own-job, row-sound}
-use Rattle.drmaa_model.specs.OrderLaws.{IsNextLaunch, next_launch-is}
+use Rattle.drmaa_model.specs.NextLaunchLaws.{IsNextLaunch, next_launch-is}
 use Rattle.drmaa_model.specs.Plan.{Plan}
 use Rattle.drmaa_model.specs.Reporting.{may_begin, may_exit, may_tell, start_row, over_row, unstart_row, end_row, lose_row, done_row, undone_row, report_of}
 use Rattle.drmaa_model.specs.ReportLaws.{Stops, report-leads, not_idle-started, may_begin-busy, may_exit-busy, unstarted-stops, exited-stops, lost-stops}

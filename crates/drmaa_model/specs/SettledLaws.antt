@@ -8,7 +8,7 @@ use Rattle.drmaa_model.specs.declared.courses.Order.{Order}
 use Rattle.drmaa_model.specs.declared.rows.Row.{Row}
 use Rattle.drmaa_model.specs.Fit.{IsFit}
 use Rattle.drmaa_model.specs.FitLaws.{held-advance}
-use Rattle.drmaa_model.specs.Order.{held, next_launch, settled}
+use Rattle.drmaa_model.specs.NextLaunch.{held, next_launch, settled}
 use Rattle.drmaa_model.specs.Plan.{Plan}
 use Rattle.drmaa_model.specs.Time.{is_due, kill_order, come_to, let_go, expire, advance_plan}
 

@@ -24,7 +24,7 @@ use Rattle.drmaa_model.specs.History.{replay, IsLegal}
 use Rattle.drmaa_model.specs.HistoryLaws.{legal-keeps}
 use Rattle.drmaa_model.specs.Homes.{home_number}
 use Rattle.drmaa_model.specs.Launching.{launch_of, launch_row, signal, next_signal, signal_of}
-use Rattle.drmaa_model.specs.Order.{next_launch}
+use Rattle.drmaa_model.specs.NextLaunch.{next_launch}
 use Rattle.drmaa_model.specs.Refusals.{refusal}
 use Rattle.drmaa_model.specs.Reporting.{report_of}
 use Rattle.drmaa_model.specs.Size.{size}

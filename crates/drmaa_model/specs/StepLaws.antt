@@ -37,8 +37,8 @@ use Rattle.drmaa_model.specs.HomeLaws.{forget-fit}
 use Rattle.drmaa_model.specs.Homes.{session_test, home_number}
 use Rattle.drmaa_model.specs.Launching.{launch_of, launch_row, signal, next_signal, signal_of}
 use Rattle.drmaa_model.specs.LaunchFit.{launch_row-fit}
-use Rattle.drmaa_model.specs.Order.{next_launch}
-use Rattle.drmaa_model.specs.OrderLaws.{next_launch-is}
+use Rattle.drmaa_model.specs.NextLaunch.{next_launch}
+use Rattle.drmaa_model.specs.NextLaunchLaws.{next_launch-is}
 use Rattle.drmaa_model.specs.OperationLaws.{no_test}
 use Rattle.drmaa_model.specs.Plan.{Plan, opening_plan}
 use Rattle.drmaa_model.specs.PlanSteps.{PlanStep, same-step, control-step, reap-step, launch-step, report-step, signal-step, submit-step, request-step, end-step, time-step, forget-step, edges-after}

@@ -121,7 +121,7 @@ join-fit p row fit joins =
 -- what each job of a submission asks for; the array and the bound are those of all
 pub record Suits (next_reservation : ℕ) (array : Option ArrayId) (bound : Option ℕ) (m : Member) : Type 0 where
   pub least : 1 ≤ min_slots m.template
-  pub order : min_slots m.template ≤ max_slots m.template
+  pub range : min_slots m.template ≤ max_slots m.template
   pub limit : IfSome (wallclock_limit m.template) (λ (seconds : ℕ). 1 ≤ seconds)
   pub reserved : IfSome m.template.reservation_id (λ (n : ReservationId). n.0 < next_reservation)
   pub array_is : m.membership.array ≡ array
@@ -138,8 +138,8 @@ course-stopped true = refl
 course-stopped false = refl
 
 sound-submitted : (w : Wants) (on_hold : Bool) → 1 ≤ w.min → w.min ≤ w.max → IfSome w.limit (λ (seconds : ℕ). 1 ≤ seconds) → IsSound w (submitted_course on_hold)
-sound-submitted w true least order limit = record { least = least; order = order; known = λ e. cc; idle = λ e. (refl, refl); started = λ e. absurd (cc); planned = λ e. absurd (cc); unplanned = λ e. refl; spared = λ e. refl; limit = limit }
-sound-submitted w false least order limit = record { least = least; order = order; known = λ e. cc; idle = λ e. (refl, refl); started = λ e. absurd (cc); planned = λ e. absurd (cc); unplanned = λ e. refl; spared = λ e. refl; limit = limit }
+sound-submitted w true least range limit = record { least = least; range = range; known = λ e. cc; idle = λ e. (refl, refl); started = λ e. absurd (cc); planned = λ e. absurd (cc); unplanned = λ e. refl; spared = λ e. refl; limit = limit }
+sound-submitted w false least range limit = record { least = least; range = range; known = λ e. cc; idle = λ e. (refl, refl); started = λ e. absurd (cc); planned = λ e. absurd (cc); unplanned = λ e. refl; spared = λ e. refl; limit = limit }
 
 module _ (home : ℕ) (p : Plan) where
   -- a job that is no member of an array joins
@@ -150,7 +150,7 @@ module _ (home : ℕ) (p : Plan) where
       let unbound : row.wants.bound ≡ None = suits.bound_is in
       record {
         number = refl;
-        sound = sound-submitted row.wants m.template.submit_as_hold suits.least suits.order suits.limit;
+        sound = sound-submitted row.wants m.template.submit_as_hold suits.least suits.range suits.limit;
         stopped = course-stopped m.template.submit_as_hold;
         attempt = refl;
         dispatched = refl;
@@ -171,7 +171,7 @@ module _ (home : ℕ) (p : Plan) where
       let own : row.wants.array ≡ Some array = suits.array_is in
       record {
         number = refl;
-        sound = sound-submitted row.wants m.template.submit_as_hold suits.least suits.order suits.limit;
+        sound = sound-submitted row.wants m.template.submit_as_hold suits.least suits.range suits.limit;
         stopped = course-stopped m.template.submit_as_hold;
         attempt = refl;
         dispatched = refl;
@@ -251,18 +251,18 @@ may-submit t indices p free =
     record { bulk = front.0; slots = slots.1; limits = limits.1; named = named.0; room = (no_test second rest named.1).1 }
 
 -- the slots that a job asks for have a meaning
-pub record AskSlots (t : JobTemplate) : Type 0 where
+pub record HasSlotRange (t : JobTemplate) : Type 0 where
   pub least : 1 ≤ min_slots t
-  pub order : min_slots t ≤ max_slots t
+  pub range : min_slots t ≤ max_slots t
 
-ask-slots : (slots : ℕ) (queues : List QueueSpec) (now : ℕ) (t : JobTemplate) → first_refusal (slot_tests slots queues now t) ≡ None → AskSlots t
-ask-slots slots queues now t free =
+has-slot_range : (slots : ℕ) (queues : List QueueSpec) (now : ℕ) (t : JobTemplate) → first_refusal (slot_tests slots queues now t) ≡ None → HasSlotRange t
+has-slot_range slots queues now t free =
     let third : Bool × Refusal = (is_bad_deadline now t, InvalidArgument which.DeadlineTime) in
     let second : Bool × Refusal = (ltb (max_slots t) (min_slots t), InvalidArgument which.MaxSlots) in
     let one = no_test (is_bad_least slots queues t, InvalidArgument which.MinSlots) (second ∷ third ∷ []) free in
     let two = no_test second (third ∷ []) one.1 in
     let some = eqb-false (min_slots t) 0 (or_parts (eqb (min_slots t) 0) (ltb slots (min_slots t)) (or_parts ((eqb (min_slots t) 0) || ltb slots (min_slots t)) (option_map_or (λ (limit : ℕ). ltb limit (min_slots t)) (queue_limit queues t) false) one.0).0).0 in
-    record { least = omega arith; order = ltb-false (max_slots t) (min_slots t) two.0 }
+    record { least = omega arith; range = ltb-false (max_slots t) (min_slots t) two.0 }
 
 limit-some : (ls : List ResourceLimit) → first_refusal (limit_tests false ls) ≡ None → IfSome (option_map (λ (l : ResourceLimit). l.value) (find is_wallclock ls)) (λ (seconds : ℕ). 1 ≤ seconds)
 limit-some [] free = tt
@@ -291,18 +291,18 @@ named-below (Some n) p fit free = accepted-below p.reservations n p.next_reserva
 -- each job suits
 suits-alone : (t : JobTemplate) (p : Plan) → IsFit p → MaySubmit t None p → AllByRecursion (Suits p.next_reservation None None) (members t None p)
 suits-alone t p fit may =
-    let slots = ask-slots p.total p.queues p.moment t may.slots in
-    (record { least = slots.least; order = slots.order; limit = limit-some t.resource_limits may.limits; reserved = named-below t.reservation_id p fit may.named; array_is = refl; bound_is = refl }, tt)
+    let slots = has-slot_range p.total p.queues p.moment t may.slots in
+    (record { least = slots.least; range = slots.range; limit = limit-some t.resource_limits may.limits; reserved = named-below t.reservation_id p fit may.named; array_is = refl; bound_is = refl }, tt)
 
 suits-members : (t : JobTemplate) (i : Indices) (p : Plan) → IsFit p → MaySubmit t (Some i) p → AllByRecursion (Suits p.next_reservation (Some (record { 0 = p.next_array })) i.bound) (members t (Some i) p)
 suits-members t i p fit may =
-    let slots = ask-slots p.total p.queues p.moment t may.slots in
+    let slots = has-slot_range p.total p.queues p.moment t may.slots in
     let Fits : Member → Type 0 = Suits p.next_reservation (Some (record { 0 = p.next_array })) i.bound in
     let made : ℕ → Member = λ index. record { template = expanded index t; membership = membership i p index } in
     all-map Fits made (indices_of i)
     (all-each (λ (index : ℕ). Fits (made index)) (λ index. record {
       least = slots.least;
-      order = slots.order;
+      range = slots.range;
       limit = limit-some t.resource_limits may.limits;
       reserved = named-below t.reservation_id p fit may.named;
       array_is = refl;

@@ -10,10 +10,10 @@ use Rattle.drmaa_model.specs.declared.courses.Order.{Order}
 use Rattle.drmaa_model.specs.declared.replies.Reply.{Reply}
 use Rattle.drmaa_model.specs.declared.replies.Reply.TheVariants as reply
 use Rattle.drmaa_model.specs.declared.rows.Row.{Row}
-use Rattle.drmaa_model.specs.AnswerLaws.{served-gives}
+use Rattle.drmaa_model.specs.AnswerLaws.{given-reply, given-world, served-gives}
 use Rattle.drmaa_model.specs.Effects.{gives, nothing, not_yet, makes, wait_answer}
 use Rattle.drmaa_model.specs.Launching.{launch_of, launch_row, signal_of, next_signal, take_first, is_due_now}
-use Rattle.drmaa_model.specs.Order.{next_launch}
+use Rattle.drmaa_model.specs.NextLaunch.{next_launch}
 use Rattle.drmaa_model.specs.Refusals.{refusal}
 use Rattle.drmaa_model.specs.Steps.{answer_now}
 use Rattle.drmaa_model.specs.Waiting.{first_reached, is_timed_out}
@@ -28,12 +28,6 @@ pub record HandsOut (v : World) (r : Reply) (next : World) : Type 0 where
   pub first : next_launch v.plan ≡ Some (row, slots)
   pub replies : r ≡ reply.Launch (launch_of row slots)
   pub world : next ≡ counted (record v { plan = launch_row (v.entries + 1) row slots v.plan })
-
-given-reply : (r s : Reply) (v w : World) → gives r v ≡ gives s w → r ≡ s
-given-reply r s v w same = cc
-
-given-world : (r s : Reply) (v w : World) → gives r v ≡ gives s w → v ≡ w
-given-world r s v w same = cc
 
 pub launch-hands_out : (v : World) (at : ℕ) (r : Reply) (next : World) → answer_now at v call.TakeLaunch ≡ gives r next → HandsOut v r next
 launch-hands_out v at r next is =

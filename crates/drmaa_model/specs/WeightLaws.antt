@@ -33,8 +33,8 @@ use Rattle.drmaa_model.specs.FitLaws.{SameKind, same-kind, ends-waiting}
 use Rattle.drmaa_model.specs.Growth.{is_of_run, is_growing}
 use Rattle.drmaa_model.specs.Homes.{is_same_home}
 use Rattle.drmaa_model.specs.Launching.{launch_row}
-use Rattle.drmaa_model.specs.Order.{next_launch}
-use Rattle.drmaa_model.specs.OrderLaws.{next_launch-is}
+use Rattle.drmaa_model.specs.NextLaunch.{next_launch}
+use Rattle.drmaa_model.specs.NextLaunchLaws.{next_launch-is}
 use Rattle.drmaa_model.specs.OperationLaws.{own-job, row-sound}
 use Rattle.drmaa_model.specs.Plan.{Plan}
 use Rattle.drmaa_model.specs.Reporting.{is_idle, is_launching, may_begin, may_exit, may_tell, start_row, over_row, unstart_row, end_row, lose_row, done_row, undone_row, report_of}

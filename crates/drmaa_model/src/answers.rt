@@ -14,7 +14,7 @@ ghost use Rattle.drmaa_model.specs.declared.replies.Signal.{Signal};
 ghost use Rattle.drmaa_model.specs.AnswerLaws.{IsFirstOf};
 ghost use Rattle.drmaa_model.specs.Effects.{effect, gives, makes, nothing, not_yet};
 ghost use Rattle.drmaa_model.specs.Launching.{next_signal};
-ghost use Rattle.drmaa_model.specs.Order.{next_launch};
+ghost use Rattle.drmaa_model.specs.NextLaunch.{next_launch};
 ghost use Rattle.drmaa_model.specs.Refusals.{refusal};
 ghost use Rattle.drmaa_model.specs.ReplyKinds.{IsReplyOf};
 ghost use Rattle.drmaa_model.specs.Steps.{answer};

@@ -1,4 +1,5 @@
 //! Why a call made no entry.
+use drmaa_types::{Limit, Refusal};
 use std::alloc::AllocError;
 use std::error::Error;
 use std::fmt;
@@ -24,6 +25,21 @@ impl From<AllocError> for NoEntry {
 
     fn from(_: AllocError) -> NoEntry {
         NoEntry::OutOfMemory
+    }
+}
+
+// What a caller is refused for that was given no entry.
+impl From<NoEntry> for Refusal {
+    ghost use Rattle.std.specs.Prelude.{◌≡◌};
+    ghost use Rattle.drmaa_model.specs.Faults.{refusal_for};
+
+    ghost from_gives = { λ fault why. why ≡ refusal_for fault };
+
+    fn from(fault: NoEntry) -> Refusal {
+        match fault {
+            NoEntry::Journal { size } => Refusal::OutOfResource(Limit::Journal { size }),
+            NoEntry::OutOfMemory | NoEntry::NotYet | NoEntry::Nothing => Refusal::OutOfMemory,
+        }
     }
 }
 

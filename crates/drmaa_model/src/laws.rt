@@ -32,7 +32,7 @@ ghost use Rattle.drmaa_model.specs.Launching.{launch, signal};
 ghost use Rattle.drmaa_model.specs.Load.{fits, in_queue};
 ghost use Rattle.drmaa_model.specs.Moving.{MovesOne, ReportMoves};
 ghost use Rattle.drmaa_model.specs.OperationLaws.{KeepsFit};
-ghost use Rattle.drmaa_model.specs.Order.{has_slots_free, next_launch};
+ghost use Rattle.drmaa_model.specs.NextLaunch.{has_slots_free, next_launch};
 ghost use Rattle.drmaa_model.specs.Plan.{Plan};
 ghost use Rattle.drmaa_model.specs.QueueLaws.{ArePlaced, AreQueueless};
 ghost use Rattle.drmaa_model.specs.Reporting.{report_of};

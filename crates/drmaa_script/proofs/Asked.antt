@@ -18,7 +18,7 @@ use Rattle.drmaa_script.specs.Endings.{IsWhole, MayEnd, HandsClocks}
 use Rattle.drmaa_script.specs.Runs.{AreCallersClocks}
 use Rattle.drmaa_script.proofs.Ran.{none_whose}
 use Rattle.script_commands.specs.Outcomes.{IsScriptText}
-use Rattle.script_commands.proofs.Kept.{same_front}
+use Rattle.script_commands.proofs.Returned.{same_front}
 
 -- the command that was found is any that the words ask for
 pub the_command : (words : List (List ℕ)) (found command : Command) → Asks words found → Asks words command → found ≡ command

@@ -16,7 +16,7 @@ ghost use Rattle.drmaa_script.specs.Runs.{AreCallersClocks, HadCallers};
 ghost use Rattle.drmaa_script.specs.Soaking.{SoakEnds};
 ghost use Rattle.drmaa_script.specs.Endings.{Ends, IsWhole, MayEnd, PlaysAlone, IsDeaf, Reads, limit_of, WritesJournal, HandsClocks, Starts};
 ghost use Rattle.script_commands.specs.Outcomes.{IsScriptText, IsWritten};
-ghost use Rattle.script_commands.specs.Registers.{HasPlayed, AreKept};
+ghost use Rattle.script_commands.specs.Registers.{HasPlayed, AreReturned};
 ghost use Rattle.journal_commands.specs.Statuses.{IsQuiet, HasRead, HasWritten, IsUnstarted};
 
 use crate::outcomes::{Outcome, without_clocks};
@@ -84,7 +84,7 @@ fn run_deaf<J: JournalCommand, R: Source, W: Sink, C, B: Callback>(
     ensures whole { (Rose (R.faults source.old) (R.faults source.new) → ⊥) → (Rose (W.faults sink.old) (W.faults sink.new) → ⊥)
         → IfSome (R.left source.old) (λ bytes. JournalIsWhole (J.Decides command) bytes result.status) }
     ensures clocks { result.clocks ≡ [] }
-    ensures kept { AreKept B.counted B.told callbacks result.callbacks }
+    ensures returned { AreReturned B.counted B.told callbacks result.callbacks }
     ensures deaf { result.callbacks ≡ callbacks }
 {
     let status = run_journal(alloc, command, source, sink);
@@ -136,7 +136,7 @@ fn run_command<
         → HearHistory B.counted B.told script.config (serial_play script).entries callbacks result.callbacks) }
     ensures heard_front { PlaysAlone command → result.status ≡ Status.Memory → IfSome (R.left source.old) (λ bytes. (script : Script) → IsScriptText mode.Serial bytes script
         → HearFront B.counted B.told script.config (serial_play script).entries callbacks result.callbacks) }
-    ensures kept { AreKept B.counted B.told callbacks result.callbacks }
+    ensures returned { AreReturned B.counted B.told callbacks result.callbacks }
     ensures unheard { IsUnstarted result.status → result.callbacks ≡ callbacks }
     ensures deaf { IsDeaf command → result.callbacks ≡ callbacks }
 {
@@ -181,7 +181,7 @@ fn run_command<
 fn unbegun<C, B: Callback>(alloc: Global, status: Status, callbacks: Callbacks<B>) -> Outcome<C, B>
     ensures status { result.status ≡ status }
     ensures clocks { result.clocks ≡ [] }
-    ensures kept { AreKept B.counted B.told callbacks result.callbacks }
+    ensures returned { AreReturned B.counted B.told callbacks result.callbacks }
     ensures deaf { result.callbacks ≡ callbacks }
 {
     without_clocks(alloc, Ended { status, callbacks })
@@ -276,7 +276,7 @@ pub fn run<
     ensures heard_front { (command : Command) → Asks words.now command → PlaysAlone command → result.status ≡ Status.Memory
         → IfSome (R.left source.old) (λ bytes. (script : Script) → IsScriptText mode.Serial bytes script
         → HearFront B.counted B.told script.config (serial_play script).entries callbacks result.callbacks) }
-    ensures kept { AreKept B.counted B.told callbacks result.callbacks }
+    ensures returned { AreReturned B.counted B.told callbacks result.callbacks }
     ensures unheard { IsUnstarted result.status → result.callbacks ≡ callbacks }
     ensures unnamed { NamesNone words.now → result.callbacks ≡ callbacks }
     ensures deaf { (command : Command) → Asks words.now command → IsDeaf command → result.callbacks ≡ callbacks }

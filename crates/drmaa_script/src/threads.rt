@@ -8,7 +8,7 @@ ghost use Rattle.script_text.specs.declared.scripts.Mode.TheVariants as mode;
 ghost use Rattle.thread_play.specs.Hubs.{HearRun};
 ghost use Rattle.journal_commands.specs.Texts.{IsReadOut};
 ghost use Rattle.script_commands.specs.Outcomes.{IsSpelled, IsOfScript};
-ghost use Rattle.script_commands.specs.Registers.{registers_of, AreKept};
+ghost use Rattle.script_commands.specs.Registers.{registers_of, AreReturned};
 ghost use Rattle.drmaa_script.specs.Runs.{RunEnds, RunIsWhole, LeavesClocks, AreCallersClocks, HadCallers, IsRunEnd};
 ghost use Rattle.drmaa_script.specs.Running.{IsTextOfRun, RanEnds};
 ghost use Rattle.journal_commands.specs.Statuses.{IsQuiet, HasRead, HasWritten, IsUnstarted};
@@ -168,7 +168,7 @@ fn run_to<
     ensures clocks { (LeavesClocks result.status → ⊥) → result.clocks ≡ [] }
     ensures unstarted { IsUnstarted result.status → spawner.new ≡ spawner.old }
     ensures fates { S.fate spawner.new ≡ S.fate spawner.old }
-    ensures kept { AreKept B.counted B.told callbacks result.callbacks }
+    ensures returned { AreReturned B.counted B.told callbacks result.callbacks }
     ensures unheard { IsUnstarted result.status → result.callbacks ≡ callbacks }
 {
     if !are_enough(script, callbacks.as_slice().len()) {
@@ -233,7 +233,7 @@ pub fn run_threads<
     ensures callers { HadCallers result.status (length result.clocks) }
     ensures unstarted { IsUnstarted result.status → spawner.new ≡ spawner.old }
     ensures fates { S.fate spawner.new ≡ S.fate spawner.old }
-    ensures kept { AreKept B.counted B.told callbacks result.callbacks }
+    ensures returned { AreReturned B.counted B.told callbacks result.callbacks }
     ensures unheard { IsUnstarted result.status → result.callbacks ≡ callbacks }
 {
     match read_script(alloc, Mode::Threads, source) {

@@ -15,8 +15,8 @@ use drmaa_types::{CallerId, Exit, JobId, Moment};
 fn end_one(machine: &mut Machine, at: Moment, from: JobId, found: &Started)
     requires { Some found.now ≡
         option_map started_of (started_from from.0 (advance (now_of machine.old.ledger) at).plan.rows) }
-    ensures ends { (first : Ledger) (told : List Predicted) → IsEnding at from.0 first machine.old.ledger told →
-        IsEnding at (found.now.job.0 + 1) first machine.new.ledger told }
+    ensures ends { (first : Ledger) (foretold : List Predicted) → IsEnding at from.0 first machine.old.ledger foretold →
+        IsEnding at (found.now.job.0 + 1) first machine.new.ledger foretold }
 {
     if found.asked {
         let call = Call::Exited {
@@ -30,8 +30,8 @@ fn end_one(machine: &mut Machine, at: Moment, from: JobId, found: &Started)
 
 /// The started jobs of which a kill was asked end now, by number.
 pub fn end_asked(machine: &mut Machine, at: Moment)
-    ensures ends { (first : Ledger) (told : List Predicted) → IsFresh at first machine.old.ledger told →
-        IsEnded at first machine.new.ledger told }
+    ensures ends { (first : Ledger) (foretold : List Predicted) → IsFresh at first machine.old.ledger foretold →
+        IsEnded at first machine.new.ledger foretold }
 {
     let mut from = JobId(0);
     'jobs: while let Some(found) = machine.started(at, from) {

@@ -40,17 +40,16 @@ fn told_of(at: Moment, answer: Result<Reply, NoEntry>) -> Tried
 /// The next job is launched now, if one can be.
 fn launch_one(machine: &mut Machine, at: Moment) -> Tried
     ensures launched { (start : Predicted) → result ≡ Tried.Launched start →
-        (first : Ledger) (told : List Predicted) → IsEnded at first machine.old.ledger told → IsEnded at first machine.new.ledger (told ++ start ∷ []) }
-    ensures nothing { result ≡ Tried.Nothing → (first : Ledger) (told : List Predicted) →
-        IsEnded at first machine.old.ledger told → IsOver at first machine.new.ledger told }
-    ensures full { (n : ℕ) → result ≡ Tried.Full n → (first : Ledger) (told : List Predicted) →
-        IsEnded at first machine.old.ledger told → IsFull (now_of first) n }
+        (first : Ledger) (foretold : List Predicted) → IsEnded at first machine.old.ledger foretold → IsEnded at first machine.new.ledger (foretold ++ start ∷ []) }
+    ensures nothing { result ≡ Tried.Nothing → (first : Ledger) (foretold : List Predicted) →
+        IsEnded at first machine.old.ledger foretold → IsOver at first machine.new.ledger foretold }
+    ensures full { (n : ℕ) → result ≡ Tried.Full n → (first : Ledger) (foretold : List Predicted) →
+        IsEnded at first machine.old.ledger foretold → IsFull (now_of first) n }
     ensures grows { (start : Predicted) → result ≡ Tried.Launched start →
         length machine.new.ledger.history ≡ length machine.old.ledger.history + 1 }
     ensures few { length machine.new.ledger.history ≤ 4_000_000 }
 {
     let answer = machine.apply(CallerId(0), at, Call::TakeLaunch);
-    let _entries = machine.entries();
     told_of(at, answer)
 }
 

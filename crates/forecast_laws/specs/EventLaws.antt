@@ -20,8 +20,8 @@ use Rattle.drmaa_model.specs.Fit.{IsFit, IsSound}
 use Rattle.drmaa_model.specs.FitLaws.{load-let_go}
 use Rattle.drmaa_model.specs.Load.{ends_after, covers, slots_at, uses_at, load, bound_of, in_reservation, in_array, reservation_of, fits}
 use Rattle.drmaa_model.specs.MomentLaws.{ends-before, fits-at, fits-from}
-use Rattle.drmaa_model.specs.Order.{is_queued, is_reached, is_within_bound, has_slots_in, has_room_in, has_slots, may_come, is_ready, first_in_order, slots_for, next_launch}
-use Rattle.drmaa_model.specs.OrderLaws.{ready-parts, ready-from, next_launch-none, queued-may_launch}
+use Rattle.drmaa_model.specs.NextLaunch.{is_queued, is_reached, is_within_bound, has_slots_in, has_room_in, has_slots, may_come, is_ready, best_of, slots_for, next_launch}
+use Rattle.drmaa_model.specs.NextLaunchLaws.{ready-parts, ready-from, next_launch-none, queued-may_launch}
 use Rattle.drmaa_model.specs.Plan.{Plan}
 use Rattle.drmaa_model.specs.ReadyLaws.{ready-same, seen-advance, planned-ahead, not-late}
 use Rattle.drmaa_model.specs.RowLaws.{all-both, all-implied, all-filter, all-map}
@@ -31,7 +31,7 @@ use Rattle.drmaa_model.specs.TimeLaws.{timed, timed-wants, map-twice, lapsed-cas
 use Rattle.drmaa_model.specs.WaitLaws.{launch-nothing, nothing-launch}
 use Rattle.drmaa_model.specs.World.{World}
 use Rattle.forecast_laws.specs.Forecasts.{is_ending, NoneEnds, IsDone}
-use Rattle.forecast_laws.specs.QuietLaws.{NoneBetween, each-quiet, first-quiet, second-quiet, BookStays, book-stays, JobStays, job-stays, AreAlike, timed-alike}
+use Rattle.forecast_laws.specs.QuietLaws.{NoneBetween, each-quiet, first-quiet, second-quiet, ReservationStays, reservation-stays, JobStays, job-stays, AreAlike, timed-alike}
 
 -- nothing is left to do in a plan
 pub record IsStill (p : Plan) : Type 0 where
@@ -64,7 +64,7 @@ unmap P f (x ∷ xs) all = (all.0, unmap P f xs all.1)
 -- where no job is ready none is launched
 none-ready : (p : Plan) → AllByRecursion (λ (r : Row). is_ready p r.wants.min r ≡ false) p.rows → next_launch p ≡ None
 none-ready p all =
-    ap (λ (rows : List Row). option_map {U = Row × ℕ} (λ (row : Row). (row, slots_for p row)) (first_in_order rows)) (filter-none (λ (r : Row). is_ready p r.wants.min r) p.rows all)
+    ap (λ (rows : List Row). option_map {U = Row × ℕ} (λ (row : Row). (row, slots_for p row)) (best_of rows)) (filter-none (λ (r : Row). is_ready p r.wants.min r) p.rows all)
 
 -- ---- the planned end of a later launch is not earlier
 
@@ -114,14 +114,14 @@ module _ (entry other x y : ℕ) (p : Plan) (fit : IsFit p) (order : max p.momen
       (job-stays (max p.moment x) (max p.moment y) order) p.rows
       (each-quiet is_row_event (max p.moment x) (max p.moment y) p.rows (first-quiet (λ m. list_any (is_row_event m) p.rows) (λ m. list_any (bounds_at m) p.reservations) (max p.moment x) (max p.moment y) quiet))
 
-  books-stay : AllByRecursion (BookStays (max p.moment x) (max p.moment y) order) p.reservations
-  books-stay = all-implied (λ (a : Accepted). NoneBetween (max p.moment x) (max p.moment y) (λ m. bounds_at m a)) (BookStays (max p.moment x) (max p.moment y) order)
-      (book-stays (max p.moment x) (max p.moment y) order) p.reservations
+  reservations-stay : AllByRecursion (ReservationStays (max p.moment x) (max p.moment y) order) p.reservations
+  reservations-stay = all-implied (λ (a : Accepted). NoneBetween (max p.moment x) (max p.moment y) (λ m. bounds_at m a)) (ReservationStays (max p.moment x) (max p.moment y) order)
+      (reservation-stays (max p.moment x) (max p.moment y) order) p.reservations
       (each-quiet bounds_at (max p.moment x) (max p.moment y) p.reservations (second-quiet (λ m. list_any (is_row_event m) p.rows) (λ m. list_any (bounds_at m) p.reservations) (max p.moment x) (max p.moment y) quiet))
 
-  same-books : (let_go (come_to x p)).reservations ≡ (let_go (come_to y p)).reservations
-  same-books = filter-same (lasts (max p.moment x)) (lasts (max p.moment y)) p.reservations
-      (all-implied (BookStays (max p.moment x) (max p.moment y) order) (λ (a : Accepted). lasts (max p.moment x) a ≡ lasts (max p.moment y) a) (λ a stays. stays.lasts) p.reservations books-stay)
+  same-reservations : (let_go (come_to x p)).reservations ≡ (let_go (come_to y p)).reservations
+  same-reservations = filter-same (lasts (max p.moment x)) (lasts (max p.moment y)) p.reservations
+      (all-implied (ReservationStays (max p.moment x) (max p.moment y) order) (λ (a : Accepted). lasts (max p.moment x) a ≡ lasts (max p.moment y) a) (λ a stays. stays.lasts) p.reservations reservations-stay)
 
   -- the load is the same at each moment between
   same-load : (z : ℕ) → max p.moment x ≤ z → z ≤ max p.moment y → load p z ≡ load p (max p.moment y)
@@ -129,7 +129,7 @@ module _ (entry other x y : ℕ) (p : Plan) (fit : IsFit p) (order : max p.momen
       omega (
         arith,
         sum-each (slots_at z) (slots_at (max p.moment y)) p.reservations
-            (all-implied (BookStays (max p.moment x) (max p.moment y) order) (λ (a : Accepted). slots_at z a ≡ slots_at (max p.moment y) a) (λ a stays. ap (λ b. cond b a.slots 0) (stays.covers z low high)) p.reservations books-stay),
+            (all-implied (ReservationStays (max p.moment x) (max p.moment y) order) (λ (a : Accepted). slots_at z a ≡ slots_at (max p.moment y) a) (λ a stays. ap (λ b. cond b a.slots 0) (stays.covers z low high)) p.reservations reservations-stay),
         sum-each (uses_at z) (uses_at (max p.moment y)) p.rows
             (all-implied (JobStays (max p.moment x) (max p.moment y) order) (λ (r : Row). uses_at z r ≡ uses_at (max p.moment y) r) (λ r stays. stays.uses z low high) p.rows jobs-stay),
       )
@@ -150,12 +150,12 @@ module _ (entry other x y : ℕ) (p : Plan) (fit : IsFit p) (order : max p.momen
 
   inside-back : (k : ℕ) (n : ReservationId) → has_slots_in (let_go (come_to y p)) k n ≡ true → has_slots_in (let_go (come_to x p)) k n ≡ true
   inside-back k n is =
-      ap (λ (rs : List Accepted). option_map_or (λ (a : Accepted). covers (max p.moment x) a && leb (in_reservation n p.rows + k) a.slots) (reservation_of n rs) false) same-books
+      ap (λ (rs : List Accepted). option_map_or (λ (a : Accepted). covers (max p.moment x) a && leb (in_reservation n p.rows + k) a.slots) (reservation_of n rs) false) same-reservations
       ∙ found-same (λ (a : Accepted). a.reservation.0 == n.0) (λ (a : Accepted). covers (max p.moment x) a && leb (in_reservation n p.rows + k) a.slots) (λ (a : Accepted). covers (max p.moment y) a && leb (in_reservation n p.rows + k) a.slots)
       (let_go (come_to y p)).reservations
       (all-filter (λ (a : Accepted). (covers (max p.moment x) a && leb (in_reservation n p.rows + k) a.slots) ≡ (covers (max p.moment y) a && leb (in_reservation n p.rows + k) a.slots)) (lasts (max p.moment y)) p.reservations
-      (all-implied (BookStays (max p.moment x) (max p.moment y) order) (λ (a : Accepted). (covers (max p.moment x) a && leb (in_reservation n p.rows + k) a.slots) ≡ (covers (max p.moment y) a && leb (in_reservation n p.rows + k) a.slots))
-      (λ a stays. ap (λ b. b && leb (in_reservation n p.rows + k) a.slots) (stays.covers (max p.moment x) (omega arith) order)) p.reservations books-stay))
+      (all-implied (ReservationStays (max p.moment x) (max p.moment y) order) (λ (a : Accepted). (covers (max p.moment x) a && leb (in_reservation n p.rows + k) a.slots) ≡ (covers (max p.moment y) a && leb (in_reservation n p.rows + k) a.slots))
+      (λ a stays. ap (λ b. b && leb (in_reservation n p.rows + k) a.slots) (stays.covers (max p.moment x) (omega arith) order)) p.reservations reservations-stay))
       ∙ is
 
   room-back : (k : ℕ) (w : Wants) → ends_after (max p.moment y) (planned_end w (max p.moment y)) ≡ true → room_for (let_go (come_to y p)) k w ≡ true → room_for (let_go (come_to x p)) k w ≡ true
@@ -175,7 +175,7 @@ module _ (entry other x y : ℕ) (p : Plan) (fit : IsFit p) (order : max p.momen
   ready-back k r sound stays is =
       let a = timed (max p.moment x) (let_go (come_to x p)).reservations r in
       let b = timed (max p.moment y) (let_go (come_to y p)).reservations r in
-      let alike : AreAlike a b = subst (λ (rs : List Accepted). AreAlike a (timed (max p.moment y) rs r)) same-books (timed-alike (max p.moment x) (max p.moment y) order (let_go (come_to x p)).reservations r stays) in
+      let alike : AreAlike a b = subst (λ (rs : List Accepted). AreAlike a (timed (max p.moment y) rs r)) same-reservations (timed-alike (max p.moment x) (max p.moment y) order (let_go (come_to x p)).reservations r stays) in
       let parts = ready-parts (let_go (come_to y p)) k b (sym (ready-same (advance_plan other y p) (let_go (come_to y p)) k b (seen-advance other y p fit)) ∙ is) in
       let waits : is_waiting b.course.state ≡ true = (queued-may_launch b.course.state parts.queued).waits in
       let waited = timed-waits (max p.moment y) (let_go (come_to y p)).reservations r waits in
@@ -185,16 +185,16 @@ module _ (entry other x y : ℕ) (p : Plan) (fit : IsFit p) (order : max p.momen
       let ahead = planned-ahead r.wants (max p.moment y) sound.limit late in
       let reached : is_reached (max p.moment x) a.wants.start ≡ true =
       ap (λ (t : Wants). is_reached (max p.moment x) t.start) earlier ∙ stays.reached waited ∙ sym (ap (λ (t : Wants). is_reached (max p.moment y) t.start) later) ∙ parts.reached in
-      let turn : is_within_bound p.rows a ≡ true = sym (turn-of p.rows a b alike.wants) ∙ parts.turn in
+      let in_bound : is_within_bound p.rows a.wants ≡ true = sym (in_bound-of p.rows a b alike.wants) ∙ parts.in_bound in
       let queued : is_queued a.course.state ≡ true = sym (ap is_queued alike.state) ∙ parts.queued in
       let has : has_slots (let_go (come_to x p)) k a ≡ true =
       subst (λ (t : Wants). room_for (let_go (come_to x p)) k t ≡ true) (sym earlier)
       (room-back k r.wants ahead (subst (λ (t : Wants). room_for (let_go (come_to y p)) k t ≡ true) later parts.has)) in
-      let come : may_come (let_go (come_to x p)) a ≡ true = and_from (is_queued a.course.state && is_reached (max p.moment x) a.wants.start) (is_within_bound p.rows a)
-      (and_from (is_queued a.course.state) (is_reached (max p.moment x) a.wants.start) queued reached) turn in
+      let come : may_come (let_go (come_to x p)) a ≡ true = and_from (is_queued a.course.state && is_reached (max p.moment x) a.wants.start) (is_within_bound p.rows a.wants)
+      (and_from (is_queued a.course.state) (is_reached (max p.moment x) a.wants.start) queued reached) in_bound in
       ready-same (advance_plan entry x p) (let_go (come_to x p)) k a (seen-advance entry x p fit) ∙ ready-from (let_go (come_to x p)) k a come parts.free has where
-        turn-of : (rows : List Row) (a b : Row) → b.wants ≡ a.wants → is_within_bound rows b ≡ is_within_bound rows a
-        turn-of rows a b same = ap (λ (t : Wants). option_map_or (λ (bound : ℕ). option_map_or (λ (array : ArrayId). ltb (in_array array rows) bound) t.array true) t.bound true) same
+        in_bound-of : (rows : List Row) (a b : Row) → b.wants ≡ a.wants → is_within_bound rows b.wants ≡ is_within_bound rows a.wants
+        in_bound-of rows a b same = ap (λ (t : Wants). option_map_or (λ (bound : ℕ). option_map_or (λ (array : ArrayId). ltb (in_array array rows) bound) t.array true) t.bound true) same
 
   -- Where nothing is left to do at a moment, and no event comes up to a later one, nothing is left to do then.
   pub still-between : IsStill (advance_plan entry x p) → IsStill (advance_plan other y p)
@@ -212,7 +212,7 @@ module _ (entry other x y : ℕ) (p : Plan) (fit : IsFit p) (order : max p.momen
         (all-implied (λ (r : Row). JobStays (max p.moment x) (max p.moment y) order r × (is_ending (timed (max p.moment x) (let_go (come_to x p)).reservations r) ≡ false))
         (λ (r : Row). is_ending (timed (max p.moment y) (let_go (come_to y p)).reservations r) ≡ false)
         (λ r both. ending-of (timed (max p.moment x) (let_go (come_to x p)).reservations r) (timed (max p.moment y) (let_go (come_to y p)).reservations r)
-        (subst (λ (rs : List Accepted). AreAlike (timed (max p.moment x) (let_go (come_to x p)).reservations r) (timed (max p.moment y) rs r)) same-books (timed-alike (max p.moment x) (max p.moment y) order (let_go (come_to x p)).reservations r both.0)) ∙ both.1) p.rows
+        (subst (λ (rs : List Accepted). AreAlike (timed (max p.moment x) (let_go (come_to x p)).reservations r) (timed (max p.moment y) rs r)) same-reservations (timed-alike (max p.moment x) (max p.moment y) order (let_go (come_to x p)).reservations r both.0)) ∙ both.1) p.rows
         (all-both (JobStays (max p.moment x) (max p.moment y) order) (λ (r : Row). is_ending (timed (max p.moment x) (let_go (come_to x p)).reservations r) ≡ false) p.rows jobs-stay running)))
 
     not_ready : AllByRecursion (λ (r : Row). is_ready (advance_plan entry x p) (timed (max p.moment x) (let_go (come_to x p)).reservations r).wants.min (timed (max p.moment x) (let_go (come_to x p)).reservations r) ≡ true → ⊥) p.rows

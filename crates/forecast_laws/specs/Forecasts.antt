@@ -65,7 +65,7 @@ pub record EndsBefore (job : JobId) (entry : Entry) : Type 0 where
 -- Moments never fall. At one moment the ends stand before the launches, by number.
 pub record Precedes (first second : Entry) : Type 0 where
   pub time : first.at ≤ second.at
-  pub turn : first.at ≡ second.at → (job : JobId) (attempt : ℕ) (exit : Exit) → second.call ≡ call.Exited job attempt exit → EndsBefore job first
+  pub ends_first : first.at ≡ second.at → (job : JobId) (attempt : ℕ) (exit : Exit) → second.call ≡ call.Exited job attempt exit → EndsBefore job first
 
 abbrev pub AreInSequence : List Entry → Type 0
 AreInSequence [] = Unit {0}
@@ -82,7 +82,7 @@ world_by w entries moment = replay_from w (filter (λ (entry : Entry). nat_le en
 pub record IsForecastBefore (until : ℕ) (w : World) (entries : List Entry) : Type 0 where
   pub legal : IsLegalFrom w entries
   pub foreseen : AreForeseen w entries
-  pub turns : AreInSequence entries
+  pub sequence : AreInSequence entries
   pub since : AllByRecursion (λ (entry : Entry). w.plan.moment ≤ entry.at) entries
   pub within : AllByRecursion (λ (entry : Entry). entry.at ≤ greatest) entries
   pub done : (moment : ℕ) → w.plan.moment ≤ moment → moment < until → IsDone (world_by w entries moment) moment

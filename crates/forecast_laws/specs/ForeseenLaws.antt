@@ -20,14 +20,14 @@ use Rattle.drmaa_model.specs.declared.replies.Reply.{Reply}
 use Rattle.drmaa_model.specs.declared.replies.Reply.TheVariants as reply
 use Rattle.drmaa_model.specs.declared.reservations.Accepted.{Accepted}
 use Rattle.drmaa_model.specs.declared.rows.Row.{Row}
-use Rattle.drmaa_model.specs.AnswerLaws.{answer-cases}
+use Rattle.drmaa_model.specs.AnswerLaws.{answer-cases, given-world}
 use Rattle.drmaa_model.specs.Consistent.{IsConsistent}
 use Rattle.drmaa_model.specs.Courses.{failed, called, exited, launched, planned_end, is_asked, is_unasked}
 use Rattle.drmaa_model.specs.Effects.{StepAnswer, gives, makes}
 use Rattle.drmaa_model.specs.Fit.{IsFit, IsSound}
 use Rattle.drmaa_model.specs.Moving.{MovesOne}
 use Rattle.drmaa_model.specs.MoveLaws.{others-stay, report-moves}
-use Rattle.drmaa_model.specs.OrderLaws.{next_launch-is}
+use Rattle.drmaa_model.specs.NextLaunchLaws.{next_launch-is}
 use Rattle.drmaa_model.specs.Plan.{Plan}
 use Rattle.drmaa_model.specs.Reporting.{is_idle, may_exit, end_row, report_of}
 use Rattle.drmaa_model.specs.ReportLaws.{report-finds, exited-stops, may_exit-busy, not_idle-started}
@@ -91,9 +91,6 @@ pub record Ends (v next : World) (job : JobId) (attempt : ℕ) (exit : Exit) : T
   pub attempt_is : row.course.attempt ≡ attempt
   pub started : is_started row.course.state ≡ true
   pub moves : MovesOne v.plan next.plan row (exited v.plan.moment exit row.wants.rerunnable row.course)
-
-given-world : (r s : Reply) (v w : World) → gives r v ≡ gives s w → v ≡ w
-given-world r s v w same = cc
 
 not-refused : (why : Refusal) (v next : World) → makes (reply.Refused why) v ≡ gives reply.Unit next → ⊥
 not-refused why v next same = cc

@@ -21,7 +21,7 @@ use Rattle.forecast_laws.specs.Forecasts.{IsDone, IsForeseen, AreForeseen, Prece
 
 pub none-yet : (w : World) → w.plan.moment ≤ greatest → IsForecastUpTo w.plan.moment w []
 none-yet w within = record {
-  before = record { legal = tt; foreseen = tt; turns = tt; since = tt; within = tt; done = λ x low high. absurd (omega (arith, low, high)) };
+  before = record { legal = tt; foreseen = tt; sequence = tt; since = tt; within = tt; done = λ x low high. absurd (omega (arith, low, high)) };
   reached = tt;
   now = omega arith;
   within = within;
@@ -33,9 +33,9 @@ foreseen-append : (w : World) (xs ys : List Entry) → AreForeseen w xs → AreF
 foreseen-append w [] ys front back = back
 foreseen-append w (x ∷ xs) ys front back = (front.0, foreseen-append (after_entry w x) xs ys front.1 back)
 
-turns-push : (es : List Entry) (e : Entry) → AreInSequence es → AllByRecursion (λ (f : Entry). Precedes f e) es → AreInSequence (es ++ e ∷ [])
-turns-push [] e turns all = (tt, tt)
-turns-push (f ∷ es) e turns all = (all-push (Precedes f) es e turns.0 all.0, turns-push es e turns.1 all.1)
+sequence-push : (es : List Entry) (e : Entry) → AreInSequence es → AllByRecursion (λ (f : Entry). Precedes f e) es → AreInSequence (es ++ e ∷ [])
+sequence-push [] e sequence all = (tt, tt)
+sequence-push (f ∷ es) e sequence all = (all-push (Precedes f) es e sequence.0 all.0, sequence-push es e sequence.1 all.1)
 
 -- a later entry is not among those up to a moment
 cut-push : (z : ℕ) (es : List Entry) (e : Entry) → z < e.at → filter (λ (f : Entry). nat_le f.at z) (es ++ e ∷ []) ≡ filter (λ (f : Entry). nat_le f.at z) es
@@ -44,14 +44,14 @@ cut-push z (f ∷ es) e later = ap (λ (gs : List Entry). cond (nat_le f.at z) (
 
 pub one-more : (x : ℕ) (w : World) (es : List Entry) (e : Entry) (next : World) → IsForecastUpTo x w es → e.caller ≡ record { 0 = 0 } → e.at ≡ x
     → IsStep (replay_from w es) e next → IsForeseen (replay_from w es) e → AllByRecursion (λ (f : Entry). Precedes f e) es → IsForecastUpTo x w (es ++ e ∷ [])
-one-more x w es e next up_to caller at step foreseen turns =
+one-more x w es e next up_to caller at step foreseen sequence =
     let before = up_to.before in
     let here : IsStep (replay_from w es) e (after_entry (replay_from w es) e) = subst (IsStep (replay_from w es) e) (sym (after_step (replay_from w es) e next step)) step in
     record {
       before = record {
         legal = legal_from-append w es (e ∷ []) before.legal (here, tt);
         foreseen = foreseen-append w es (e ∷ []) before.foreseen ((caller, foreseen), tt);
-        turns = turns-push es e before.turns turns;
+        sequence = sequence-push es e before.sequence sequence;
         since = all-push (λ (f : Entry). w.plan.moment ≤ f.at) es e before.since (let n = up_to.now in omega (arith, n, at));
         within = all-push (λ (f : Entry). f.at ≤ greatest) es e before.within (let g = up_to.within in omega (arith, at, g));
         done = λ z low high. subst (λ (gs : List Entry). IsDone (replay_from w gs) z) (sym (cut-push z es e (omega (arith, at, high)))) (before.done z low high);
@@ -99,7 +99,7 @@ module _ (x : ℕ) (w : World) (es : List Entry) (ok : IsConsistent w) (up_to : 
         before = record {
           legal = before.legal;
           foreseen = before.foreseen;
-          turns = before.turns;
+          sequence = before.sequence;
           since = before.since;
           within = before.within;
           done = done-until y (omega (arith, low, high)) (λ m from to. first.least m (omega (arith, from)) to);
@@ -117,7 +117,7 @@ module _ (x : ℕ) (w : World) (es : List Entry) (ok : IsConsistent w) (up_to : 
       record {
         legal = before.legal;
         foreseen = before.foreseen;
-        turns = before.turns;
+        sequence = before.sequence;
         since = before.since;
         within = before.within;
         done = done-until (suc greatest) (omega arith) (λ m from to. first-none (is_event (replay_from w es).plan) (suc x) (greatest - x) none m (omega (arith, from)) (omega (arith, to)));

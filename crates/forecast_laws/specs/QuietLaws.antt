@@ -13,7 +13,7 @@ use Rattle.drmaa_model.specs.declared.rows.Row.{Row}
 use Rattle.drmaa_model.specs.Courses.{failed, called, is_unasked}
 use Rattle.drmaa_model.specs.Events.{is_set_to, is_end_at, is_wanted_at, is_row_event, bounds_at}
 use Rattle.drmaa_model.specs.Load.{ends_after, covers, is_using, uses_at}
-use Rattle.drmaa_model.specs.Order.{is_reached}
+use Rattle.drmaa_model.specs.NextLaunch.{is_reached}
 use Rattle.drmaa_model.specs.Time.{lasts, is_late, is_past, is_over, is_stranded, lapses, is_due, called_in}
 use Rattle.drmaa_model.specs.TimeLaws.{timed}
 
@@ -59,12 +59,12 @@ module _ (u v : ℕ) (order : u ≤ v) where
   -- ---- a reservation
 
   -- it is there at both moments or at neither, and covers each between or none
-  pub record BookStays (a : Accepted) : Type 0 where
+  pub record ReservationStays (a : Accepted) : Type 0 where
     pub lasts : lasts u a ≡ lasts v a
     pub covers : (z : ℕ) → u ≤ z → z ≤ v → covers z a ≡ covers v a
 
-  pub book-stays : (a : Accepted) → NoneBetween u v (λ m. bounds_at m a) → BookStays a
-  book-stays a quiet =
+  pub reservation-stays : (a : Accepted) → NoneBetween u v (λ m. bounds_at m a) → ReservationStays a
+  reservation-stays a quiet =
       let from = first-quiet (λ m. a.from == m) (λ m. a.until == m) u v quiet in
       let until = second-quiet (λ m. a.from == m) (λ m. a.until == m) u v quiet in
       record {

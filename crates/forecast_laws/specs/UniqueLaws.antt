@@ -13,6 +13,7 @@ use Rattle.drmaa_model.specs.declared.calls.Call.TheVariants as call
 use Rattle.drmaa_model.specs.declared.entries.Entry.{Entry}
 use Rattle.drmaa_model.specs.declared.replies.Reply.{Reply}
 use Rattle.drmaa_model.specs.declared.rows.Row.{Row}
+use Rattle.drmaa_model.specs.AnswerLaws.{given-reply}
 use Rattle.drmaa_model.specs.Consistent.{IsConsistent}
 use Rattle.drmaa_model.specs.Effects.{gives, nothing}
 use Rattle.drmaa_model.specs.History.{after_entry, replay_from, IsLegalFrom}
@@ -45,27 +46,27 @@ up_to x e = nat_le e.at x
 
 -- where the first is later, all are
 cut-none : (x : ℕ) (e : Entry) (es : List Entry) → x < e.at → AllByRecursion (Precedes e) es → filter (up_to x) es ≡ []
-cut-none x e es later turns = filter-none (up_to x) es (all-implied (Precedes e) (λ (f : Entry). up_to x f ≡ false) (λ f p. lt-leb f.at x (let t = p.time in omega (arith, later, t))) es turns)
+cut-none x e es later sequence = filter-none (up_to x) es (all-implied (Precedes e) (λ (f : Entry). up_to x f ≡ false) (λ f p. lt-leb f.at x (let t = p.time in omega (arith, later, t))) es sequence)
 
 cut-front : (x : ℕ) (e : Entry) (es : List Entry) → e.at ≤ x → filter (up_to x) (e ∷ es) ≡ e ∷ filter (up_to x) es
 cut-front x e es early = ap (λ b. cond b (e ∷ filter (up_to x) es) (filter (up_to x) es)) (le-leb e.at x early)
 
 cut-all : (x : ℕ) (e : Entry) (es : List Entry) → x < e.at → AllByRecursion (Precedes e) es → filter (up_to x) (e ∷ es) ≡ []
-cut-all x e es later turns = ap (λ b. cond b (e ∷ filter (up_to x) es) (filter (up_to x) es)) (lt-leb e.at x later) ∙ cut-none x e es later turns
+cut-all x e es later sequence = ap (λ b. cond b (e ∷ filter (up_to x) es) (filter (up_to x) es)) (lt-leb e.at x later) ∙ cut-none x e es later sequence
 
 -- they are legal and foreseen, as the first ones
 cut-legal : (x : ℕ) (w : World) (es : List Entry) → AreInSequence es → IsLegalFrom w es → IsLegalFrom w (filter (up_to x) es)
-cut-legal x w [] turns legal = tt
-cut-legal x w (e ∷ es) turns legal = elim (cases_lt x e.at) [
-  | inl later ↦ subst (IsLegalFrom w) (sym (cut-all x e es later turns.0)) tt
-  | inr early ↦ subst (IsLegalFrom w) (sym (cut-front x e es early)) (legal.0, cut-legal x (after_entry w e) es turns.1 legal.1)
+cut-legal x w [] sequence legal = tt
+cut-legal x w (e ∷ es) sequence legal = elim (cases_lt x e.at) [
+  | inl later ↦ subst (IsLegalFrom w) (sym (cut-all x e es later sequence.0)) tt
+  | inr early ↦ subst (IsLegalFrom w) (sym (cut-front x e es early)) (legal.0, cut-legal x (after_entry w e) es sequence.1 legal.1)
 ]
 
 cut-foreseen : (x : ℕ) (w : World) (es : List Entry) → AreInSequence es → AreForeseen w es → AreForeseen w (filter (up_to x) es)
-cut-foreseen x w [] turns all = tt
-cut-foreseen x w (e ∷ es) turns all = elim (cases_lt x e.at) [
-  | inl later ↦ subst (AreForeseen w) (sym (cut-all x e es later turns.0)) tt
-  | inr early ↦ subst (AreForeseen w) (sym (cut-front x e es early)) (all.0, cut-foreseen x (after_entry w e) es turns.1 all.1)
+cut-foreseen x w [] sequence all = tt
+cut-foreseen x w (e ∷ es) sequence all = elim (cases_lt x e.at) [
+  | inl later ↦ subst (AreForeseen w) (sym (cut-all x e es later sequence.0)) tt
+  | inr early ↦ subst (AreForeseen w) (sym (cut-front x e es early)) (all.0, cut-foreseen x (after_entry w e) es sequence.1 all.1)
 ]
 
 -- ---- the first entry
@@ -87,11 +88,11 @@ must-end w e es job ok all is before own =
       (refl, own),
       all-implied (λ (f : Entry). Precedes e f × (up_to e.at f ≡ true)) (λ (f : Entry). (f.at ≡ e.at) × (IsEndOf job f → ⊥))
           (λ f both. (let same : f.at ≡ e.at = (let t = both.0.time in let u = leb-true f.at e.at both.1 in omega (arith, t, u)) in
-          (same, λ end. before (both.0.turn (sym same) job end.0 end.1 end.2))))
-          (filter (up_to e.at) es) (all-both (Precedes e) (λ (f : Entry). up_to e.at f ≡ true) (filter (up_to e.at) es) (all-filter (Precedes e) (up_to e.at) es all.turns.0) (all-passes (up_to e.at) es)),
+          (same, λ end. before (both.0.ends_first (sym same) job end.0 end.1 end.2))))
+          (filter (up_to e.at) es) (all-both (Precedes e) (λ (f : Entry). up_to e.at f ≡ true) (filter (up_to e.at) es) (all-filter (Precedes e) (up_to e.at) es all.sequence.0) (all-passes (up_to e.at) es)),
     ) in
     let done = all.done e.at all.since.0 (let h = all.within.0 in omega (arith, h)) in
-    let stays = run-ending (filter (up_to e.at) (e ∷ es)) w e.at job ok (cut-legal e.at w (e ∷ es) all.turns all.legal) (cut-foreseen e.at w (e ∷ es) all.turns all.foreseen)
+    let stays = run-ending (filter (up_to e.at) (e ∷ es)) w e.at job ok (cut-legal e.at w (e ∷ es) all.sequence all.legal) (cut-foreseen e.at w (e ∷ es) all.sequence all.foreseen)
     (subst (AllByRecursion (λ (f : Entry). (f.at ≡ e.at) × (IsEndOf job f → ⊥))) (sym here) apart) is in
     false≢true (sym (none-of job (advance (world_by w (e ∷ es) e.at) e.at).plan.rows done.ended) ∙ stays)
 
@@ -100,15 +101,12 @@ not-earlier : (w : World) (e f : Entry) (es fs : List Entry) → IsConsistent w 
 not-earlier w e f es fs ok one two early =
     let done = two.done e.at one.since.0 (let h = one.within.0 in omega (arith, h)) in
     none-foreseen w e (after_entry w e) ok one.legal.0 one.foreseen.0.1
-    (subst (λ (gs : List Entry). IsDone (replay_from w gs) e.at) (cut-all e.at f fs early two.turns.0) done)
+    (subst (λ (gs : List Entry). IsDone (replay_from w gs) e.at) (cut-all e.at f fs early two.sequence.0) done)
 
 entry-same : (e f : Entry) → e.caller ≡ f.caller → e.at ≡ f.at → e.call ≡ f.call → e.reply ≡ f.reply → e ≡ f
 entry-same e f a b c d =
     ap (λ (x : CallerId). let g : Entry = record e { caller = x } in g) a ∙ ap (λ (x : ℕ). let g : Entry = record e { caller = f.caller; at = x } in g) b
     ∙ ap (λ (x : Call). let g : Entry = record f { call = x; reply = e.reply } in g) c ∙ ap (λ (x : Reply). let g : Entry = record f { reply = x } in g) d
-
-given-reply : (r s : Reply) (v w : World) → gives r v ≡ gives s w → r ≡ s
-given-reply r s v w same = cc
 
 job-of : (j k : JobId) (a b : ℕ) (x y : Exit) → call.Exited j a x ≡ call.Exited k b y → j ≡ k
 job-of j k a b x y same = cc
@@ -171,8 +169,8 @@ tail w e es ok all =
     record {
       legal = all.legal.1;
       foreseen = all.foreseen.1;
-      turns = all.turns.1;
-      since = all-implied (Precedes e) (λ (f : Entry). (after_entry w e).plan.moment ≤ f.at) (λ f p. (let t = p.time in omega (arith, t, moment))) es all.turns.0;
+      sequence = all.sequence.1;
+      since = all-implied (Precedes e) (λ (f : Entry). (after_entry w e).plan.moment ≤ f.at) (λ f p. (let t = p.time in omega (arith, t, moment))) es all.sequence.0;
       within = all.within.1;
       done = λ x low high. subst (λ (gs : List Entry). IsDone (replay_from w gs) x) (cut-front x e es (omega (arith, low, moment))) (all.done x (let s = all.since.0 in omega (arith, low, moment, s)) high);
     }

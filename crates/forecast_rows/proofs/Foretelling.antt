@@ -29,8 +29,8 @@ at-first w within = record { up_to = none-yet w within; leads = refl }
 
 pub at-more : (x : ℕ) (w v next : World) (es : List Entry) (e : Entry) → IsAt x w v es → e.caller ≡ record { 0 = 0 } → e.at ≡ x → IsStep v e next → IsForeseen v e → AllByRecursion (λ (f : Entry). Precedes f e) es
     → IsAt x w next (es ++ e ∷ [])
-at-more x w v next es e here caller at step foreseen turns = record {
-  up_to = one-more x w es e next here.up_to caller at (subst (λ (u : World). IsStep u e next) (sym here.leads) step) (subst (λ (u : World). IsForeseen u e) (sym here.leads) foreseen) turns;
+at-more x w v next es e here caller at step foreseen sequence = record {
+  up_to = one-more x w es e next here.up_to caller at (subst (λ (u : World). IsStep u e next) (sym here.leads) step) (subst (λ (u : World). IsForeseen u e) (sym here.leads) foreseen) sequence;
   leads = replay_from-append w es (e ∷ []) ∙ ap (λ (u : World). replay_from u (e ∷ [])) here.leads ∙ after_step v e next step;
 }
 

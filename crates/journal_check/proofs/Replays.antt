@@ -5,7 +5,7 @@ use Rattle.drmaa_model.specs.declared.entries.Entry.{Entry}
 use Rattle.drmaa_model.specs.declared.replies.Reply.{Reply}
 use Rattle.drmaa_model.specs.Effects.{nothing, not_yet}
 use Rattle.drmaa_model.specs.History.{Ledger, IsLegal, now_of}
-use Rattle.drmaa_model.specs.KeptCalls.{kept}
+use Rattle.drmaa_model.specs.RecordedCalls.{recorded}
 use Rattle.drmaa_model.specs.Steps.{answer, IsStep}
 use Rattle.drmaa_model.specs.World.{World}
 use Rattle.drmaa_machine.specs.Applying.{served, IsTooLarge}
@@ -17,14 +17,14 @@ use Rattle.journal_check.specs.Findings.{Finds, Compares}
 
 -- the entry that the machine makes of the call
 abbrev pub made : Entry → Reply → Entry
-made entry own = record { caller = entry.caller; at = entry.at; call = kept entry.call; reply = own }
+made entry own = record { caller = entry.caller; at = entry.at; call = recorded entry.call; reply = own }
 
 -- it differs from the entry in no more than the reply
-made_is : (entry : Entry) (own : Reply) → kept entry.call ≡ entry.call → made entry own ≡ record entry { reply = own }
+made_is : (entry : Entry) (own : Reply) → recorded entry.call ≡ entry.call → made entry own ≡ record entry { reply = own }
 made_is entry own same = ap (λ (c : Call). record entry { call = c; reply = own }) same
 
 -- an entry was made
-pub found : (old new : Ledger) (entry : Entry) (own : Reply) (result : Finding) → kept entry.call ≡ entry.call
+pub found : (old new : Ledger) (entry : Entry) (own : Reply) (result : Finding) → recorded entry.call ≡ entry.call
     → IsStep (now_of old) (made entry own) (now_of new) → new ≡ served old (made entry own) → IsLegal new.config new.history
     → Compares entry.reply own result → Finds old entry result new
 found old new entry own finding.Step same step serves legal equal = record {
@@ -39,13 +39,13 @@ found old new entry own (finding.Fault given machine) same step serves legal com
 found old new entry own finding.OutOfMemory same step serves legal none = absurd none
 
 -- none was made
-pub waited : (w : World) (entry : Entry) → kept entry.call ≡ entry.call → answer w entry.at (kept entry.call) ≡ not_yet → IsFault w entry entry.reply None
+pub waited : (w : World) (entry : Entry) → recorded entry.call ≡ entry.call → answer w entry.at (recorded entry.call) ≡ not_yet → IsFault w entry entry.reply None
 waited w entry same h = waits w entry (ap (answer w entry.at) (sym same) ∙ h)
 
-pub found_nothing : (w : World) (entry : Entry) → kept entry.call ≡ entry.call → answer w entry.at (kept entry.call) ≡ nothing → IsFault w entry entry.reply None
+pub found_nothing : (w : World) (entry : Entry) → recorded entry.call ≡ entry.call → answer w entry.at (recorded entry.call) ≡ nothing → IsFault w entry entry.reply None
 found_nothing w entry same h = finds_nothing w entry (ap (answer w entry.at) (sym same) ∙ h)
 
-pub found_full : (w : World) (entry : Entry) (n : ℕ) → kept entry.call ≡ entry.call → IsTooLarge w entry.at (kept entry.call) n → IsFault w entry entry.reply None
+pub found_full : (w : World) (entry : Entry) (n : ℕ) → recorded entry.call ≡ entry.call → IsTooLarge w entry.at (recorded entry.call) n → IsFault w entry entry.reply None
 found_full w entry n same large =
     too_large w entry large.reply large.after (ap (answer w entry.at) (sym same) ∙ large.answered) (subst (λ (m : ℕ). w.config.journal < m) large.size_is large.above)
 

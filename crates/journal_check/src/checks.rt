@@ -2,7 +2,7 @@
 ghost use Rattle.std.specs.Prelude.{◌≡◌, ◌≤◌, ◌⊎◌, ℕ, true, [], Option};
 ghost use Rattle.std.specs.List.{AllByRecursion};
 ghost use Rattle.drmaa_types.specs.Queues.{are_queues};
-ghost use Rattle.drmaa_model.specs.KeptCalls.{kept};
+ghost use Rattle.drmaa_model.specs.RecordedCalls.{recorded};
 ghost use Rattle.drmaa_model.specs.History.{IsLegal};
 ghost use Rattle.drmaa_model.specs.declared.entries.Entry.{Entry};
 ghost use Rattle.drmaa_model.specs.declared.replies.Reply.{Reply};
@@ -48,7 +48,7 @@ pub enum Replayed {
 /// Replays entries one after another by a machine that has served nothing.
 fn replay_all(machine: &mut Machine, entries: Vec<Entry>) -> Verdict
     requires fresh { machine.old.ledger.history ≡ [] }
-    requires kept { AllByRecursion (λ (e : Entry). kept e.call ≡ e.call) entries.items }
+    requires recorded { AllByRecursion (λ (e : Entry). recorded e.call ≡ e.call) entries.items }
     ensures judges { Judges machine.old.ledger.config entries.items result }
     ensures served { result ≡ Verdict.Legal → machine.new.ledger ≡ record { config = machine.old.ledger.config; history = entries.items } }
 {
@@ -70,7 +70,7 @@ fn replay_all(machine: &mut Machine, entries: Vec<Entry>) -> Verdict
 }
 
 /// The machine of this configuration whose history these entries are: each the step that it makes, with its reply. Each call is its
-/// own kept call, as it is in every journal that was read.
+/// own recorded call, as it is in every journal that was read.
 ///
 /// Want of memory says nothing of the entries.
 pub fn replay_history(alloc: Global, config: Config, entries: EntryList) -> Replayed
@@ -79,7 +79,7 @@ pub fn replay_history(alloc: Global, config: Config, entries: EntryList) -> Repl
     requires least_journal { 1 ≤ config.journal }
     requires most_journal { config.journal ≤ 4_000_000 }
     requires queues { are_queues config.slots config.queues ≡ true }
-    requires kept { AllByRecursion (λ (e : Entry). kept e.call ≡ e.call) entries }
+    requires recorded { AllByRecursion (λ (e : Entry). recorded e.call ≡ e.call) entries }
     ensures replays { Replays config entries result }
     // exactly where
     ensures only_legal { IsLegal config entries → IsMachine result ⊎ (result ≡ Replayed.OutOfMemory) }
@@ -113,7 +113,7 @@ pub fn check(alloc: Global, config: Config, entries: EntryList) -> Verdict
     requires least_journal { 1 ≤ config.journal }
     requires most_journal { config.journal ≤ 4_000_000 }
     requires queues { are_queues config.slots config.queues ≡ true }
-    requires kept { AllByRecursion (λ (e : Entry). kept e.call ≡ e.call) entries }
+    requires recorded { AllByRecursion (λ (e : Entry). recorded e.call ≡ e.call) entries }
     ensures legal { result ≡ Verdict.Legal → IsLegal config entries }
     ensures fault { (number : ℕ) (given : Reply) (machine : Option Reply)
         → result ≡ Verdict.NotLegal number given machine → FirstFault config entries number given machine }

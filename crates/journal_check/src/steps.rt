@@ -1,6 +1,6 @@
 //! One entry, replayed by the machine that has made those before it.
 ghost use Rattle.std.specs.Prelude.{◌≡◌, None};
-ghost use Rattle.drmaa_model.specs.KeptCalls.{kept};
+ghost use Rattle.drmaa_model.specs.RecordedCalls.{recorded};
 ghost use Rattle.journal_check.specs.Findings.{Finds, Compares};
 
 use drmaa_machine::Machine;
@@ -23,7 +23,7 @@ pub(crate) enum Finding {
 
 /// Makes the call of an entry, and compares the machine's reply with the entry's.
 pub(crate) fn replay(machine: &mut Machine, entry: Entry) -> Finding
-    requires { kept entry.call ≡ entry.call }
+    requires { recorded entry.call ≡ entry.call }
     ensures { Finds machine.old.ledger entry result machine.new.ledger }
 {
     let Entry {

@@ -1,4 +1,4 @@
--- The calls with which a history goes on are their own kept calls.
+-- The calls with which a history goes on are their own recorded calls.
 use Rattle.std.proofs.Common.{◌≡◌, ℕ, List, [], ◌∷◌, ◌++◌, map, Option, Some, None, Result, Ok, Err, ◌⊎◌, inl, inr, refl, sym, ap, ◌∙◌, subst}
 use Rattle.command_words.specs.declared.commands.RecurWords.{RecurWords}
 use Rattle.drmaa_types.specs.declared.refusals.Refusal.{Refusal}
@@ -18,45 +18,45 @@ use Rattle.drmaa_model.specs.declared.replies.Reply.{Reply}
 use Rattle.drmaa_model.specs.declared.replies.Reply.TheVariants as reply
 use Rattle.drmaa_machine.specs.Applying.{IsTooLarge, served}
 use Rattle.journal_commands.specs.Recurring.{GoesOn, asks, unopened, stopped, moment_of, opening, opened, asker_of, recurring_of, StopsAs, HasOccurrences}
-use Rattle.journal_commands.specs.Replays.{KeepCalls}
+use Rattle.journal_commands.specs.Replays.{AreRecorded}
 
-both : (es fs : List Entry) → KeepCalls es → KeepCalls fs → KeepCalls (es ++ fs)
+both : (es fs : List Entry) → AreRecorded es → AreRecorded fs → AreRecorded (es ++ fs)
 both [] fs h k = k
 both (e ∷ es) fs h k = (h.0, both es fs h.1 k)
 
-grants_keep : (a : Asker) (grants : List Grant) → KeepCalls (map (granted a) grants)
+grants_keep : (a : Asker) (grants : List Grant) → AreRecorded (map (granted a) grants)
 grants_keep a [] = tt
 grants_keep a (g ∷ grants) = (refl, grants_keep a grants)
 
-ends_keep : (a : Asker) (numbers : List ℕ) → KeepCalls (map (ended a) numbers)
+ends_keep : (a : Asker) (numbers : List ℕ) → AreRecorded (map (ended a) numbers)
 ends_keep a [] = tt
 ends_keep a (n ∷ numbers) = (refl, ends_keep a numbers)
 
-denied_keeps : (a : Asker) (w : World) (t : ReservationTemplate) (reason : Refusal) (entries : List Entry) → IsDenied a w t reason entries → KeepCalls entries
-denied_keeps a w t reason entries (by_entry refused answers is) = subst KeepCalls (sym is) (refl, tt)
-denied_keeps a w t reason entries (by_memory short none is) = subst KeepCalls (sym is) tt
-denied_keeps a w t reason entries (by_size n full none is) = subst KeepCalls (sym is) tt
+denied_keeps : (a : Asker) (w : World) (t : ReservationTemplate) (reason : Refusal) (entries : List Entry) → IsDenied a w t reason entries → AreRecorded entries
+denied_keeps a w t reason entries (by_entry refused answers is) = subst AreRecorded (sym is) (refl, tt)
+denied_keeps a w t reason entries (by_memory short none is) = subst AreRecorded (sym is) tt
+denied_keeps a w t reason entries (by_size n full none is) = subst AreRecorded (sym is) tt
 
-each_keeps : (a : Asker) (templates : List ReservationTemplate) (old new : Ledger) (answer : Result (List ℕ) RecurFault) → AsksForEach a templates old answer new → KeepCalls old.history → KeepCalls new.history
-each_keeps a templates old new (Ok numbers) reserves h = subst (λ (l : Ledger). KeepCalls l.history) (sym reserves.made) (both old.history (map (granted a) reserves.grants) h (grants_keep a reserves.grants))
+each_keeps : (a : Asker) (templates : List ReservationTemplate) (old new : Ledger) (answer : Result (List ℕ) RecurFault) → AsksForEach a templates old answer new → AreRecorded old.history → AreRecorded new.history
+each_keeps a templates old new (Ok numbers) reserves h = subst (λ (l : Ledger). AreRecorded l.history) (sym reserves.made) (both old.history (map (granted a) reserves.grants) h (grants_keep a reserves.grants))
 each_keeps a templates old new (Err stop) gives h =
-    subst (λ (l : Ledger). KeepCalls l.history) (sym gives.made)
+    subst (λ (l : Ledger). AreRecorded l.history) (sym gives.made)
     (both old.history _ h
     (both (map (granted a) gives.grants ++ gives.refused) (map (ended a) gives.ends)
     (both (map (granted a) gives.grants) gives.refused (grants_keep a gives.grants) (denied_keeps a _ gives.denied stop.refusal gives.refused gives.cause)) (ends_keep a gives.ends)))
 
-asked_keeps : (r : Recurring) (a : Asker) (old new : Ledger) (answer : Result (List ℕ) RecurFault) → Recurs r a old answer new → KeepCalls old.history → KeepCalls new.history
+asked_keeps : (r : Recurring) (a : Asker) (old new : Ledger) (answer : Result (List ℕ) RecurFault) → Recurs r a old answer new → AreRecorded old.history → AreRecorded new.history
 asked_keeps r a old new (Ok numbers) asked h = each_keeps a asked.templates old new (Ok numbers) asked.asks h
-asked_keeps r a old new (Err stop) (inl nothing) h = subst (λ (l : Ledger). KeepCalls l.history) (sym nothing.unchanged) h
+asked_keeps r a old new (Err stop) (inl nothing) h = subst (λ (l : Ledger). AreRecorded l.history) (sym nothing.unchanged) h
 asked_keeps r a old new (Err stop) (inr asked) h = each_keeps a asked.templates old new (Err stop) asked.asks h
 
 none_some : {A : Type 0} (a : A) → ◌≡◌ {A = Option A} None (Some a) → ⊥
 none_some a e = cc
 
-pub goes_keeps : (words : RecurWords) (old new : Ledger) (full : Option ℕ) → GoesOn words old full new → KeepCalls old.history → KeepCalls new.history
+pub goes_keeps : (words : RecurWords) (old new : Ledger) (full : Option ℕ) → GoesOn words old full new → AreRecorded old.history → AreRecorded new.history
 goes_keeps words old new full (asks session answer asked is) h = asked_keeps _ _ _ new answer asked (both old.history _ h (refl, tt))
-goes_keeps words old new full (unopened told none made is) h = subst (λ (l : Ledger). KeepCalls l.history) (sym made) (both old.history _ h (refl, tt))
-goes_keeps words old new full (stopped size large same is) h = subst (λ (l : Ledger). KeepCalls l.history) (sym same) h
+goes_keeps words old new full (unopened told none made is) h = subst (λ (l : Ledger). AreRecorded l.history) (sym made) (both old.history _ h (refl, tt))
+goes_keeps words old new full (stopped size large same is) h = subst (λ (l : Ledger). AreRecorded l.history) (sym same) h
 
 -- the session was opened, and the reservations were requested there
 pub asked_on : (words : RecurWords) (old between new : Ledger) (at : ℕ) (told : Reply) (session : SessionId) (r : Recurring) (answer : Result (List ℕ) RecurFault) (full : Option ℕ)

@@ -2,7 +2,7 @@
 use Rattle.std.specs.Prelude.{◌≡◌, ◌⊎◌, ℕ, List, Option}
 use Rattle.std.specs.List.{AllByRecursion}
 use Rattle.drmaa_model.specs.declared.entries.Entry.{Entry}
-use Rattle.drmaa_model.specs.KeptCalls.{kept}
+use Rattle.drmaa_model.specs.RecordedCalls.{recorded}
 use Rattle.drmaa_model.specs.declared.replies.Reply.{Reply}
 use Rattle.drmaa_model.specs.History.{IsLegal}
 use Rattle.journal_check.specs.declared.checks.Replayed.{Replayed}
@@ -19,6 +19,6 @@ pub record IsReplayOf (j : Journal) (r : Replayed) : Type 0 where
   pub fault : (entry : ℕ) (given : Reply) (machine : Option Reply) → FirstFault j.config j.entries entry given machine
       → (r ≡ replayed.NotLegal entry given machine) ⊎ (r ≡ replayed.OutOfMemory)
 
--- each call is its own kept call, as in every journal that was read
-abbrev pub KeepCalls : List Entry → Type 0
-KeepCalls entries = AllByRecursion (λ (e : Entry). kept e.call ≡ e.call) entries
+-- each call is its own recorded call, as in every journal that was read
+abbrev pub AreRecorded : List Entry → Type 0
+AreRecorded entries = AllByRecursion (λ (e : Entry). recorded e.call ≡ e.call) entries

@@ -3,12 +3,12 @@ ghost use Rattle.std.specs.Prelude.{◌≡◌, ℕ, List, Option, IfOk};
 ghost use Rattle.drmaa_model.specs.History.{Ledger};
 ghost use Rattle.journal_text.specs.Journals.{IsWritable};
 ghost use Rattle.journal_text.specs.declared.journals.Journal.{Journal};
-ghost use Rattle.journal_commands.specs.Replays.{IsReplayOf, KeepCalls};
+ghost use Rattle.journal_commands.specs.Replays.{IsReplayOf, AreRecorded};
 
 use crate::running::{JournalCommand, Made, Output};
 use drmaa_machine::Machine;
 use journal_check::{Replayed, replay_history};
-use journal_text::{Journal, a_writable_journal_keeps_its_calls};
+use journal_text::{Journal, a_writable_journal_has_recorded_calls};
 use std::alloc::{AllocError, Global};
 
 /// A command that writes what it makes of the machine that has made a journal's entries.
@@ -18,7 +18,7 @@ pub trait LegalCommand: Drop + Sized {
 
     /// What the command makes of the machine.
     fn make(self, alloc: Global, machine: Machine) -> Result<Output, AllocError>
-        requires { KeepCalls machine.ledger.history }
+        requires { AreRecorded machine.ledger.history }
         ensures { IfOk result (λ o. Makes self machine.ledger o.text o.full) };
 }
 
@@ -32,9 +32,9 @@ pub struct OfLegal<C: LegalCommand> {
 pub fn replayed_journal(alloc: Global, journal: Journal) -> Replayed
     requires { IsWritable journal.config journal.entries }
     ensures replay { IsReplayOf journal result }
-    ensures kept { KeepCalls journal.entries }
+    ensures recorded { AreRecorded journal.entries }
 {
-    a_writable_journal_keeps_its_calls();
+    a_writable_journal_has_recorded_calls();
     replay_history(alloc, journal.config, journal.entries)
 }
 

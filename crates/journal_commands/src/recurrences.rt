@@ -4,7 +4,7 @@ ghost use Rattle.drmaa_types.specs.declared.identifiers.SessionId.{SessionId};
 ghost use Rattle.drmaa_model.specs.History.{IsLegal};
 ghost use Rattle.journal_commands.specs.Recurring as recurring;
 ghost use Rattle.journal_commands.specs.Recurring.{GoesOn, HasOccurrences, WritesOn};
-ghost use Rattle.journal_commands.specs.Replays.{KeepCalls};
+ghost use Rattle.journal_commands.specs.Replays.{AreRecorded};
 ghost use Rattle.journal_text.specs.Journals.{journal_text};
 
 use crate::legal::LegalCommand;
@@ -155,7 +155,7 @@ fn go_on(alloc: Global, machine: &mut Machine, words: RecurWords) -> Result<Opti
 
 /// The journal of what a machine has served.
 fn journal_of(alloc: Global, machine: &Machine) -> Result<Text, AllocError>
-    requires { KeepCalls machine.now.ledger.history }
+    requires { AreRecorded machine.now.ledger.history }
     ensures { IfOk result (λ text. text ≡ journal_text machine.now.ledger.config machine.now.ledger.history) }
 {
     let bytes = journal_bytes(alloc, machine.config(), machine.entries())?;

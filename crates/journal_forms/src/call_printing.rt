@@ -1,6 +1,6 @@
 //! Calls: printed.
 ghost use Rattle.std.specs.Prelude.{◌≡◌, ◌++◌, OnOk};
-ghost use Rattle.drmaa_model.specs.KeptCalls.{kept};
+ghost use Rattle.drmaa_model.specs.RecordedCalls.{recorded};
 ghost use Rattle.text_forms.specs.Templates.{any_template, any_frame};
 ghost use Rattle.journal_forms.specs.Calls.{call_form};
 
@@ -16,8 +16,8 @@ use text_codec::spell_call_word;
 /// Prints a call, as a journal keeps it: a limit's name that no journal can have as `OTHER`.
 #[tactic(auto, unfolding(crate::specs::Calls::of_job, crate::specs::Calls::of_array, crate::specs::Calls::of_reservation, crate::specs::Calls::launched, crate::specs::Calls::ended, crate::specs::Calls::signalled))]
 pub fn push_call(out: &mut Vec<u8>, call: &Call) -> Result<(), AllocError>
-    ensures text { OnOk result (out.new.items ≡ out.old.items ++ (call_form any_template any_frame (kept call.now)).text) }
-    ensures valid { OnOk result ((call_form any_template any_frame (kept call.now)).valid) }
+    ensures text { OnOk result (out.new.items ≡ out.old.items ++ (call_form any_template any_frame (recorded call.now)).text) }
+    ensures valid { OnOk result ((call_form any_template any_frame (recorded call.now)).valid) }
 {
     match call {
         Call::CreateJobSession { name } => push_named(out, b"create-jobs", name),

@@ -2,7 +2,7 @@
 ghost use Rattle.std.specs.Prelude.{◌≡◌, ◌++◌, ◌^◌, OnOk};
 ghost use Rattle.drmaa_model.specs.declared.calls.Call.TheVariants as call;
 ghost use Rattle.text_codec.specs.Formats.{Answers, list_of, number, pair};
-ghost use Rattle.drmaa_model.specs.KeptCalls.{kept};
+ghost use Rattle.drmaa_model.specs.RecordedCalls.{recorded};
 ghost use Rattle.text_codec.specs.Sums.{arm, keyed, fielded};
 ghost use Rattle.text_forms.specs.Filters.{filter_parts};
 ghost use Rattle.text_forms.specs.Templates.{any_template, template, any_frame, frame};
@@ -189,8 +189,8 @@ pub(crate) fn push_run(
     session: &SessionId,
     template: &JobTemplate,
 ) -> Result<(), AllocError>
-    ensures text { OnOk result (out.new.items ≡ out.old.items ++ (call_form any_template any_frame (kept (call.RunJob session.now template.now))).text) }
-    ensures valid { OnOk result ((call_form any_template any_frame (kept (call.RunJob session.now template.now))).valid) }
+    ensures text { OnOk result (out.new.items ≡ out.old.items ++ (call_form any_template any_frame (recorded (call.RunJob session.now template.now))).text) }
+    ensures valid { OnOk result ((call_form any_template any_frame (recorded (call.RunJob session.now template.now))).valid) }
 {
     push_one(out, b"run", session)?;
     out.extend_from_slice(b" ")?;
@@ -205,8 +205,8 @@ pub(crate) fn push_bulk(
     template: &JobTemplate,
     indices: &Indices,
 ) -> Result<(), AllocError>
-    ensures text { OnOk result (out.new.items ≡ out.old.items ++ (call_form any_template any_frame (kept (call.RunBulk session.now template.now indices.now))).text) }
-    ensures valid { OnOk result ((call_form any_template any_frame (kept (call.RunBulk session.now template.now indices.now))).valid) }
+    ensures text { OnOk result (out.new.items ≡ out.old.items ++ (call_form any_template any_frame (recorded (call.RunBulk session.now template.now indices.now))).text) }
+    ensures valid { OnOk result ((call_form any_template any_frame (recorded (call.RunBulk session.now template.now indices.now))).valid) }
 {
     push_one(out, b"bulk", session)?;
     out.extend_from_slice(b" ")?;

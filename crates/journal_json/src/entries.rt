@@ -1,6 +1,6 @@
 //! Entries as objects.
 ghost use Rattle.std.specs.Prelude.{◌≡◌, ◌++◌, ◌∷◌, [], map, IfOk, OnOk, string_bytes, true, false};
-ghost use Rattle.journal_text.specs.Journals.{kept_entry};
+ghost use Rattle.journal_text.specs.Journals.{recorded_entry};
 ghost use Rattle.serde_json.specs.View.{view};
 ghost use Rattle.serde_json.specs.Written.{compact_text, items_text};
 ghost use Rattle.journal_json.specs.Documents.{entry_data, entries_data};
@@ -12,7 +12,7 @@ use std::alloc::{AllocError, Global};
 
 /// The object of an entry with its number, its call as a journal keeps it.
 fn entry_value(alloc: Global, number: u64, entry: &Entry) -> Result<Value, AllocError>
-    ensures { IfOk result (λ v. view v ≡ entry_data number (kept_entry entry.now)) }
+    ensures { IfOk result (λ v. view v ≡ entry_data number (recorded_entry entry.now)) }
 {
     let at = entry.at.number();
     let caller = entry.caller.0;
@@ -23,7 +23,7 @@ fn entry_value(alloc: Global, number: u64, entry: &Entry) -> Result<Value, Alloc
 
 /// Prints an entry with its number.
 fn push_entry(out: &mut String, alloc: Global, number: u64, entry: &Entry) -> Result<(), AllocError>
-    ensures { OnOk result (string_bytes out.new ≡ string_bytes out.old ++ compact_text (entry_data number (kept_entry entry.now))) }
+    ensures { OnOk result (string_bytes out.new ≡ string_bytes out.old ++ compact_text (entry_data number (recorded_entry entry.now))) }
 {
     let value = entry_value(alloc, number, entry)?;
     let text = value.to_string(alloc)?;
@@ -32,7 +32,7 @@ fn push_entry(out: &mut String, alloc: Global, number: u64, entry: &Entry) -> Re
 
 /// Prints entries, numbered from 2 on, each behind a comma.
 fn push_others(out: &mut String, alloc: Global, entries: &[Entry]) -> Result<(), AllocError>
-    ensures { OnOk result (string_bytes out.new ++ 93 ∷ [] ≡ string_bytes out.old ++ items_text true (entries_data 2 (map kept_entry entries.now))) }
+    ensures { OnOk result (string_bytes out.new ++ 93 ∷ [] ≡ string_bytes out.old ++ items_text true (entries_data 2 (map recorded_entry entries.now))) }
 {
     for (i, entry) in entries.iter().enumerate() {
         out.push_str(",")?;
@@ -47,7 +47,7 @@ pub(crate) fn push_entries(
     alloc: Global,
     entries: &[Entry],
 ) -> Result<(), AllocError>
-    ensures { OnOk result (string_bytes out.new ≡ string_bytes out.old ++ items_text false (entries_data 1 (map kept_entry entries.now))) }
+    ensures { OnOk result (string_bytes out.new ≡ string_bytes out.old ++ items_text false (entries_data 1 (map recorded_entry entries.now))) }
 {
     let Some((first, others)) = entries.split_first() else {
         return out.push_str("]");

@@ -1,7 +1,7 @@
 //! A journal, printed an entry at a time.
 ghost use Rattle.std.specs.Prelude.{◌≡◌, map, IfOk, IfErr, string_bytes};
 ghost use Rattle.drmaa_types.specs.declared.refusals.Refusal.{Refusal};
-ghost use Rattle.journal_text.specs.Journals.{kept_entry, IsWritable};
+ghost use Rattle.journal_text.specs.Journals.{recorded_entry, IsWritable};
 ghost use Rattle.journal_json.specs.Documents.{json_form};
 
 use crate::entries::push_entries;
@@ -14,7 +14,7 @@ use std::alloc::{AllocError, Global};
 /// The JSON form of a machine and its entries, each call as a journal keeps it.
 #[tactic(auto, unfolding(crate::specs::Documents::json_form))]
 fn form_of(alloc: Global, config: &Config, entries: &[Entry]) -> Result<String, AllocError>
-    ensures { IfOk result (λ s. string_bytes s ≡ json_form config.now (map kept_entry entries.now)) }
+    ensures { IfOk result (λ s. string_bytes s ≡ json_form config.now (map recorded_entry entries.now)) }
 {
     let mut out = String::new(alloc);
     out.push_str("{\"entries\":[")?;
@@ -31,7 +31,7 @@ fn form_of(alloc: Global, config: &Config, entries: &[Entry]) -> Result<String, 
 /// # Errors
 /// `OutOfMemory` alone.
 pub fn json_journal(alloc: Global, journal: &Journal) -> Result<Text, Refusal>
-    ensures text { IfOk result (λ t. t ≡ json_form journal.now.config (map kept_entry journal.now.entries)) }
+    ensures text { IfOk result (λ t. t ≡ json_form journal.now.config (map recorded_entry journal.now.entries)) }
     ensures written { IsWritable journal.now.config journal.now.entries → IfOk result (λ t. t ≡ json_form journal.now.config journal.now.entries) }
     ensures memory { IfErr result (λ e. e ≡ Refusal.OutOfMemory) }
 {

@@ -13,7 +13,7 @@ use Rattle.text_codec.specs.Quotes.{text}
 use Rattle.text_codec.specs.StepLaws.{bind, chosen, strip_found}
 use Rattle.text_codec.specs.FormatLaws.{line_found, line_again}
 use Rattle.text_codec.specs.BaseLaws.{number_laws_64}
-use Rattle.text_lines.specs.Lines.{kept, ended, whole_lines, AreLines, GoesOn, IsTextOf}
+use Rattle.text_lines.specs.Lines.{unskipped_lines, ended, whole_lines, AreLines, GoesOn, IsTextOf}
 use Rattle.text_lines.specs.LineLaws.{ended_text, ended_utf8, lines_again, one_text}
 use Rattle.text_lines.specs.Automata.{Runs, Reads, GoesBy, from}
 use Rattle.journal_text.specs.Queues.{queues}
@@ -236,13 +236,13 @@ some_spelled : Spells (journal_lines some_config []) (journal_of some_config [])
 some_spelled = record { writable = some_writable; text = inl refl }
 
 -- no line of a journal is one that a reader may skip
-first_kept : (c : Config) (ls : List (List ℕ)) → kept (header.spell c ∷ ls) ≡ header.spell c ∷ kept ls
+first_unskipped : (c : Config) (ls : List (List ℕ)) → unskipped_lines (header.spell c ∷ ls) ≡ header.spell c ∷ unskipped_lines ls
 unfolding header title checked behind
-first_kept c ls = refl
+first_unskipped c ls = refl
 
-last_kept : (n : ℕ) → kept (closing.spell n ∷ []) ≡ closing.spell n ∷ []
+last_unskipped : (n : ℕ) → unskipped_lines (closing.spell n ∷ []) ≡ closing.spell n ∷ []
 unfolding closing behind
-last_kept n = refl
+last_unskipped n = refl
 
 going_on : (ls : List (List ℕ)) (t : JournalReader) → Behind ls t → GoesOn Spells ls
 going_on ls Start b = record {
@@ -250,14 +250,14 @@ going_on ls Start b = record {
   are_lines = journal_are_lines (journal_lines some_config []) (journal_of some_config []) some_spelled;
   text = journal_of some_config [];
   spelled = subst (λ ks. Spells (ks ++ journal_lines some_config []) (journal_of some_config [])) (sym b) some_spelled;
-  unskipped = first_kept some_config (closing.spell 0 ∷ []) ∙ ap (λ ks. header.spell some_config ∷ ks) (last_kept 0);
+  unskipped = first_unskipped some_config (closing.spell 0 ∷ []) ∙ ap (λ ks. header.spell some_config ∷ ks) (last_unskipped 0);
 }
 going_on ls (Going c es) b = record {
   more = closing.spell (length es) ∷ [];
   are_lines = are_lines (closing.spell (length es) ∷ []) (closing_is_clean (length es) b.few);
   text = journal_of c es;
   spelled = closing_more ls c es b;
-  unskipped = last_kept (length es);
+  unskipped = last_unskipped (length es);
 }
 going_on ls (Ended j) b = record { more = []; are_lines = tt; text = j; spelled = subst (λ ks. Spells ks j) (sym (append-nil ls)) b; unskipped = refl }
 

@@ -8,7 +8,7 @@ use Rattle.drmaa_model.specs.declared.configs.Config.{Config}
 use Rattle.drmaa_model.specs.declared.entries.Entry.{Entry}
 use Rattle.drmaa_model.specs.declared.calls.Call.{Call}
 use Rattle.drmaa_model.specs.declared.replies.Reply.{Reply}
-use Rattle.drmaa_model.specs.KeptCalls.{kept}
+use Rattle.drmaa_model.specs.RecordedCalls.{recorded}
 use Rattle.text_codec.specs.Formats.{Format, ◌>>=◌, strip, number, moment, pair, mapped, behind, checked, one_of}
 use Rattle.text_codec.specs.Fields.{Fields, joined}
 use Rattle.text_codec.specs.Quotes.{text}
@@ -157,5 +157,5 @@ unfoldable pub byte_limit : ℕ
 byte_limit = 268_435_456
 
 -- the entry that a machine makes of one: its call is the kept one
-abbrev pub kept_entry : Entry → Entry
-kept_entry e = record e { call = kept e.call }
+abbrev pub recorded_entry : Entry → Entry
+recorded_entry e = record e { call = recorded e.call }

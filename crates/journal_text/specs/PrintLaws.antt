@@ -8,7 +8,7 @@ use Rattle.drmaa_model.specs.declared.calls.Call.TheVariants as call
 use Rattle.drmaa_model.specs.declared.calls.Target.TheVariants as target
 use Rattle.drmaa_model.specs.declared.configs.Config.{Config}
 use Rattle.drmaa_model.specs.declared.entries.Entry.{Entry}
-use Rattle.drmaa_model.specs.KeptCalls.{kept, kept_template, kept_limit}
+use Rattle.drmaa_model.specs.RecordedCalls.{recorded, recorded_template, recorded_limit}
 use Rattle.job_template.specs.declared.templates.JobTemplate.{JobTemplate}
 use Rattle.job_template.specs.declared.templates.ResourceLimit.{ResourceLimit}
 use Rattle.text_codec.specs.Formats.{pair, mapped, checked, first_spelled}
@@ -21,7 +21,7 @@ use Rattle.text_lines.specs.Lines.{ended}
 use Rattle.journal_forms.specs.Calls.{call_form, calls_with, calls, running, bulk, requested, has_others}
 use Rattle.journal_forms.specs.Replies.{reply_form, reply_sum, replies, may_answer}
 use Rattle.journal_text.specs.declared.titles.TheConstants.{SUSPENDS}
-use Rattle.journal_text.specs.Journals.{suspend_text, header, title, title_of, is_title, journal_size, entry_with, answered, stamp, entry, closing, entry_lines, journal_text, IsEntry, IsWritable, kept_entry}
+use Rattle.journal_text.specs.Journals.{suspend_text, header, title, title_of, is_title, journal_size, entry_with, answered, stamp, entry, closing, entry_lines, journal_text, IsEntry, IsWritable, recorded_entry}
 use Rattle.journal_text.specs.Printing.{any_entry, IsRanged, MayStand, IsPrintable}
 
 -- a call is spelled alike whatever attributes its template has
@@ -50,13 +50,13 @@ unfolding calls calls_with replies reply_sum sum_of
 is_entry e r m = record { caller = r.caller; at = r.at; call = more_valid e.call m.others r.call; reply = r.reply m.reply }
 
 -- the entries of such a journal are kept as they are
-pub kept_is : (es : List Entry) → AllByRecursion MayStand es → map kept_entry es ≡ es
-kept_is [] h = refl
-kept_is (e ∷ es) h = ap (λ c. record e { call = c } ∷ map kept_entry es) h.0.call ∙ ap (λ more. e ∷ more) (kept_is es h.1)
+pub recorded_is : (es : List Entry) → AllByRecursion MayStand es → map recorded_entry es ≡ es
+recorded_is [] h = refl
+recorded_is (e ∷ es) h = ap (λ c. record e { call = c } ∷ map recorded_entry es) h.0.call ∙ ap (λ more. e ∷ more) (recorded_is es h.1)
 
-pub same_entries : (es : List Entry) → AllByRecursion (λ e. kept e.call ≡ e.call) es → map kept_entry es ≡ es
+pub same_entries : (es : List Entry) → AllByRecursion (λ e. recorded e.call ≡ e.call) es → map recorded_entry es ≡ es
 same_entries [] h = refl
-same_entries (e ∷ es) h = ap (λ c. record e { call = c } ∷ map kept_entry es) h.0 ∙ ap (λ more. e ∷ more) (same_entries es h.1)
+same_entries (e ∷ es) h = ap (λ c. record e { call = c } ∷ map recorded_entry es) h.0 ∙ ap (λ more. e ∷ more) (same_entries es h.1)
 
 all_entries : (es : List Entry) → AllByRecursion MayStand es → AllByRecursion IsRanged es → AllByRecursion IsEntry es
 all_entries [] m r = tt
@@ -66,18 +66,18 @@ header_is : (c : Config) → title.valid (title_of c) → c.journal ≡ journal_
 unfolding header
 header_is c v e = (v, e)
 
-pub is_writable : (c : Config) (es : List Entry) → IsPrintable c es → (is_title (title_of c) ≡ true → title.valid (title_of c)) → AllByRecursion IsRanged (map kept_entry es) → length es < 2 ^ 64 → IsWritable c es
+pub is_writable : (c : Config) (es : List Entry) → IsPrintable c es → (is_title (title_of c) ≡ true → title.valid (title_of c)) → AllByRecursion IsRanged (map recorded_entry es) → length es < 2 ^ 64 → IsWritable c es
 is_writable c es p titled ranged few = record {
   config = header_is c (titled (both_true p.machine p.queues)) p.size;
-  each = all_entries es p.entries (subst (AllByRecursion IsRanged) (kept_is es p.entries) ranged);
+  each = all_entries es p.entries (subst (AllByRecursion IsRanged) (recorded_is es p.entries) ranged);
   few = few;
 }
 
 -- a template that is spelled is its own kept template
-limits_kept : (ls : List ResourceLimit) → AllByRecursion resource_limit.valid ls → map kept_limit ls ≡ ls
+limits_recorded : (ls : List ResourceLimit) → AllByRecursion resource_limit.valid ls → map recorded_limit ls ≡ ls
 unfolding resource_limit mapped pair capitals
-limits_kept [] v = refl
-limits_kept (l ∷ ls) v = rw (v.0.0, limits_kept ls v.1) refl
+limits_recorded [] v = refl
+limits_recorded (l ∷ ls) v = rw (v.0.0, limits_recorded ls v.1) refl
 
 -- what a template's fields have to be, group by group, down to its limits
 early_is_valid : (p : Early) → early_fields.body.valid p → path_fields.body.valid p.1.1.1.1
@@ -100,25 +100,25 @@ any_is_valid : (t : JobTemplate) → template.valid t → early_fields.body.vali
 unfolding template checked any_template mapped in_braces
 any_is_valid t v = v.0.1
 
-template_kept : (t : JobTemplate) → template.valid t → kept_template t ≡ t
+template_recorded : (t : JobTemplate) → template.valid t → recorded_template t ≡ t
 unfolding early_parts path_parts placed_parts late_parts
-template_kept t v =
+template_recorded t v =
     let early = any_is_valid t v in
     let paths = early_is_valid (early_parts t) early in
     let placed = paths_are_valid (path_parts t) paths in
     let late = placed_is_valid (placed_parts t) placed in
-    ap (λ ls. record t { resource_limits = ls }) (limits_kept t.resource_limits (limits_are_valid (late_parts t) late))
+    ap (λ ls. record t { resource_limits = ls }) (limits_recorded t.resource_limits (limits_are_valid (late_parts t) late))
 
-call_kept : (c : Call) → (call_form template frame c).valid → kept c ≡ c
+call_recorded : (c : Call) → (call_form template frame c).valid → recorded c ≡ c
 unfolding running bulk pair
-call_kept (call.RunJob session t) v = ap (λ k. call.RunJob session k) (template_kept t v.1)
-call_kept (call.RunBulk session t listed) v = ap (λ k. call.RunBulk session k listed) (template_kept t v.1.0)
-call_kept _ v = refl
+call_recorded (call.RunJob session t) v = ap (λ k. call.RunJob session k) (template_recorded t v.1)
+call_recorded (call.RunBulk session t listed) v = ap (λ k. call.RunBulk session k listed) (template_recorded t v.1.0)
+call_recorded _ v = refl
 
-pub entries_kept : (es : List Entry) → AllByRecursion IsEntry es → AllByRecursion (λ e. kept e.call ≡ e.call) es
+pub entries_recorded : (es : List Entry) → AllByRecursion IsEntry es → AllByRecursion (λ e. recorded e.call ≡ e.call) es
 unfolding calls calls_with sum_of
-entries_kept [] h = tt
-entries_kept (e ∷ es) h = (call_kept e.call h.0.call, entries_kept es h.1)
+entries_recorded [] h = tt
+entries_recorded (e ∷ es) h = (call_recorded e.call h.0.call, entries_recorded es h.1)
 
 -- the parts of a journal's text
 text_parts : (c : Config) (es : List Entry) → journal_text c es ≡ ((header.spell c ++ 10 ∷ []) ++ ended (entry_lines 1 es)) ++ (closing.spell (length es) ++ 10 ∷ [])
@@ -126,18 +126,18 @@ text_parts c es =
     ap (λ t. (header.spell c ++ 10 ∷ []) ++ t) (flat_map-append (λ l. l ++ 10 ∷ []) (entry_lines 1 es) (closing.spell (length es) ∷ []) ∙ ap (λ t. ended (entry_lines 1 es) ++ t) (append-nil (closing.spell (length es) ++ 10 ∷ [])))
     ∙ sym (append_assoc (header.spell c ++ 10 ∷ []) (ended (entry_lines 1 es)) (closing.spell (length es) ++ 10 ∷ []))
 
-same_length : (es : List Entry) → length (map kept_entry es) ≡ length es
+same_length : (es : List Entry) → length (map recorded_entry es) ≡ length es
 same_length [] = refl
 same_length (e ∷ es) = ap suc (same_length es)
 
 -- what is printed in turn is the text
-pub printed_is : (c : Config) (es : List Entry) (a b d : List ℕ) → a ≡ header.spell c ++ 10 ∷ [] → b ≡ a ++ ended (entry_lines 1 (map kept_entry es)) → d ≡ b ++ (closing.spell (length es) ++ 10 ∷ []) → d ≡ journal_text c (map kept_entry es)
+pub printed_is : (c : Config) (es : List Entry) (a b d : List ℕ) → a ≡ header.spell c ++ 10 ∷ [] → b ≡ a ++ ended (entry_lines 1 (map recorded_entry es)) → d ≡ b ++ (closing.spell (length es) ++ 10 ∷ []) → d ≡ journal_text c (map recorded_entry es)
 printed_is c es a b d p q r =
-    r ∙ ap (λ t. t ++ (closing.spell (length es) ++ 10 ∷ [])) (q ∙ ap (λ t. t ++ ended (entry_lines 1 (map kept_entry es))) p)
-    ∙ ap (λ n. ((header.spell c ++ 10 ∷ []) ++ ended (entry_lines 1 (map kept_entry es))) ++ (closing.spell n ++ 10 ∷ [])) (sym (same_length es)) ∙ sym (text_parts c (map kept_entry es))
+    r ∙ ap (λ t. t ++ (closing.spell (length es) ++ 10 ∷ [])) (q ∙ ap (λ t. t ++ ended (entry_lines 1 (map recorded_entry es))) p)
+    ∙ ap (λ n. ((header.spell c ++ 10 ∷ []) ++ ended (entry_lines 1 (map recorded_entry es))) ++ (closing.spell n ++ 10 ∷ [])) (sym (same_length es)) ∙ sym (text_parts c (map recorded_entry es))
 
 -- what was printed of an entry tells its ranges
-pub is_ranged : (n : ℕ) (e : Entry) → stamp.valid (n, (e.caller, e.at)) → (call_form any_template any_frame (kept e.call)).valid → (may_answer e.reply ≡ true → (reply_form e.reply).valid) → IsRanged (kept_entry e)
+pub is_ranged : (n : ℕ) (e : Entry) → stamp.valid (n, (e.caller, e.at)) → (call_form any_template any_frame (recorded e.call)).valid → (may_answer e.reply ≡ true → (reply_form e.reply).valid) → IsRanged (recorded_entry e)
 unfolding stamp pair
 is_ranged n e s c r = record { caller = s.1.0; at = s.1.1; call = c; reply = r }
 

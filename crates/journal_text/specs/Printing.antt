@@ -4,7 +4,7 @@ use Rattle.std.specs.List.{AllByRecursion}
 use Rattle.drmaa_types.specs.Queues.{are_queues}
 use Rattle.drmaa_model.specs.declared.configs.Config.{Config}
 use Rattle.drmaa_model.specs.declared.entries.Entry.{Entry}
-use Rattle.drmaa_model.specs.KeptCalls.{kept}
+use Rattle.drmaa_model.specs.RecordedCalls.{recorded}
 use Rattle.text_codec.specs.Formats.{Format, moment}
 use Rattle.text_codec.specs.Numbers.{caller_id}
 use Rattle.text_forms.specs.Templates.{any_template, any_frame}
@@ -23,10 +23,10 @@ pub record IsRanged (e : Entry) : Type 0 where
   pub call : (call_form any_template any_frame e.call).valid
   pub reply : may_answer e.reply ≡ true → (reply_form e.reply).valid
 
--- Which entries a journal may have: each call is its own kept call, no template has queueName or a limit under `other`,
+-- Which entries a journal may have: each call is its own recorded call, no template has queueName or a limit under `other`,
 -- and no reply is a refusal that no journal has.
 pub record MayStand (e : Entry) : Type 0 where
-  pub call : kept e.call ≡ e.call
+  pub call : recorded e.call ≡ e.call
   pub others : has_others e.call ≡ true
   pub reply : may_answer e.reply ≡ true
 

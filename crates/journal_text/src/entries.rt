@@ -2,7 +2,7 @@
 ghost use Rattle.std.specs.Prelude.{◌≡◌, ◌∷◌, [], ◌++◌, ◌^◌, ◌<◌, true, map, IfErr, OnOk};
 ghost use Rattle.text_codec.specs.declared.unread.Unread.{Unread};
 ghost use Rattle.std.specs.List.{AllByRecursion};
-ghost use Rattle.drmaa_model.specs.KeptCalls.{kept};
+ghost use Rattle.drmaa_model.specs.RecordedCalls.{recorded};
 ghost use Rattle.text_codec.specs.Formats.{Answers, Says, number, read_line};
 ghost use Rattle.text_codec.specs.Formats as form;
 ghost use Rattle.text_forms.specs.Templates.{any_template, any_frame};
@@ -10,7 +10,7 @@ ghost use Rattle.text_lines.specs.Lines.{ended};
 ghost use Rattle.journal_forms.specs.Calls.{calls, call_form};
 ghost use Rattle.journal_forms.specs.Replies.{reply_form, may_answer};
 ghost use Rattle.journal_text.specs.Journals as journals;
-ghost use Rattle.journal_text.specs.Journals.{kept_entry};
+ghost use Rattle.journal_text.specs.Journals.{recorded_entry};
 ghost use Rattle.journal_text.specs.Printing.{any_entry, IsRanged};
 
 use drmaa_model::{Call, Entry, Reply};
@@ -108,9 +108,9 @@ fn push_stamp(out: &mut Vec<u8>, number: u64, entry: &Entry) -> Result<(), Alloc
 /// Prints an entry with its number, its call as a journal keeps it.
 #[tactic(auto, unfolding(crate::specs::Printing::any_entry, crate::specs::Journals::entry_with, crate::specs::Journals::answered, journal_forms::specs::Calls::calls_with, journal_forms::specs::Replies::replies, journal_forms::specs::Replies::reply_sum, text_codec::specs::Formats::mapped, text_codec::specs::Formats::pair, text_codec::specs::Fields::joined, text_codec::specs::Sums::sum_of))]
 fn push_entry(out: &mut Vec<u8>, number: u64, entry: &Entry) -> Result<(), AllocError>
-    ensures text { OnOk result (out.new.items ≡ out.old.items ++ any_entry.spell (number, kept_entry entry.now)) }
+    ensures text { OnOk result (out.new.items ≡ out.old.items ++ any_entry.spell (number, recorded_entry entry.now)) }
     ensures stamp { OnOk result (journals.stamp.valid (number, (entry.now.caller, entry.now.at))) }
-    ensures call { OnOk result ((call_form any_template any_frame (kept entry.now.call)).valid) }
+    ensures call { OnOk result ((call_form any_template any_frame (recorded entry.now.call)).valid) }
     ensures reply { may_answer entry.now.reply ≡ true → OnOk result ((reply_form entry.now.reply).valid) }
 {
     push_stamp(out, number, entry)?;
@@ -130,8 +130,8 @@ fn push_feed(out: &mut Vec<u8>) -> Result<(), AllocError>
 /// Prints the line of an entry.
 #[tactic(auto, using(crate::specs::PrintLaws::same_entry, crate::specs::PrintLaws::is_ranged))]
 fn push_line(out: &mut Vec<u8>, number: u64, entry: &Entry) -> Result<(), AllocError>
-    ensures text { OnOk result (out.new.items ≡ out.old.items ++ (journals.entry.spell (number, kept_entry entry.now) ++ 10 ∷ [])) }
-    ensures ranged { OnOk result (IsRanged (kept_entry entry.now)) }
+    ensures text { OnOk result (out.new.items ≡ out.old.items ++ (journals.entry.spell (number, recorded_entry entry.now) ++ 10 ∷ [])) }
+    ensures ranged { OnOk result (IsRanged (recorded_entry entry.now)) }
 {
     push_entry(out, number, entry)?;
     push_feed(out)
@@ -139,8 +139,8 @@ fn push_line(out: &mut Vec<u8>, number: u64, entry: &Entry) -> Result<(), AllocE
 
 /// Prints the lines of entries, numbered from 1 on.
 pub(crate) fn push_lines(out: &mut Vec<u8>, entries: &[Entry]) -> Result<(), AllocError>
-    ensures text { OnOk result (out.new.items ≡ out.old.items ++ ended (journals.entry_lines 1 (map kept_entry entries.now))) }
-    ensures ranged { OnOk result (AllByRecursion IsRanged (map kept_entry entries.now)) }
+    ensures text { OnOk result (out.new.items ≡ out.old.items ++ ended (journals.entry_lines 1 (map recorded_entry entries.now))) }
+    ensures ranged { OnOk result (AllByRecursion IsRanged (map recorded_entry entries.now)) }
 {
     for (i, entry) in entries.iter().enumerate() {
         push_line(out, i as u64 + 1, entry)?;

@@ -2,9 +2,9 @@
 ghost use Rattle.std.specs.Prelude.{◌≡◌, map, IfOk, IfErr, OnOk, IsUtf8};
 ghost use Rattle.drmaa_types.specs.declared.refusals.Refusal.{Refusal};
 ghost use Rattle.std.specs.List.{AllByRecursion};
-ghost use Rattle.drmaa_model.specs.KeptCalls.{kept};
+ghost use Rattle.drmaa_model.specs.RecordedCalls.{recorded};
 ghost use Rattle.drmaa_model.specs.declared.entries.Entry.{Entry};
-ghost use Rattle.journal_text.specs.Journals.{IsWritable, journal_text, kept_entry};
+ghost use Rattle.journal_text.specs.Journals.{IsWritable, journal_text, recorded_entry};
 ghost use Rattle.journal_text.specs.Printing.{IsPrintable};
 
 use crate::entries::{push_closing, push_lines};
@@ -23,8 +23,8 @@ pub struct Journal {
 /// The bytes of a journal, printed through one buffer. Each call is printed as a journal keeps it: a limit's name that no
 /// journal can have as `OTHER`.
 pub fn journal_bytes(alloc: Global, config: &Config, entries: &[Entry]) -> Result<Bytes, AllocError>
-    ensures text { IfOk result (λ b. b ≡ journal_text config.now (map kept_entry entries.now)) }
-    ensures kept { AllByRecursion (λ (e : Entry). kept e.call ≡ e.call) entries.now → IfOk result (λ b. b ≡ journal_text config.now entries.now) }
+    ensures text { IfOk result (λ b. b ≡ journal_text config.now (map recorded_entry entries.now)) }
+    ensures recorded { AllByRecursion (λ (e : Entry). recorded e.call ≡ e.call) entries.now → IfOk result (λ b. b ≡ journal_text config.now entries.now) }
     ensures written { IsWritable config.now entries.now → IfOk result (λ b. b ≡ journal_text config.now entries.now) }
     ensures writable { IsPrintable config.now entries.now → OnOk result (IsWritable config.now entries.now) }
     ensures utf8 { IfOk result (λ b. IsUtf8 b) }
@@ -41,8 +41,8 @@ pub fn journal_bytes(alloc: Global, config: &Config, entries: &[Entry]) -> Resul
 /// # Errors
 /// `OutOfMemory` alone.
 pub fn print_journal(alloc: Global, journal: &Journal) -> Result<Text, Refusal>
-    ensures text { IfOk result (λ t. t ≡ journal_text journal.now.config (map kept_entry journal.now.entries)) }
-    ensures kept { AllByRecursion (λ (e : Entry). kept e.call ≡ e.call) journal.now.entries → IfOk result (λ t. t ≡ journal_text journal.now.config journal.now.entries) }
+    ensures text { IfOk result (λ t. t ≡ journal_text journal.now.config (map recorded_entry journal.now.entries)) }
+    ensures recorded { AllByRecursion (λ (e : Entry). recorded e.call ≡ e.call) journal.now.entries → IfOk result (λ t. t ≡ journal_text journal.now.config journal.now.entries) }
     ensures written { IsWritable journal.now.config journal.now.entries → IfOk result (λ t. t ≡ journal_text journal.now.config journal.now.entries) }
     ensures writable { IsPrintable journal.now.config journal.now.entries → OnOk result (IsWritable journal.now.config journal.now.entries) }
     ensures memory { IfErr result (λ e. e ≡ Refusal.OutOfMemory) }

@@ -1,7 +1,7 @@
 //! What is true of every journal: each law is the contract of a function that does nothing.
 ghost use Rattle.std.specs.Prelude.{◌≡◌, ℕ, List, IsUtf8};
 ghost use Rattle.std.specs.List.{AllByRecursion};
-ghost use Rattle.drmaa_model.specs.KeptCalls.{kept};
+ghost use Rattle.drmaa_model.specs.RecordedCalls.{recorded};
 ghost use Rattle.drmaa_model.specs.declared.configs.Config.{Config};
 ghost use Rattle.drmaa_model.specs.declared.entries.Entry.{Entry};
 ghost use Rattle.text_lines.specs.Lines.{IsFirstBad};
@@ -17,9 +17,9 @@ pub fn a_journal_is_utf8()
     ensures { (c : Config) (h : List Entry) (bytes : List ℕ) → IsWritable c h → IsText c h bytes → IsUtf8 bytes }
 {}
 
-/// Each call of a journal that can be written is its own kept call.
-pub fn a_writable_journal_keeps_its_calls()
-    ensures { (c : Config) (h : List Entry) → IsWritable c h → AllByRecursion (λ (e : Entry). kept e.call ≡ e.call) h }
+/// Each call of a journal that can be written is its own recorded call.
+pub fn a_writable_journal_has_recorded_calls()
+    ensures { (c : Config) (h : List Entry) → IsWritable c h → AllByRecursion (λ (e : Entry). recorded e.call ≡ e.call) h }
 {}
 
 /// The number of the first bad line is one.

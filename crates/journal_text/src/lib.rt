@@ -14,6 +14,8 @@ pub use journal_forms::{
     spell_reply_word,
 };
 pub use journals::{Journal, journal_bytes, print_journal};
-pub use laws::{a_journal_is_utf8, a_writable_journal_keeps_its_calls, one_bad_line, one_journal};
+pub use laws::{
+    a_journal_is_utf8, a_writable_journal_has_recorded_calls, one_bad_line, one_journal,
+};
 pub use reading::{BYTE_LIMIT, JournalReader, read_journal};
 pub use titles::SUSPENDS;

@@ -1,7 +1,7 @@
 -- A script of either kind, and the line that is bad where the bytes are none: our profile.
 use Rattle.std.specs.Prelude.{◌≡◌, ◌⊎◌, ℕ, max, List}
 use Rattle.text_lines.specs.Lines.{IsTextOf, IsFirstBad}
-use Rattle.text_lines.specs.Skipping.{SpellsKept}
+use Rattle.text_lines.specs.Skipping.{SpellsUnskipped}
 use Rattle.script_text.specs.declared.scripts.Mode.{Mode}
 use Rattle.script_text.specs.declared.scripts.Mode.TheVariants.{Serial, Threads}
 use Rattle.script_text.specs.declared.scripts.Script.{Script}
@@ -10,11 +10,11 @@ use Rattle.script_advice.specs.WarningTexts.{lint_text}
 
 -- the bytes are this script of the kind
 abbrev pub IsScript : Mode → List ℕ → Script → Type 0
-IsScript mode bytes s = IsTextOf (SpellsKept (Spells mode)) 16_777_216 bytes s
+IsScript mode bytes s = IsTextOf (SpellsUnskipped (Spells mode)) 16_777_216 bytes s
 
 -- the bytes are no script of the kind, and this is the first line after which none can go on
 abbrev pub IsBadAt : Mode → List ℕ → ℕ → Type 0
-IsBadAt mode bytes line = IsFirstBad (SpellsKept (Spells mode)) 16_777_216 bytes line
+IsBadAt mode bytes line = IsFirstBad (SpellsUnskipped (Spells mode)) 16_777_216 bytes line
 
 -- the script that the bytes are: one for one thread, or where they are none, one for threads
 abbrev pub IsJudged : List ℕ → Script → Type 0

@@ -11,8 +11,8 @@ use Rattle.drmaa_model.specs.Courses.{launched, planned_end}
 use Rattle.drmaa_model.specs.Fit.{IsFit}
 use Rattle.drmaa_model.specs.Launching.{launch, launch_of, launch_row}
 use Rattle.drmaa_model.specs.OperationLaws.{row-sound}
-use Rattle.drmaa_model.specs.Order.{next_launch}
-use Rattle.drmaa_model.specs.OrderLaws.{next_launch-is}
+use Rattle.drmaa_model.specs.NextLaunch.{next_launch}
+use Rattle.drmaa_model.specs.NextLaunchLaws.{next_launch-is}
 use Rattle.drmaa_model.specs.Plan.{Plan}
 use Rattle.drmaa_model.specs.Rows.{change_of}
 use Rattle.drmaa_model.specs.Size.{phase_room, room_of, weight}

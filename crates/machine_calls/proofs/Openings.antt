@@ -54,7 +54,7 @@ module _ (w : World) (at : ℕ) (asked : Call) (ok : IsConsistent w) (plain : is
       let there : next ≡ counted (record v { sessions = after }) = ends.3 ∙ ap (λ (x : Sessions). counted (record v { sessions = x })) made in
       answers replies ends.1
       (served-gives at v asked (refuses ∙ none) ∙ does ∙ ap (λ (x : Reply). gives x (counted (record v { sessions = after }))) (sym told) ∙ ap (λ (x : World). gives replies.told x) (sym there))
-      (ends.2.kept ∙ sym ends.2.told)
+      (ends.2.recorded ∙ sym ends.2.told)
       (subst (λ (x : World). size x ≤ w.config.journal) (sym there) fits))
   session-comes (Err why) refused number made same ends =
       (let v = advance w at in
@@ -70,7 +70,7 @@ module _ (w : World) (at : ℕ) (asked : Call) (ok : IsConsistent w) (plain : is
             let is : r ≡ Some why = elim refused [ inl e ↦ e | inr both ↦ absurd (other both.1) ] in
             answers replies ended.1
             (refused-gives at v asked why (refuses ∙ is) ∙ ap (λ (x : Reply). gives x (counted v)) (sym ended.2.told) ∙ ap (λ (x : World). gives replies.told x) (sym there))
-            (ended.2.kept ∙ sym ended.2.told)
+            (ended.2.recorded ∙ sym ended.2.told)
             (subst (λ (x : World). size x ≤ w.config.journal) (sym there) fits))
       ])
 

@@ -1,23 +1,23 @@
 -- A report whose entry was promised: it is not refused, fewer reports are to come after it, and the journal has room for it.
-use Rattle.std.proofs.Common.{◌≡◌, ℕ, ◌+◌, ◌≤◌, Bool, true, false, eqb, List, map, Option, Some, None, refl, ◌∙◌, ap, arith}
+use Rattle.std.proofs.Common.{◌≡◌, ◌≢◌, ℕ, ◌+◌, ◌≤◌, Bool, true, false, eqb, List, map, Option, Some, None, refl, sym, ◌∙◌, ap, subst, arith}
 use Rattle.std.specs.Option.{option_map_or}
 use Rattle.std.specs.Prelude.{Result, Ok, Err}
 use Rattle.std.proofs.lemmas.Bool.{and_parts}
 use Rattle.drmaa_types.specs.declared.identifiers.JobId.{JobId}
 use Rattle.drmaa_types.specs.declared.refusals.Refusal.{Refusal}
-use Rattle.drmaa_types.specs.declared.refusals.Refusal.TheVariants.{OutOfMemory}
 use Rattle.drmaa_model.specs.declared.calls.Report.{Report}
 use Rattle.drmaa_model.specs.declared.calls.Report.TheVariants as report
 use Rattle.drmaa_model.specs.declared.courses.Course.{Course}
 use Rattle.drmaa_model.specs.declared.courses.Phase.{Phase}
 use Rattle.drmaa_model.specs.declared.courses.Phase.TheVariants.{Idle, Launching, Alive}
+use Rattle.drmaa_model.specs.declared.faults.NoEntry.{NoEntry}
+use Rattle.drmaa_model.specs.declared.faults.NoEntry.TheVariants.{OutOfMemory}
 use Rattle.drmaa_model.specs.declared.rows.Row.{Row}
 use Rattle.drmaa_model.specs.Courses.{begun, unstarted, exited, lost}
 use Rattle.drmaa_model.specs.Fit.{IsFit}
 use Rattle.drmaa_model.specs.FitLaws.{advance-fit}
 use Rattle.drmaa_model.specs.Growth.{is_of_run}
-use Rattle.drmaa_model.specs.Operation.{Outcome, outcome, size_at, Meets}
-use Rattle.drmaa_model.specs.Operation.Meets.{served, full, short}
+use Rattle.drmaa_model.specs.Operation.{Outcome, outcome, size_at}
 use Rattle.drmaa_model.specs.OperationLaws.{outcome-served}
 use Rattle.drmaa_model.specs.Plan.{Plan}
 use Rattle.drmaa_model.specs.Reporting.{report_of, may_begin, may_exit, is_idle, is_launching, start_row, unstart_row, end_row, lose_row}
@@ -25,13 +25,17 @@ use Rattle.drmaa_model.specs.ReportLaws.{report-free, report-finds, may_exit-bus
 use Rattle.drmaa_model.specs.RowLaws.{row_of-is}
 use Rattle.drmaa_model.specs.Rows.{row_of, with_course}
 use Rattle.drmaa_model.specs.Size.{weight}
-use Rattle.drmaa_model.specs.Time.{advance_plan, rows_at}
+use Rattle.drmaa_model.specs.Time.{rows_at}
 use Rattle.drmaa_model.specs.TimeLaws.{weight-advance}
 use Rattle.drmaa_model.specs.WeightLaws.{run-weight}
+use Rattle.plan_book.specs.declared.occasions.Occasion.{Occasion}
+use Rattle.plan_book.specs.Occasions.{MeetsAt, plan_at}
+use Rattle.plan_book.specs.Occasions.Meets.{served, full, short}
 use Rattle.scheduler_core.specs.Facts.{reports_due, reports_to_come}
 use Rattle.machine_readings.specs.declared.store.Store.{Store}
-use Rattle.machine_readings.specs.Stores.{IsKept}
+use Rattle.machine_readings.specs.Stores.{world_of, IsStore}
 use Rattle.machine_calls.specs.Reports.{has_course, is_promised}
+use Rattle.machine_calls.specs.Serving.{IsNextOccasion}
 use Rattle.machine_calls.proofs.Dues.{due, go-due, advance-due}
 use Rattle.machine_calls.proofs.Outcomes.{launching-due}
 
@@ -114,30 +118,35 @@ promised-due (report.SignalFailed job attempt kind) entry q fit is = absurd (cc)
 
 -- ---- it is taken
 
-pub record IsTaken (s : Store) (done : Result (Unit {0}) Refusal) (new : Plan) : Type 0 where
-  pub ok : done ≡ Ok tt
+pub record IsTaken (s : Store) (done : Result (Result (Unit {0}) Refusal) NoEntry) (new : Plan) : Type 0 where
+  pub ok : done ≡ Ok (Ok tt)
   pub fewer : reports_to_come new.rows + 1 ≤ reports_to_come s.core.plan.rows
 
-pub promised-taken : (s : Store) (at : ℕ) (r : Report) (done : Result (Unit {0}) Refusal) (new : Plan) → IsKept s → is_promised r (rows_at at s.core.plan) ≡ true → (done ≡ Err OutOfMemory → ⊥)
-    → Meets (outcome (report_of r) (s.entries + 1) (advance_plan (s.entries + 1) at s.core.plan)) s.core.plan (s.entries + 1) s.config.journal done new → IsTaken s done new
-promised-taken s at r done new kept is sure met =
-    let e = s.entries + 1 in
-    let q = advance_plan (s.entries + 1) at s.core.plan in
-    let fit : IsFit q = advance-fit (s.entries + 1) at s.core.plan kept.consistent.fit in
-    let free : (report_of r).refusal q ≡ None = promised-free r q is in
-    let does = outcome-served (report_of r) e q free in
-    let lighter : weight ((report_of r).effect e q) + 1 ≤ weight q = run-weight r e q (promised-run r q.rows is) fit free in
-    let weighs : weight q ≡ weight s.core.plan = weight-advance (s.entries + 1) at s.core.plan in
+pub promised-taken : (s : Store) (at : ℕ) (o : Occasion) (r : Report) (done : Result (Result (Unit {0}) Refusal) NoEntry) (new : Plan) → IsStore s → IsNextOccasion o (world_of s) at
+    → is_promised r (rows_at at s.core.plan) ≡ true → done ≢ Err OutOfMemory → MeetsAt o (report_of r) s.core.plan done new → IsTaken s done new
+promised-taken s at o r done new kept on is sure met =
+    let q = plan_at o s.core.plan in
+    let here : is_promised r q.rows ≡ true = subst (λ (m : ℕ). is_promised r (rows_at m s.core.plan) ≡ true) (sym on.at_is) is in
+    let fit : IsFit q = advance-fit o.entry o.at s.core.plan kept.consistent.fit in
+    let free : (report_of r).refusal q ≡ None = promised-free r q here in
+    let does = outcome-served (report_of r) o.entry q free in
+    let lighter : weight ((report_of r).effect o.entry q) + 1 ≤ weight q = run-weight r o.entry q (promised-run r q.rows here) fit free in
+    let weighs : weight q ≡ weight s.core.plan = weight-advance o.entry o.at s.core.plan in
     let within = kept.within in
-    let after : weight (outcome (report_of r) e q).plan ≡ weight ((report_of r).effect e q) = ap (λ (o : Outcome (Unit {0})). weight o.plan) does in
-    let fits : size_at e (outcome (report_of r) e q).plan ≤ s.config.journal = omega (arith, lighter, weighs, within, after) in
-    let less = promised-due r e q fit is in
-    let earlier = advance-due (s.entries + 1) at s.core.plan in
+    let entry : o.entry ≡ s.entries + 1 = on.entry_is in
+    let limit : o.limit ≡ s.config.journal = on.limit_is in
+    let after : weight (outcome (report_of r) o.entry q).plan ≡ weight ((report_of r).effect o.entry q) = ap (λ (x : Outcome (Unit {0})). weight x.plan) does in
+    let fits : size_at o.entry (outcome (report_of r) o.entry q).plan ≤ o.limit = omega (arith, lighter, weighs, within, after, entry, limit) in
+    let less = promised-due r o.entry q fit here in
+    let earlier = advance-due o.entry o.at s.core.plan in
     elim met [
       | served x ↦
           (let rows = ap (λ (p : Plan). reports_to_come p.rows) x.plan in
-          let same = ap (λ (o : Outcome (Unit {0})). reports_to_come o.plan.rows) does in
-          record { ok = x.answered ∙ ap (λ (o : Outcome (Unit {0})). o.answer) does; fewer = omega (arith, rows, same, less, earlier) })
+          let same = ap (λ (y : Outcome (Unit {0})). reports_to_come y.plan.rows) does in
+          record {
+            ok = x.answered ∙ ap (λ (y : Outcome (Unit {0})). let d : Result (Result (Unit {0}) Refusal) NoEntry = Ok y.answer in d) does;
+            fewer = omega (arith, rows, same, less, earlier);
+          })
       | full x ↦ (let above = x.above in absurd (omega (arith, above, fits)))
       | short x ↦ absurd (sure x.answered)
     ]

@@ -64,34 +64,12 @@ hindered w next at asked m e planned is if_full if_short same =
 -- ---- the calls of sessions and readings
 
 abbrev pub is_plain : Call → Bool
-is_plain (call.CreateJobSession name) = true
-is_plain (call.CreateReservationSession name) = true
-is_plain (call.OpenJobSession name) = true
-is_plain (call.OpenReservationSession name) = true
-is_plain (call.DestroyJobSession name) = true
-is_plain (call.DestroyReservationSession name) = true
-is_plain call.JobSessionNames = true
-is_plain call.ReservationSessionNames = true
-is_plain call.OpenMonitoring = true
-is_plain (call.CloseSession session) = true
 is_plain (call.RunJob session t) = false
 is_plain (call.RunBulk session t indices) = false
-is_plain (call.GetJobs session filter) = true
-is_plain (call.GetJobArray session array) = true
 is_plain (call.Control session meant what) = false
 is_plain (call.Reap session meant) = false
-is_plain (call.GetState session job) = true
-is_plain (call.GetInfo session job) = true
 is_plain (call.Wait session listed kind begun timeout) = false
-is_plain (call.RequestReservation session t) = true
-is_plain (call.GetReservation session number) = true
-is_plain (call.GetReservations session) = true
 is_plain (call.EndReservation session number) = false
-is_plain (call.AllJobs session filter) = true
-is_plain (call.AllReservations session) = true
-is_plain (call.AllQueues session) = true
-is_plain (call.AllMachines session) = true
-is_plain call.Register = true
 is_plain call.TakeLaunch = false
 is_plain (call.Started job attempt) = false
 is_plain (call.StartFailed job attempt) = false
@@ -100,6 +78,7 @@ is_plain (call.ExitUnknown job attempt) = false
 is_plain call.TakeSignal = false
 is_plain (call.SignalDone job attempt kind) = false
 is_plain (call.SignalFailed job attempt kind) = false
+is_plain _ = true
 
 record PlannedNow (v : World) (a : StepAnswer) : Type 0 where
   told : Reply
@@ -120,34 +99,14 @@ destroys v kind name fit =
 
 module _ (at : ℕ) (v : World) (fit : IsFit v.plan) where
   now-planned : (c : Call) → is_plain c ≡ true → PlannedNow v (effect at v c)
-  now-planned (call.CreateJobSession name) p = by-makes v _ _ refl
-  now-planned (call.CreateReservationSession name) p = by-makes v _ _ refl
-  now-planned (call.OpenJobSession name) p = by-makes v _ _ refl
-  now-planned (call.OpenReservationSession name) p = by-makes v _ _ refl
   now-planned (call.DestroyJobSession name) p = destroys v Jobs name fit
   now-planned (call.DestroyReservationSession name) p = destroys v Reservations name fit
-  now-planned call.JobSessionNames p = by-makes v _ _ refl
-  now-planned call.ReservationSessionNames p = by-makes v _ _ refl
-  now-planned call.OpenMonitoring p = by-makes v _ _ refl
-  now-planned (call.CloseSession session) p = by-makes v _ _ refl
   now-planned (call.RunJob session t) p = absurd (cc)
   now-planned (call.RunBulk session t indices) p = absurd (cc)
-  now-planned (call.GetJobs session filter) p = by-makes v _ _ refl
-  now-planned (call.GetJobArray session array) p = by-makes v _ _ refl
   now-planned (call.Control session meant what) p = absurd (cc)
   now-planned (call.Reap session meant) p = absurd (cc)
-  now-planned (call.GetState session job) p = by-makes v _ _ refl
-  now-planned (call.GetInfo session job) p = by-makes v _ _ refl
   now-planned (call.Wait session listed kind begun timeout) p = absurd (cc)
-  now-planned (call.RequestReservation session t) p = by-makes v _ _ refl
-  now-planned (call.GetReservation session number) p = by-makes v _ _ refl
-  now-planned (call.GetReservations session) p = by-makes v _ _ refl
   now-planned (call.EndReservation session number) p = absurd (cc)
-  now-planned (call.AllJobs session filter) p = by-makes v _ _ refl
-  now-planned (call.AllReservations session) p = by-makes v _ _ refl
-  now-planned (call.AllQueues session) p = by-makes v _ _ refl
-  now-planned (call.AllMachines session) p = by-makes v _ _ refl
-  now-planned call.Register p = by-makes v _ _ refl
   now-planned call.TakeLaunch p = absurd (cc)
   now-planned (call.Started job attempt) p = absurd (cc)
   now-planned (call.StartFailed job attempt) p = absurd (cc)
@@ -156,6 +115,7 @@ module _ (at : ℕ) (v : World) (fit : IsFit v.plan) where
   now-planned call.TakeSignal p = absurd (cc)
   now-planned (call.SignalDone job attempt kind) p = absurd (cc)
   now-planned (call.SignalFailed job attempt kind) p = absurd (cc)
+  now-planned _ p = by-makes v _ _ refl
 
 pub planned : (w : World) (at : ℕ) (asked : Call) → IsConsistent w → is_plain asked ≡ true → Planned w at asked (w.entries + 1 + weight w.plan)
 planned w at asked ok plain =
@@ -170,34 +130,12 @@ planned w at asked ok plain =
 
 -- what only reads is plain
 pub reading-plain : (c : Call) → is_reading c ≡ true → is_plain c ≡ true
-reading-plain (call.CreateJobSession name) p = refl
-reading-plain (call.CreateReservationSession name) p = refl
-reading-plain (call.OpenJobSession name) p = refl
-reading-plain (call.OpenReservationSession name) p = refl
-reading-plain (call.DestroyJobSession name) p = refl
-reading-plain (call.DestroyReservationSession name) p = refl
-reading-plain call.JobSessionNames p = refl
-reading-plain call.ReservationSessionNames p = refl
-reading-plain call.OpenMonitoring p = refl
-reading-plain (call.CloseSession session) p = refl
 reading-plain (call.RunJob session t) p = absurd (cc)
 reading-plain (call.RunBulk session t indices) p = absurd (cc)
-reading-plain (call.GetJobs session filter) p = refl
-reading-plain (call.GetJobArray session array) p = refl
 reading-plain (call.Control session meant what) p = absurd (cc)
 reading-plain (call.Reap session meant) p = absurd (cc)
-reading-plain (call.GetState session job) p = refl
-reading-plain (call.GetInfo session job) p = refl
 reading-plain (call.Wait session listed kind begun timeout) p = absurd (cc)
-reading-plain (call.RequestReservation session t) p = refl
-reading-plain (call.GetReservation session number) p = refl
-reading-plain (call.GetReservations session) p = refl
 reading-plain (call.EndReservation session number) p = absurd (cc)
-reading-plain (call.AllJobs session filter) p = refl
-reading-plain (call.AllReservations session) p = refl
-reading-plain (call.AllQueues session) p = refl
-reading-plain (call.AllMachines session) p = refl
-reading-plain call.Register p = refl
 reading-plain call.TakeLaunch p = absurd (cc)
 reading-plain (call.Started job attempt) p = absurd (cc)
 reading-plain (call.StartFailed job attempt) p = absurd (cc)
@@ -206,3 +144,4 @@ reading-plain (call.ExitUnknown job attempt) p = absurd (cc)
 reading-plain call.TakeSignal p = absurd (cc)
 reading-plain (call.SignalDone job attempt kind) p = absurd (cc)
 reading-plain (call.SignalFailed job attempt kind) p = absurd (cc)
+reading-plain _ p = refl

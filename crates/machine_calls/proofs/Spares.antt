@@ -8,7 +8,7 @@ use Rattle.drmaa_model.specs.World.{World}
 use Rattle.scheduler_core.specs.Facts.{reports_to_come}
 use Rattle.scheduler_core.specs.View.{View}
 use Rattle.machine_readings.specs.declared.store.Store.{Store}
-use Rattle.machine_readings.specs.Stores.{IsKept}
+use Rattle.machine_readings.specs.Stores.{IsStore}
 use Rattle.machine_calls.specs.declared.replies.Replies.{Replies}
 use Rattle.machine_calls.specs.Serving.{Concludes, Keeps, left_of, spare_of}
 
@@ -18,7 +18,7 @@ module _ (s t : Store) (len : vec_len t.history ≡ vec_len s.history) (more : v
   uses-one due spare = omega (arith, len, more, due, spare)
 
   -- one after which fewer reports are to come uses none
-  pub uses-none : IsKept s → reports_to_come t.core.plan.rows + 1 ≤ reports_to_come s.core.plan.rows → s.core.spare ≤ t.core.spare → spare_of s ≤ left_of t
+  pub uses-none : IsStore s → reports_to_come t.core.plan.rows + 1 ≤ reports_to_come s.core.plan.rows → s.core.spare ≤ t.core.spare → spare_of s ≤ left_of t
   uses-none kept due spare = (let room = kept.room in omega (arith, len, more, due, spare, room))
 
 -- an operation of the core that uses no change, and after which no more reports are to come, only uses the entry
@@ -33,9 +33,9 @@ operation-spare s mid t core first before after len more due kept =
     omega (arith, rows, now, then, earlier, less, len, more, due, kept))
 
 -- an error of a call is one of its operation
-pub error-only : {A : Type 0} (tell : A → Reply) (done : Result A Refusal) (old : World) (result : Result Replies NoEntry) (next : World) (P Q : Type 0)
+pub error-only : {A : Type 0} (tell : A → Reply) (done : Result (Result A Refusal) NoEntry) (old : World) (result : Result Replies NoEntry) (next : World) (P Q : Type 0)
     → Concludes tell done old result next → (P → Q) → OnErr done P → OnErr result Q
-error-only tell (Ok a) old result next P Q ends so fact = subst (λ (r : Result Replies NoEntry). OnErr r Q) (sym ends.1) tt
+error-only tell (Ok answer) old result next P Q ends so fact = subst (λ (r : Result Replies NoEntry). OnErr r Q) (sym ends.1) tt
 error-only tell (Err why) old result next P Q ends so fact = elim result as (λ (r : Result Replies NoEntry). OnErr r Q) [ Ok x ↦ tt | Err e ↦ so fact ]
 
 -- what holds anyway holds after an error

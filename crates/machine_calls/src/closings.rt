@@ -10,7 +10,7 @@ ghost use Rattle.drmaa_model.specs.Size.{size, weight};
 ghost use Rattle.drmaa_model.specs.Steps.{answer};
 ghost use Rattle.drmaa_model.specs.Time.{advance};
 ghost use Rattle.drmaa_model.specs.World.{counted};
-ghost use Rattle.machine_readings.specs.Stores.{world_of, IsKept};
+ghost use Rattle.machine_readings.specs.Stores.{world_of, IsStore};
 ghost use Rattle.machine_calls.specs.Opening.{destroy_call};
 ghost use Rattle.machine_calls.specs.Serving.{AreBoth, Comes, Keeps, HasPlace, spare_of};
 
@@ -26,7 +26,7 @@ const MOST_CALLBACKS: u32 = 64;
 
 /// Makes one session number invalid.
 pub fn close(store: &mut Store, at: Moment, session: SessionId) -> Result<Replies, NoEntry>
-    requires kept { IsKept store.old }
+    requires store { IsStore store.old }
     ensures comes { Comes (world_of store.old) at (Call.CloseSession session) result (world_of store.new) }
     ensures keeps { Keeps store.old store.new }
     ensures place { OnOk result (HasPlace 1 store.new) }
@@ -62,7 +62,7 @@ pub fn destroy(
     kind: SessionKind,
     name: &Text,
 ) -> Result<Replies, NoEntry>
-    requires kept { IsKept store.old }
+    requires store { IsStore store.old }
     requires kind { IsTrue (has_names kind) }
     ensures comes { Comes (world_of store.old) at (destroy_call kind name.now) result (world_of store.new) }
     ensures keeps { Keeps store.old store.new }
@@ -80,7 +80,7 @@ fn destroy_now(store: &mut Store, at: Moment, kind: SessionKind, name: &Text) ->
     requires kind { IsTrue (has_names kind) }
     requires room { HasPlace 1 store.old }
     ensures answered { answer (world_of store.old) at (destroy_call kind name.now) ≡ gives result.told (world_of store.new) }
-    ensures twice { result.kept ≡ result.told }
+    ensures twice { result.recorded ≡ result.told }
     ensures size { size (world_of store.new) ≡ store.old.entries + 1 + weight store.old.core.plan }
     ensures keeps { Keeps store.old store.new }
     ensures place { HasPlace 1 store.new }
@@ -99,7 +99,7 @@ fn destroy_now(store: &mut Store, at: Moment, kind: SessionKind, name: &Text) ->
 
 /// Registers a callback.
 pub fn register(store: &mut Store, at: Moment) -> Result<Replies, NoEntry>
-    requires kept { IsKept store.old }
+    requires store { IsStore store.old }
     ensures comes { Comes (world_of store.old) at Call.Register result (world_of store.new) }
     ensures keeps { Keeps store.old store.new }
     ensures place { OnOk result (HasPlace 1 store.new) }

@@ -1,37 +1,39 @@
-//! What an operation of the core has answered becomes replies, and an entry more.
+//! What an operation of the core has answered becomes replies, and an entry more. A refusal is a reply.
 ghost use Rattle.std.specs.Prelude.{◌≡◌, ◌<◌};
 ghost use Rattle.drmaa_model.specs.Effects.{unit};
 ghost use Rattle.drmaa_model.specs.declared.replies.Reply.{Reply};
 ghost use Rattle.machine_readings.specs.Stores.{world_of};
 ghost use Rattle.machine_calls.specs.Runs.{told_of};
-ghost use Rattle.machine_calls.specs.Serving.{AreBoth, Concludes, Keeps};
+ghost use Rattle.machine_calls.specs.Serving.{AreBoth, Concludes, Keeps, reply_of};
 
-use crate::places::sort;
 use crate::replies::Replies;
 use drmaa_model::{NoEntry, Submitted};
 use drmaa_types::{Refusal, Reserved};
 use machine_readings::Store;
 
 /// Of an operation that tells nothing.
-pub fn conclude(store: &mut Store, done: Result<(), Refusal>) -> Result<Replies, NoEntry>
+pub fn conclude(
+    store: &mut Store,
+    done: Result<Result<(), Refusal>, NoEntry>,
+) -> Result<Replies, NoEntry>
     requires few { store.old.entries < 4_000_001 }
     ensures concludes { Concludes unit done (world_of store.old) result (world_of store.new) }
     ensures keeps { Keeps store.old store.new }
     ensures core { store.new.core ≡ store.old.core }
 {
     match done {
-        Ok(()) => {
+        Ok(answer) => {
             store.entries += 1;
-            Ok(Replies::unit())
+            Ok(unit_or_refused(answer))
         }
-        Err(why) => sort(store, why),
+        Err(fault) => Err(fault),
     }
 }
 
 /// Of a reservation that was asked for.
 pub fn conclude_reserved(
     store: &mut Store,
-    done: Result<Reserved, Refusal>,
+    done: Result<Result<Reserved, Refusal>, NoEntry>,
 ) -> Result<Replies, NoEntry>
     requires few { store.old.entries < 4_000_001 }
     ensures concludes { Concludes Reply.Reserved done (world_of store.old) result (world_of store.new) }
@@ -39,18 +41,18 @@ pub fn conclude_reserved(
     ensures core { store.new.core ≡ store.old.core }
 {
     match done {
-        Ok(reserved) => {
+        Ok(answer) => {
             store.entries += 1;
-            Ok(Replies::reserved(&reserved))
+            Ok(reserved_or_refused(answer))
         }
-        Err(why) => sort(store, why),
+        Err(fault) => Err(fault),
     }
 }
 
 /// Of a job or an array that was submitted.
 pub fn conclude_submitted(
     store: &mut Store,
-    done: Result<Submitted, Refusal>,
+    done: Result<Result<Submitted, Refusal>, NoEntry>,
 ) -> Result<Replies, NoEntry>
     requires few { store.old.entries < 4_000_001 }
     ensures concludes { Concludes told_of done (world_of store.old) result (world_of store.new) }
@@ -58,11 +60,38 @@ pub fn conclude_submitted(
     ensures core { store.new.core ≡ store.old.core }
 {
     match done {
-        Ok(submitted) => {
+        Ok(answer) => {
             store.entries += 1;
-            Ok(replies_of(&submitted))
+            Ok(submitted_or_refused(answer))
         }
-        Err(why) => sort(store, why),
+        Err(fault) => Err(fault),
+    }
+}
+
+fn unit_or_refused(answer: Result<(), Refusal>) -> Replies
+    ensures { AreBoth result (reply_of unit answer) }
+{
+    match answer {
+        Ok(()) => Replies::unit(),
+        Err(why) => Replies::refused(&why),
+    }
+}
+
+fn reserved_or_refused(answer: Result<Reserved, Refusal>) -> Replies
+    ensures { AreBoth result (reply_of Reply.Reserved answer) }
+{
+    match answer {
+        Ok(reserved) => Replies::reserved(&reserved),
+        Err(why) => Replies::refused(&why),
+    }
+}
+
+fn submitted_or_refused(answer: Result<Submitted, Refusal>) -> Replies
+    ensures { AreBoth result (reply_of told_of answer) }
+{
+    match answer {
+        Ok(submitted) => replies_of(&submitted),
+        Err(why) => Replies::refused(&why),
     }
 }
 

@@ -5,15 +5,14 @@ ghost use Rattle.drmaa_model.specs.Fit.{IsFit};
 ghost use Rattle.drmaa_model.specs.Launching.{launch};
 ghost use Rattle.drmaa_model.specs.Size.{weight};
 ghost use Rattle.drmaa_model.specs.Time.{advance_plan};
-ghost use Rattle.machine_readings.specs.Stores.{world_of, IsKept};
+ghost use Rattle.machine_readings.specs.Stores.{world_of, IsStore};
 ghost use Rattle.machine_calls.specs.Serving.{Comes, Keeps, HasPlace, spare_of};
 
-use crate::places::{hindrance, make_room, size_with};
+use crate::places::{hindrance, make_room, next_occasion, size_with};
 use crate::replies::Replies;
 use drmaa_model::{Launch, NoEntry, Reply};
 use drmaa_types::Moment;
 use machine_readings::Store;
-use plan_book::Occasion;
 
 /// What a launch adds to the journal's size beside its entry: the change of its job, and three more that are promised to it.
 const ADDED: u32 = 4;
@@ -28,7 +27,7 @@ const REPORTS: u32 = 2;
 /// The first of these that holds: `Nothing` where no job is ready; `Journal` where the journal would be too large. Want of memory
 /// is told only where neither holds.
 pub fn take_launch(store: &mut Store, at: Moment) -> Result<Replies, NoEntry>
-    requires kept { IsKept store.old }
+    requires store { IsStore store.old }
     ensures comes { Comes (world_of store.old) at Call.TakeLaunch result (world_of store.new) }
     ensures keeps { Keeps store.old store.new }
     ensures place { OnOk result (HasPlace 1 store.new) }
@@ -44,7 +43,7 @@ pub fn take_launch(store: &mut Store, at: Moment) -> Result<Replies, NoEntry>
     }
 }
 
-/// Hands out this launch, which is the next.
+/// Hands out this launch, which is the next. The journal has room for it, and there is memory for its entry.
 fn hand_out(store: &mut Store, at: Moment, next: Launch) -> Result<Replies, NoEntry>
     requires fit { IsFit store.old.core.plan }
     requires journal { store.old.config.journal ≤ 4_000_000 }
@@ -56,17 +55,16 @@ fn hand_out(store: &mut Store, at: Moment, next: Launch) -> Result<Replies, NoEn
     ensures place { OnOk result (HasPlace 1 store.new) }
     ensures unspent { OnErr result (spare_of store.old ≤ spare_of store.new) }
 {
-    let entry = store.entries + 1;
-    let limit = store.config.journal;
-    match store.core.take_launch(Occasion { at, entry, limit }) {
+    let occasion = next_occasion(store, at, true);
+    match store.core.take_launch(occasion) {
         Ok(Some(told)) => {
-            store.entries = entry;
+            store.entries += 1;
             Ok(Replies {
                 told: Reply::Launch(told),
-                kept: Reply::Launch(next),
+                recorded: Reply::Launch(next),
             })
         }
         Ok(None) => unreachable!(),
-        Err(_) => Err(NoEntry::OutOfMemory),
+        Err(fault) => Err(fault),
     }
 }

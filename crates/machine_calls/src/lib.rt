@@ -3,6 +3,7 @@
 
 mod closings;
 mod concludes;
+mod copies;
 mod launches;
 mod operations;
 mod places;

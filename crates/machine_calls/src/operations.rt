@@ -2,7 +2,7 @@
 ghost use Rattle.std.specs.Prelude.{◌≡◌, ◌≢◌, ◌+◌, ◌≤◌, true, OnOk, OnErr, Err};
 ghost use Rattle.drmaa_model.specs.declared.calls.Call.{Call};
 ghost use Rattle.scheduler_core.specs.Targets.{is_one_quiet};
-ghost use Rattle.machine_readings.specs.Stores.{world_of, IsKept};
+ghost use Rattle.machine_readings.specs.Stores.{world_of, IsStore};
 ghost use Rattle.machine_calls.specs.Serving.{Comes, Keeps, HasPlace, spare_of, left_of};
 
 use crate::concludes::conclude;
@@ -20,7 +20,7 @@ pub fn reap(
     session: SessionId,
     target: Target,
 ) -> Result<Replies, NoEntry>
-    requires kept { IsKept store.old }
+    requires store { IsStore store.old }
     ensures comes { Comes (world_of store.old) at (Call.Reap session target) result (world_of store.new) }
     ensures keeps { Keeps store.old store.new }
     ensures place { OnOk result (HasPlace 1 store.new) }
@@ -45,7 +45,7 @@ pub fn control(
     target: Target,
     what: Control,
 ) -> Result<Replies, NoEntry>
-    requires kept { IsKept store.old }
+    requires store { IsStore store.old }
     ensures comes { Comes (world_of store.old) at (Call.Control session target what) result (world_of store.new) }
     ensures keeps { Keeps store.old store.new }
     ensures place { OnOk result (HasPlace 1 store.new) }
@@ -70,7 +70,7 @@ pub fn end_reservation(
     session: SessionId,
     number: ReservationId,
 ) -> Result<Replies, NoEntry>
-    requires kept { IsKept store.old }
+    requires store { IsStore store.old }
     ensures comes { Comes (world_of store.old) at (Call.EndReservation session number) result (world_of store.new) }
     ensures keeps { Keeps store.old store.new }
     ensures place { OnOk result (HasPlace 1 store.new) }

@@ -1,19 +1,18 @@
 //! The journal's room and the memory for entries, and the occasion of an operation of the core.
-ghost use Rattle.std.specs.Prelude.{◌≡◌, ◌≢◌, ◌+◌, ◌<◌, ◌≤◌, OnOk, IsOk, IfErr};
+ghost use Rattle.std.specs.Prelude.{◌≡◌, ◌≢◌, ◌+◌, ◌<◌, ◌≤◌, true, OnOk, IsOk, IfErr};
 ghost use Rattle.drmaa_model.specs.Size.{weight};
-ghost use Rattle.machine_readings.specs.Stores.{world_of, IsKept};
-ghost use Rattle.machine_calls.specs.Serving.{Keeps, HasPlace, places, spare_of, Sorts};
+ghost use Rattle.machine_readings.specs.Stores.{world_of, IsStore};
+ghost use Rattle.machine_calls.specs.Serving.{IsNextOccasion, Keeps, HasPlace, places, spare_of};
 
-use crate::replies::Replies;
 use drmaa_model::NoEntry;
-use drmaa_types::{Limit, Moment, Refusal};
+use drmaa_types::Moment;
 use machine_readings::Store;
 use plan_book::Occasion;
 use std::alloc::AllocError;
 
 /// Takes the memory for an entry, and for so many more that reports will make.
 fn make_place(store: &mut Store, more: u32) -> Result<(), AllocError>
-    requires kept { IsKept store.old }
+    requires store { IsStore store.old }
     ensures world { world_of store.new ≡ world_of store.old }
     ensures core { store.new.core ≡ store.old.core }
     ensures keeps { Keeps store.old store.new }
@@ -25,31 +24,35 @@ fn make_place(store: &mut Store, more: u32) -> Result<(), AllocError>
     store.history.reserve(wanted)
 }
 
-/// The occasion of the next entry at this moment. Its limit is the journal's, once there is memory for an entry; 0 where there is
-/// none, so that an operation on this occasion tells its size and changes nothing.
+/// The occasion of the next entry at this moment, where it is known whether there is memory for the entry.
+pub fn next_occasion(store: &Store, at: Moment, has_memory: bool) -> Occasion
+    requires few { store.now.entries ≤ 4_000_000 }
+    requires journal { store.now.config.journal ≤ 4_000_000 }
+    ensures next { IsNextOccasion result (world_of store.now) at }
+    ensures memory { result.has_memory ≡ has_memory }
+{
+    Occasion {
+        at,
+        entry: store.entries + 1,
+        limit: store.config.journal,
+        has_memory,
+    }
+}
+
+/// The occasion of the next entry at this moment, after the memory for the entry was asked for.
 pub fn occasion_for(store: &mut Store, at: Moment) -> Occasion
-    requires kept { IsKept store.old }
+    requires store { IsStore store.old }
     ensures world { world_of store.new ≡ world_of store.old }
     ensures core { store.new.core ≡ store.old.core }
     ensures keeps { Keeps store.old store.new }
     ensures spare { spare_of store.old ≤ spare_of store.new }
-    ensures at { result.at ≡ at }
-    ensures entry { result.entry ≡ store.new.entries + 1 }
-    ensures placed { 0 < result.limit → result.limit ≡ store.old.config.journal }
-    ensures place { 0 < result.limit → HasPlace 1 store.new }
-    ensures succeeds { 1 ≤ places store.old → result.limit ≡ store.old.config.journal }
+    ensures next { IsNextOccasion result (world_of store.old) at }
+    ensures place { result.has_memory ≡ true → HasPlace 1 store.new }
+    ensures succeeds { 1 ≤ places store.old → result.has_memory ≡ true }
 {
     match make_place(store, 0) {
-        Ok(()) => Occasion {
-            at,
-            entry: store.entries + 1,
-            limit: store.config.journal,
-        },
-        Err(_) => Occasion {
-            at,
-            entry: store.entries + 1,
-            limit: 0,
-        },
+        Ok(()) => next_occasion(store, at, true),
+        Err(_) => next_occasion(store, at, false),
     }
 }
 
@@ -60,7 +63,7 @@ pub fn occasion_for(store: &mut Store, at: Moment) -> Occasion
 ///
 /// `Journal` with the size that the journal would have, where that is above the greatest; else want of memory.
 pub fn make_room(store: &mut Store, added: u32, reports: u32) -> Result<(), NoEntry>
-    requires kept { IsKept store.old }
+    requires store { IsStore store.old }
     ensures world { world_of store.new ≡ world_of store.old }
     ensures core { store.new.core ≡ store.old.core }
     ensures keeps { Keeps store.old store.new }
@@ -85,7 +88,7 @@ pub fn make_room(store: &mut Store, added: u32, reports: u32) -> Result<(), NoEn
 
 /// The size that the journal would have with an entry more that adds so much beside itself.
 pub fn size_with(store: &Store, added: u32) -> u64
-    requires { IsKept store.now }
+    requires { IsStore store.now }
     ensures { result ≡ store.now.entries + 1 + weight store.now.core.plan + added }
 {
     store.entries + 1 + store.core.size() + added as u64
@@ -101,22 +104,5 @@ pub fn hindrance(store: &Store, size: u64) -> NoEntry
         NoEntry::Journal { size }
     } else {
         NoEntry::OutOfMemory
-    }
-}
-
-/// Takes an operation's error: a refusal is a reply.
-pub fn sort(store: &mut Store, why: Refusal) -> Result<Replies, NoEntry>
-    requires few { store.old.entries < 4_000_001 }
-    ensures keeps { Keeps store.old store.new }
-    ensures core { store.new.core ≡ store.old.core }
-    ensures sorts { Sorts why (world_of store.old) result (world_of store.new) }
-{
-    match why {
-        Refusal::OutOfMemory => Err(NoEntry::OutOfMemory),
-        Refusal::OutOfResource(Limit::Journal { size }) => Err(hindrance(store, size)),
-        _ => {
-            store.entries += 1;
-            Ok(Replies::refused(&why))
-        }
     }
 }

@@ -4,23 +4,22 @@ ghost use Rattle.drmaa_model.specs.Growth.{is_of_run};
 ghost use Rattle.drmaa_model.specs.Refusals.{refusal};
 ghost use Rattle.drmaa_model.specs.Reporting.{is_idle, is_launching, may_begin, may_exit};
 ghost use Rattle.drmaa_model.specs.Time.{rows_at};
-ghost use Rattle.machine_readings.specs.Stores.{world_of, world_at, IsKept};
+ghost use Rattle.machine_readings.specs.Stores.{world_of, world_at, IsStore};
 ghost use Rattle.machine_calls.specs.Reports.{call_of, has_course, is_promised};
 ghost use Rattle.machine_calls.specs.Serving.{Comes, Keeps, HasPlace, spare_of, left_of};
 
 use crate::concludes::conclude;
-use crate::places::occasion_for;
+use crate::places::{next_occasion, occasion_for};
 use crate::replies::Replies;
 use drmaa_model::{NoEntry, Phase, Report};
 use drmaa_types::{JobId, Moment};
 use machine_readings::Store;
-use plan_book::Occasion;
 use scheduler_core::RowFacts;
 
 /// Takes a report of launcher or reaper. One of a start or of an end that may come of its job always makes its entry: the room
 /// in the journal, and the memory, were taken with the launch, and nothing that is spare is used.
 pub fn report(store: &mut Store, at: Moment, report: Report) -> Result<Replies, NoEntry>
-    requires kept { IsKept store.old }
+    requires store { IsStore store.old }
     ensures comes { Comes (world_of store.old) at (call_of report) result (world_of store.new) }
     ensures keeps { Keeps store.old store.new }
     ensures place { OnOk result (HasPlace 1 store.new) }
@@ -36,8 +35,9 @@ pub fn report(store: &mut Store, at: Moment, report: Report) -> Result<Replies, 
     }
 }
 
+/// Takes a report whose entry was promised: the memory for it is there.
 fn take_promised(store: &mut Store, at: Moment, report: Report) -> Result<Replies, NoEntry>
-    requires kept { IsKept store.old }
+    requires store { IsStore store.old }
     requires promised { is_promised report (rows_at at store.old.core.plan) ≡ true }
     ensures comes { Comes (world_of store.old) at (call_of report) result (world_of store.new) }
     ensures keeps { Keeps store.old store.new }
@@ -45,14 +45,13 @@ fn take_promised(store: &mut Store, at: Moment, report: Report) -> Result<Replie
     ensures taken { IsOk result }
     ensures spare { spare_of store.old ≤ left_of store.new }
 {
-    let entry = store.entries + 1;
-    let limit = store.config.journal;
-    let done = store.core.report(Occasion { at, entry, limit }, report);
+    let occasion = next_occasion(store, at, true);
+    let done = store.core.report(occasion, report);
     conclude(store, done)
 }
 
 fn take_other(store: &mut Store, at: Moment, report: Report) -> Result<Replies, NoEntry>
-    requires kept { IsKept store.old }
+    requires store { IsStore store.old }
     ensures comes { Comes (world_of store.old) at (call_of report) result (world_of store.new) }
     ensures keeps { Keeps store.old store.new }
     ensures place { OnOk result (HasPlace 1 store.new) }

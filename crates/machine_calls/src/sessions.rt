@@ -2,7 +2,7 @@
 ghost use Rattle.std.specs.Prelude.{◌<◌, ◌≤◌, IsTrue, OnOk};
 ghost use Rattle.session_table.specs.Sessions.{has_names};
 ghost use Rattle.drmaa_model.specs.declared.calls.Call.{Call};
-ghost use Rattle.machine_readings.specs.Stores.{world_of, IsKept};
+ghost use Rattle.machine_readings.specs.Stores.{world_of, IsStore};
 ghost use Rattle.machine_calls.specs.Opening.{Opens, create_call, open_call};
 ghost use Rattle.machine_calls.specs.Serving.{Comes, Keeps, HasPlace, spare_of};
 
@@ -20,7 +20,7 @@ pub fn create(
     kind: SessionKind,
     name: &Option<Text>,
 ) -> Result<Replies, NoEntry>
-    requires kept { IsKept store.old }
+    requires store { IsStore store.old }
     requires kind { IsTrue (has_names kind) }
     ensures comes { Comes (world_of store.old) at (create_call kind name.now) result (world_of store.new) }
     ensures keeps { Keeps store.old store.new }
@@ -40,7 +40,7 @@ fn create_named(
     kind: SessionKind,
     name: Option<Text>,
 ) -> Result<Replies, NoEntry>
-    requires kept { IsKept store.old }
+    requires store { IsStore store.old }
     requires kind { IsTrue (has_names kind) }
     ensures comes { Comes (world_of store.old) at (create_call kind name) result (world_of store.new) }
     ensures keeps { Keeps store.old store.new }
@@ -63,7 +63,7 @@ pub fn attach(
     kind: SessionKind,
     name: &Text,
 ) -> Result<Replies, NoEntry>
-    requires kept { IsKept store.old }
+    requires store { IsStore store.old }
     requires kind { IsTrue (has_names kind) }
     ensures comes { Comes (world_of store.old) at (open_call kind name.now) result (world_of store.new) }
     ensures keeps { Keeps store.old store.new }
@@ -81,7 +81,7 @@ pub fn attach(
 
 /// Opens a monitoring session.
 pub fn monitor(store: &mut Store, at: Moment) -> Result<Replies, NoEntry>
-    requires kept { IsKept store.old }
+    requires store { IsStore store.old }
     ensures comes { Comes (world_of store.old) at Call.OpenMonitoring result (world_of store.new) }
     ensures keeps { Keeps store.old store.new }
     ensures place { OnOk result (HasPlace 1 store.new) }

@@ -8,7 +8,7 @@ ghost use Rattle.drmaa_model.specs.Refusals.{refusal};
 ghost use Rattle.drmaa_model.specs.Steps.{answer};
 ghost use Rattle.drmaa_model.specs.Time.{advance};
 ghost use Rattle.drmaa_model.specs.World.{counted};
-ghost use Rattle.machine_readings.specs.Stores.{world_of, world_at, IsKept};
+ghost use Rattle.machine_readings.specs.Stores.{world_of, world_at, IsStore};
 ghost use Rattle.machine_readings.specs.Telling.{IsReply, is_reading};
 ghost use Rattle.machine_calls.specs.Serving.{Comes, IsLooked, Keeps, HasPlace, spare_of};
 
@@ -21,8 +21,8 @@ use std::alloc::AllocError;
 
 /// Answers what changes no more than time, where the journal has room for it.
 pub fn settle(store: &mut Store, at: Moment, replies: Replies) -> Result<Replies, NoEntry>
-    requires kept { IsKept store.old }
-    requires twice { replies.kept ≡ replies.told }
+    requires store { IsStore store.old }
+    requires twice { replies.recorded ≡ replies.told }
     ensures comes { (asked : Call) → answer (world_of store.old) at asked ≡ makes replies.told (world_at at store.old)
         → Comes (world_of store.old) at asked result (world_of store.new) }
     ensures keeps { Keeps store.old store.new }
@@ -54,7 +54,7 @@ pub fn go_on(store: &mut Store, at: Moment, replies: Replies) -> Replies
 
 /// Refuses a call.
 pub fn refuse(store: &mut Store, at: Moment, why: &Refusal) -> Result<Replies, NoEntry>
-    requires kept { IsKept store.old }
+    requires store { IsStore store.old }
     ensures comes { (asked : Call) → refusal (world_at at store.old) asked ≡ Some why.now
         → Comes (world_of store.old) at asked result (world_of store.new) }
     ensures keeps { Keeps store.old store.new }
@@ -67,7 +67,7 @@ pub fn refuse(store: &mut Store, at: Moment, why: &Refusal) -> Result<Replies, N
 
 /// Serves a call that only reads. What asks for a job's state takes no memory where `spare` is at least 1.
 pub fn read(store: &mut Store, at: Moment, call: &Call) -> Result<Replies, NoEntry>
-    requires kept { IsKept store.old }
+    requires store { IsStore store.old }
     requires reading { is_reading call.now ≡ true }
     ensures comes { Comes (world_of store.old) at call.now result (world_of store.new) }
     ensures keeps { Keeps store.old store.new }
@@ -84,10 +84,10 @@ pub fn read(store: &mut Store, at: Moment, call: &Call) -> Result<Replies, NoEnt
 
 /// The reply to a call that only reads, twice. What asks for a job's state takes no memory.
 fn replies_to(store: &Store, at: Moment, call: &Call) -> Result<Replies, AllocError>
-    requires kept { IsKept store.now }
+    requires store { IsStore store.now }
     requires reading { is_reading call.now ≡ true }
     ensures reply { IfOk result (λ replies. IsReply store.now at call.now replies.told) }
-    ensures twice { IfOk result (λ replies. replies.kept ≡ replies.told) }
+    ensures twice { IfOk result (λ replies. replies.recorded ≡ replies.told) }
     ensures memory { (session : SessionId) (job : JobId) → call.now ≡ Call.GetState session job → IsOk result }
 {
     match call {
@@ -96,27 +96,27 @@ fn replies_to(store: &Store, at: Moment, call: &Call) -> Result<Replies, AllocEr
     }
 }
 
-/// The state of a job, twice.
+/// The state of a job, twice, or why it is not told.
 fn state(store: &Store, at: Moment, session: SessionId, job: JobId) -> Replies
-    requires kept { IsKept store.now }
+    requires store { IsStore store.now }
     ensures reply { IsReply store.now at (Call.GetState session job) result.told }
-    ensures twice { result.kept ≡ result.told }
+    ensures twice { result.recorded ≡ result.told }
 {
-    Replies {
-        told: store.state(at, session, job),
-        kept: store.state(at, session, job),
+    match store.state(at, session, job) {
+        Ok(state) => Replies::job_state(state),
+        Err(why) => Replies::refused(&why),
     }
 }
 
+/// The reply to any call that only reads, and a copy of it.
 fn told_of(store: &Store, at: Moment, call: &Call) -> Result<Replies, AllocError>
-    requires kept { IsKept store.now }
+    requires store { IsStore store.now }
     requires reading { is_reading call.now ≡ true }
     ensures reply { IfOk result (λ replies. IsReply store.now at call.now replies.told) }
-    ensures twice { IfOk result (λ replies. replies.kept ≡ replies.told) }
+    ensures twice { IfOk result (λ replies. replies.recorded ≡ replies.told) }
 {
     let told = store.reply_to(at, call)?;
-    let kept = store.reply_to(at, call)?;
-    Ok(Replies { told, kept })
+    Replies::twice(store.alloc, told)
 }
 
 /// Serves a wait: it answers what is reached, or that its timeout is over.
@@ -129,7 +129,7 @@ pub fn wait(
     begun: Moment,
     timeout: Timeout,
 ) -> Result<Replies, NoEntry>
-    requires kept { IsKept store.old }
+    requires store { IsStore store.old }
     ensures comes { Comes (world_of store.old) at (Call.Wait session jobs.now kind begun timeout) result (world_of store.new) }
     ensures keeps { Keeps store.old store.new }
     ensures place { OnOk result (HasPlace 1 store.new) }

@@ -6,15 +6,14 @@ ghost use Rattle.drmaa_model.specs.Launching.{signal};
 ghost use Rattle.drmaa_model.specs.Size.{weight};
 ghost use Rattle.drmaa_model.specs.Time.{advance_plan};
 ghost use Rattle.drmaa_model.specs.World.{counted};
-ghost use Rattle.machine_readings.specs.Stores.{world_of, IsKept};
+ghost use Rattle.machine_readings.specs.Stores.{world_of, IsStore};
 ghost use Rattle.machine_calls.specs.Serving.{AreBoth, Comes, Keeps, HasPlace, spare_of};
 
-use crate::places::make_room;
+use crate::places::{make_room, next_occasion};
 use crate::replies::Replies;
 use drmaa_model::{NoEntry, Signal};
 use drmaa_types::Moment;
 use machine_readings::Store;
-use plan_book::Occasion;
 
 /// Hands out the signal that is next: the first in order of asking that was not handed out and whose job has a process.
 ///
@@ -23,7 +22,7 @@ use plan_book::Occasion;
 /// The first of these that holds: `Nothing` where there is no such signal; `Journal` where the journal would be too large. Want
 /// of memory is told only where neither holds.
 pub fn take_signal(store: &mut Store, at: Moment) -> Result<Replies, NoEntry>
-    requires kept { IsKept store.old }
+    requires store { IsStore store.old }
     ensures comes { Comes (world_of store.old) at Call.TakeSignal result (world_of store.new) }
     ensures keeps { Keeps store.old store.new }
     ensures place { OnOk result (HasPlace 1 store.new) }
@@ -39,7 +38,7 @@ pub fn take_signal(store: &mut Store, at: Moment) -> Result<Replies, NoEntry>
     }
 }
 
-/// Hands out this signal, which is the next.
+/// Hands out this signal, which is the next. The journal has room for its entry, and there is memory for it.
 fn hand_out(store: &mut Store, at: Moment, next: Signal) -> Replies
     requires journal { store.old.config.journal ≤ 4_000_000 }
     requires next { signal.told (advance_plan 0 at store.old.core.plan) ≡ Some next }
@@ -51,9 +50,8 @@ fn hand_out(store: &mut Store, at: Moment, next: Signal) -> Replies
     ensures place { HasPlace 1 store.new }
     ensures spare { spare_of store.old ≤ spare_of store.new }
 {
-    let entry = store.entries + 1;
-    let limit = store.config.journal;
-    let _ = store.core.take_signal(Occasion { at, entry, limit });
-    store.entries = entry;
+    let occasion = next_occasion(store, at, true);
+    let _ = store.core.take_signal(occasion);
+    store.entries += 1;
     Replies::signal(next)
 }

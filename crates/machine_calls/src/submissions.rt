@@ -4,19 +4,18 @@ ghost use Rattle.drmaa_types.specs.Refusals.{first_refusal};
 ghost use Rattle.drmaa_types.specs.declared.sessions.SessionKind.{SessionKind};
 ghost use Rattle.drmaa_model.specs.declared.calls.Call.{Call};
 ghost use Rattle.drmaa_model.specs.Homes.{home_number, session_test};
-ghost use Rattle.machine_readings.specs.Stores.{world_of, world_at, IsKept};
+ghost use Rattle.machine_readings.specs.Stores.{world_of, world_at, IsStore};
 ghost use Rattle.machine_calls.specs.Runs.{run_call};
 ghost use Rattle.machine_calls.specs.Serving.{Comes, Keeps, HasPlace, spare_of};
 
 use crate::concludes::{conclude_reserved, conclude_submitted};
-use crate::places::{hindrance, make_room, occasion_for, size_with};
+use crate::places::{hindrance, occasion_for, size_with};
 use crate::replies::Replies;
 use crate::settles::refuse;
 use drmaa_model::{Indices, NoEntry};
 use drmaa_types::{Moment, SessionId};
 use job_template::{JobTemplate, ReservationTemplate};
 use machine_readings::Store;
-use plan_book::Occasion;
 
 /// Submits a job, or with indices an array of jobs. Memory is asked for before it is known whether the journal has room.
 pub fn submit(
@@ -26,7 +25,7 @@ pub fn submit(
     template: &JobTemplate,
     indices: Option<Indices>,
 ) -> Result<Replies, NoEntry>
-    requires kept { IsKept store.old }
+    requires store { IsStore store.old }
     ensures comes { Comes (world_of store.old) at (run_call session template.now indices) result (world_of store.new) }
     ensures keeps { Keeps store.old store.new }
     ensures place { OnOk result (HasPlace 1 store.new) }
@@ -49,7 +48,7 @@ fn submit_now(
     template: JobTemplate,
     indices: Option<Indices>,
 ) -> Result<Replies, NoEntry>
-    requires kept { IsKept store.old }
+    requires store { IsStore store.old }
     requires own { first_refusal (session_test (SessionKind.Jobs ∷ []) session (world_at at store.old) ∷ []) ≡ None }
     ensures comes { Comes (world_of store.old) at (run_call session template indices) result (world_of store.new) }
     ensures keeps { Keeps store.old store.new }
@@ -62,15 +61,15 @@ fn submit_now(
     conclude_submitted(store, done)
 }
 
-/// Asks for a reservation. A reservation adds no more to the journal than its entry, so a journal that would be too large is
-/// told before memory is asked for.
+/// Asks for a reservation. A reservation adds no more to the journal than its entry, so that a journal would be too large is
+/// told where it is, and want of memory only where it is not.
 pub fn request_reservation(
     store: &mut Store,
     at: Moment,
     session: SessionId,
     template: &ReservationTemplate,
 ) -> Result<Replies, NoEntry>
-    requires kept { IsKept store.old }
+    requires store { IsStore store.old }
     ensures comes { Comes (world_of store.old) at (Call.RequestReservation session template.now) result (world_of store.new) }
     ensures keeps { Keeps store.old store.new }
     ensures place { OnOk result (HasPlace 1 store.new) }
@@ -92,7 +91,7 @@ fn request_now(
     session: SessionId,
     template: ReservationTemplate,
 ) -> Result<Replies, NoEntry>
-    requires kept { IsKept store.old }
+    requires store { IsStore store.old }
     requires own { first_refusal (session_test (SessionKind.Reservations ∷ []) session (world_at at store.old) ∷ []) ≡ None }
     ensures comes { Comes (world_of store.old) at (Call.RequestReservation session template) result (world_of store.new) }
     ensures keeps { Keeps store.old store.new }
@@ -100,16 +99,9 @@ fn request_now(
     ensures spare { spare_of store.old ≤ spare_of store.new }
 {
     let home = home_number(store, session);
-    match make_room(store, 0, 0) {
-        Ok(()) => {
-            let entry = store.entries + 1;
-            let limit = store.config.journal;
-            let occasion = Occasion { at, entry, limit };
-            let done = store.core.request_reservation(occasion, home, template);
-            conclude_reserved(store, done)
-        }
-        Err(why) => Err(why),
-    }
+    let occasion = occasion_for(store, at);
+    let done = store.core.request_reservation(occasion, home, template);
+    conclude_reserved(store, done)
 }
 
 /// The named session that a number stands for; 0 where it stands for none, which is no session's number.

@@ -22,7 +22,7 @@ abbrev pub world_at : ℕ → Store → World
 world_at at s = advance (world_of s) at
 
 -- What every store keeps: its world is consistent, and there is memory for the entries of the reports that are to come.
-pub record IsKept (s : Store) : Type 0 where
+pub record IsStore (s : Store) : Type 0 where
   pub consistent : IsConsistent (world_of s)
   pub within : size (world_of s) ≤ s.config.journal
   pub journal : s.config.journal ≤ 4_000_000

@@ -5,7 +5,7 @@ ghost use Rattle.drmaa_types.specs.declared.sessions.SessionKind.{SessionKind};
 ghost use Rattle.drmaa_model.specs.Targets.{argument_of};
 ghost use Rattle.drmaa_model.specs.Homes.{session_test, own_test, seen_test, reap_test, reapers, reservation_test};
 ghost use Rattle.drmaa_model.specs.Refusals.{is_pausing};
-ghost use Rattle.machine_readings.specs.Stores.{IsKept, world_at};
+ghost use Rattle.machine_readings.specs.Stores.{IsStore, world_at};
 
 use crate::store::Store;
 use drmaa_model::Target;
@@ -16,7 +16,6 @@ impl Store {
     pub fn jobs_refusal(&self, at: Moment, session: SessionId) -> Option<Refusal>
         ensures { result ≡ first_refusal (session_test (SessionKind.Jobs ∷ []) session (world_at at self.now) ∷ []) }
     {
-        let _ = at;
         if !self.is_for_jobs(session) {
             return Some(Refusal::InvalidSession);
         }
@@ -27,7 +26,6 @@ impl Store {
     pub fn reservations_refusal(&self, at: Moment, session: SessionId) -> Option<Refusal>
         ensures { result ≡ first_refusal (session_test (SessionKind.Reservations ∷ []) session (world_at at self.now) ∷ []) }
     {
-        let _ = at;
         if !self.is_for_reservations(session) {
             return Some(Refusal::InvalidSession);
         }
@@ -38,7 +36,6 @@ impl Store {
     pub fn monitoring_refusal(&self, at: Moment, session: SessionId) -> Option<Refusal>
         ensures { result ≡ first_refusal (session_test (SessionKind.Monitoring ∷ []) session (world_at at self.now) ∷ []) }
     {
-        let _ = at;
         if !self.is_for_monitoring(session) {
             return Some(Refusal::InvalidSession);
         }
@@ -49,7 +46,6 @@ impl Store {
     pub fn number_refusal(&self, at: Moment, session: SessionId) -> Option<Refusal>
         ensures { result ≡ first_refusal (session_test (SessionKind.Jobs ∷ SessionKind.Reservations ∷ SessionKind.Monitoring ∷ []) session (world_at at self.now) ∷ []) }
     {
-        let _ = at;
         if !self.is_valid(session) {
             return Some(Refusal::InvalidSession);
         }
@@ -58,7 +54,7 @@ impl Store {
 
     /// The refusal of a call that asks for a job, of a job session or for monitoring.
     pub fn seen_refusal(&self, at: Moment, session: SessionId, job: JobId) -> Option<Refusal>
-        requires { IsKept self.now }
+        requires { IsStore self.now }
         ensures { result ≡ first_refusal (session_test (SessionKind.Jobs ∷ SessionKind.Monitoring ∷ []) session (world_at at self.now) ∷
             seen_test session job (world_at at self.now) ∷ []) }
     {
@@ -72,7 +68,7 @@ impl Store {
     }
 
     fn misses_seen(&self, at: Moment, session: SessionId, job: JobId) -> bool
-        requires { IsKept self.now }
+        requires { IsStore self.now }
         ensures { result ≡ (seen_test session job (world_at at self.now)).0 }
     {
         if self.is_for_monitoring(session) {
@@ -84,7 +80,7 @@ impl Store {
 
     /// The refusal of a call that is for a job or an array of a job session.
     pub fn own_refusal(&self, at: Moment, session: SessionId, target: &Target) -> Option<Refusal>
-        requires { IsKept self.now }
+        requires { IsStore self.now }
         ensures { result ≡ first_refusal (session_test (SessionKind.Jobs ∷ []) session (world_at at self.now) ∷
             own_test session target.now (world_at at self.now) ∷ []) }
     {
@@ -98,7 +94,7 @@ impl Store {
     }
 
     fn misses_own(&self, at: Moment, session: SessionId, target: &Target) -> bool
-        requires { IsKept self.now }
+        requires { IsStore self.now }
         ensures { result ≡ (own_test session target.now (world_at at self.now)).0 }
     {
         match target {
@@ -115,7 +111,7 @@ impl Store {
         target: &Target,
         what: Control,
     ) -> Option<Refusal>
-        requires { IsKept self.now }
+        requires { IsStore self.now }
         ensures { result ≡ first_refusal (session_test (SessionKind.Jobs ∷ []) session (world_at at self.now) ∷
             own_test session target.now (world_at at self.now) ∷
             (is_pausing what && not self.now.config.suspend, Refusal.UnsupportedOperation) ∷ []) }
@@ -134,7 +130,7 @@ impl Store {
 
     /// The refusal of a reap, before the states of the jobs are looked at.
     pub fn reap_refusal(&self, at: Moment, session: SessionId, target: &Target) -> Option<Refusal>
-        requires { IsKept self.now }
+        requires { IsStore self.now }
         ensures { result ≡ first_refusal (session_test (reapers target.now) session (world_at at self.now) ∷
             reap_test session target.now (world_at at self.now) ∷ []) }
     {
@@ -145,7 +141,7 @@ impl Store {
     }
 
     fn reaped_job_refusal(&self, at: Moment, session: SessionId, job: JobId) -> Option<Refusal>
-        requires { IsKept self.now }
+        requires { IsStore self.now }
         ensures { result ≡ first_refusal (session_test (reapers (Target.Job job)) session (world_at at self.now) ∷
             reap_test session (Target.Job job) (world_at at self.now) ∷ []) }
     {
@@ -159,7 +155,7 @@ impl Store {
     }
 
     fn misses_reaped(&self, at: Moment, session: SessionId, job: JobId) -> bool
-        requires { IsKept self.now }
+        requires { IsStore self.now }
         ensures { result ≡ (reap_test session (Target.Job job) (world_at at self.now)).0 }
     {
         if self.is_for_monitoring(session) {
@@ -175,7 +171,7 @@ impl Store {
         session: SessionId,
         array: ArrayId,
     ) -> Option<Refusal>
-        requires { IsKept self.now }
+        requires { IsStore self.now }
         ensures { result ≡ first_refusal (session_test (SessionKind.Jobs ∷ []) session (world_at at self.now) ∷
             own_test session (Target.Array array) (world_at at self.now) ∷ []) }
     {
@@ -195,7 +191,7 @@ impl Store {
         session: SessionId,
         number: ReservationId,
     ) -> Option<Refusal>
-        requires { IsKept self.now }
+        requires { IsStore self.now }
         ensures { result ≡ first_refusal (session_test (SessionKind.Reservations ∷ []) session (world_at at self.now) ∷
             reservation_test session number (world_at at self.now) ∷ []) }
     {

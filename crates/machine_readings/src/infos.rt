@@ -1,5 +1,5 @@
 //! What is told of a job once time has come to a moment, and which jobs a filter lets through.
-ghost use Rattle.std.specs.Prelude.{◌≡◌, false, max, Some, IfOk};
+ghost use Rattle.std.specs.Prelude.{◌≡◌, ℕ, false, max, Some, IfOk};
 ghost use Rattle.std.specs.Option.{option_map, option_map_or};
 ghost use Rattle.drmaa_types.specs.Filters.{matches};
 ghost use Rattle.drmaa_model.specs.declared.rows.Row.{Row};
@@ -9,7 +9,7 @@ ghost use Rattle.drmaa_model.specs.Time.{rows_at};
 ghost use Rattle.scheduler_core.specs.Facts.{row_facts};
 ghost use Rattle.machine_readings.specs.Clocks.{clock_of};
 ghost use Rattle.machine_readings.specs.Told.{told_of, name_in};
-ghost use Rattle.machine_readings.specs.Stores.{IsKept, world_at};
+ghost use Rattle.machine_readings.specs.Stores.{IsStore, world_at};
 
 use crate::store::Store;
 use drmaa_types::{JobFilter, JobId, JobInfo, MachineInfo, Moment, Text};
@@ -20,7 +20,7 @@ use std::alloc::AllocError;
 impl Store {
     /// What is told of a job, if it is kept.
     pub fn info_of(&self, at: Moment, job: JobId) -> Result<Option<JobInfo>, AllocError>
-        requires { IsKept self.now }
+        requires { IsStore self.now }
         ensures { IfOk result (λ o. o ≡ option_map (info (world_at at self.now)) (row_of job (rows_at at self.now.core.plan))) }
     {
         match self.core.row(at, job) {
@@ -30,7 +30,7 @@ impl Store {
     }
 
     fn info(&self, at: Moment, facts: &RowFacts) -> Result<JobInfo, AllocError>
-        requires { IsKept self.now }
+        requires { IsStore self.now }
         ensures { IfOk result (λ i. (row : Row) → row_of facts.now.job (rows_at at self.now.core.plan) ≡ Some row → facts.now ≡ row_facts row
             → i ≡ info (world_at at self.now) row) }
     {
@@ -103,19 +103,18 @@ impl Store {
         filter: &JobFilter,
         job: JobId,
     ) -> Result<bool, AllocError>
-        requires { IsKept self.now }
+        requires { IsStore self.now }
         ensures { IfOk result (λ b. b ≡ option_map_or (λ (row : Row). matches filter.now (info (world_at at self.now) row)) (row_of job (rows_at at self.now.core.plan)) false) }
     {
         let info = self.info_of(at, job)?;
         Ok(lets_through(filter, &info))
     }
 
-    /// What is told of the machine.
-    pub fn machine_info(&self, at: Moment) -> Result<MachineInfo, AllocError>
-        requires { IsKept self.now }
-        ensures { IfOk result (λ i. i ≡ machine_info (world_at at self.now)) }
+    /// What is told of the machine, at whichever moment.
+    pub fn machine_info(&self) -> Result<MachineInfo, AllocError>
+        requires { IsStore self.now }
+        ensures { IfOk result (λ i. (at : ℕ) → i ≡ machine_info (world_at at self.now)) }
     {
-        let _ = at;
         let name = self.config.name.clone()?;
         let used = self.core.held();
         Ok(MachineInfo {

@@ -9,7 +9,7 @@ ghost use Rattle.drmaa_model.specs.Load.{is_member};
 ghost use Rattle.drmaa_model.specs.Rows.{row_of};
 ghost use Rattle.drmaa_model.specs.Time.{rows_at, advance_plan};
 ghost use Rattle.scheduler_core.specs.Facts.{row_facts};
-ghost use Rattle.machine_readings.specs.Stores.{IsKept, world_at};
+ghost use Rattle.machine_readings.specs.Stores.{IsStore, world_at};
 
 use crate::rows::is_member;
 use crate::sessions::is_same_home;
@@ -29,7 +29,7 @@ impl Store {
         home: Option<u64>,
         wanted: &JobFilter,
     ) -> Result<IdList, AllocError>
-        requires { IsKept self.now }
+        requires { IsStore self.now }
         ensures { IfOk result (λ jobs. jobs ≡ numbers (filter (λ (row : Row). is_same_home home row.home && matches wanted.now (info (world_at at self.now) row)) (rows_at at self.now.core.plan))) }
     {
         let range = self.core.numbers_of_home(home);
@@ -51,7 +51,7 @@ impl Store {
         wanted: &JobFilter,
         facts: &RowFacts,
     ) -> Result<bool, AllocError>
-        requires { IsKept self.now }
+        requires { IsStore self.now }
         ensures { IfOk result (λ b. (row : Row) → row_of facts.now.job (rows_at at self.now.core.plan) ≡ Some row → facts.now ≡ row_facts row
             → b ≡ (is_same_home home row.home && matches wanted.now (info (world_at at self.now) row))) }
     {
@@ -68,7 +68,7 @@ impl Store {
         home: Option<u64>,
         array: ArrayId,
     ) -> Result<IdList, AllocError>
-        requires { IsKept self.now }
+        requires { IsStore self.now }
         ensures { IfOk result (λ jobs. jobs ≡ numbers (filter (λ (row : Row). is_same_home home row.home && is_member array row) (rows_at at self.now.core.plan))) }
     {
         let range = self.core.numbers_of_array(array);
@@ -85,7 +85,7 @@ impl Store {
 
     /// What is told of all jobs that a filter lets through.
     pub fn infos_of(&self, at: Moment, wanted: &JobFilter) -> Result<InfoList, AllocError>
-        requires { IsKept self.now }
+        requires { IsStore self.now }
         ensures { IfOk result (λ infos. infos ≡ map (info (world_at at self.now)) (filter (λ (row : Row). matches wanted.now (info (world_at at self.now) row)) (rows_at at self.now.core.plan))) }
     {
         let mut infos = Vec::new(self.alloc);
@@ -103,7 +103,7 @@ impl Store {
 
     /// The accepted reservations of a home.
     pub fn reservations_of(&self, at: Moment, home: Option<u64>) -> Result<IdList, AllocError>
-        requires { IsKept self.now }
+        requires { IsStore self.now }
         ensures { IfOk result (λ list. list ≡ reservation_numbers (filter (λ (a : Accepted). is_same_home home a.home) (advance_plan 0 at self.now.core.plan).reservations)) }
     {
         let mut list = Vec::new(self.alloc);
@@ -119,7 +119,7 @@ impl Store {
 
     /// What is told of all accepted reservations.
     pub fn reservation_infos(&self, at: Moment) -> Result<ReservationList, AllocError>
-        requires { IsKept self.now }
+        requires { IsStore self.now }
         ensures { IfOk result (λ list. list ≡ map (reservation_info (world_at at self.now)) (advance_plan 0 at self.now.core.plan).reservations) }
     {
         let mut list = Vec::new(self.alloc);

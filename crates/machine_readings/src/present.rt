@@ -5,7 +5,7 @@ ghost use Rattle.drmaa_model.specs.Infos.{info};
 ghost use Rattle.drmaa_model.specs.Rows.{row_of};
 ghost use Rattle.scheduler_core.specs.Facts.{row_facts};
 ghost use Rattle.machine_readings.specs.Nexts.{AfterRow};
-ghost use Rattle.machine_readings.specs.Stores.{IsKept, world_of};
+ghost use Rattle.machine_readings.specs.Stores.{IsStore, world_of};
 
 use crate::store::Store;
 use drmaa_types::{InfoList, JobId, JobInfo};
@@ -15,7 +15,7 @@ use std::alloc::AllocError;
 impl Store {
     /// The first kept job whose number is this one or above it, as it is now.
     pub fn present_facts(&self, from: u64) -> Option<RowFacts>
-        requires { IsKept self.now }
+        requires { IsStore self.now }
         ensures { AfterRow self.now.core.plan.rows from result }
     {
         match self.core.next_row(JobId(from)) {
@@ -25,7 +25,7 @@ impl Store {
     }
 
     fn present_info(&self, facts: &RowFacts) -> Result<JobInfo, AllocError>
-        requires { IsKept self.now }
+        requires { IsStore self.now }
         ensures { IfOk result (λ i. (row : Row) → row_of facts.now.job self.now.core.plan.rows ≡ Some row → facts.now ≡ row_facts row
             → i ≡ info (world_of self.now) row) }
     {
@@ -34,7 +34,7 @@ impl Store {
 
     /// What is told of each kept job, as it is now.
     pub fn present_infos(&self) -> Result<InfoList, AllocError>
-        requires { IsKept self.now }
+        requires { IsStore self.now }
         ensures { IfOk result (λ infos. infos ≡ map (info (world_of self.now)) self.now.core.plan.rows) }
     {
         let mut infos = Vec::new(self.alloc);

@@ -1,17 +1,17 @@
 //! The replies to the calls that only read.
-ghost use Rattle.std.specs.Prelude.{◌≡◌, true, IfOk};
+ghost use Rattle.std.specs.Prelude.{◌≡◌, true, IfOk, IfErr};
 ghost use Rattle.std.specs.Option.{option_map_or};
 ghost use Rattle.session_table.specs.Sessions.{names_of};
 ghost use Rattle.drmaa_model.specs.Effects.{reservation_reply};
 ghost use Rattle.drmaa_model.specs.Rows.{state_of};
 ghost use Rattle.drmaa_model.specs.Time.{rows_at};
-ghost use Rattle.machine_readings.specs.Stores.{IsKept, world_at};
+ghost use Rattle.machine_readings.specs.Stores.{IsStore, world_at};
 ghost use Rattle.machine_readings.specs.Telling.{IsReply, is_other, is_reading};
 
 use crate::store::Store;
 use drmaa_model::{Call, Reply, Target};
 use drmaa_types::{
-    ArrayId, Boxed, JobFilter, JobId, JobInfo, JobState, Moment, ReservationId, SessionId,
+    ArrayId, Boxed, JobFilter, JobId, JobInfo, JobState, Moment, Refusal, ReservationId, SessionId,
     SessionKind,
 };
 use std::alloc::{AllocError, Global};
@@ -19,7 +19,7 @@ use std::alloc::{AllocError, Global};
 impl Store {
     /// The reply to a call that only reads.
     pub fn reply_to(&self, at: Moment, call: &Call) -> Result<Reply, AllocError>
-        requires { IsKept self.now }
+        requires { IsStore self.now }
         ensures { is_reading call.now ≡ true → IfOk result (IsReply self.now at call.now) }
     {
         match call {
@@ -27,14 +27,14 @@ impl Store {
             Call::ReservationSessionNames => self.names(SessionKind::Reservations),
             Call::GetJobs { session, filter } => self.jobs(at, *session, filter.get()),
             Call::GetJobArray { session, array } => self.job_array(at, *session, *array),
-            Call::GetState { session, job } => Ok(self.state(at, *session, *job)),
+            Call::GetState { session, job } => Ok(self.told_state(at, *session, *job)),
             Call::GetInfo { session, job } => self.job_info(at, *session, *job),
             _ => self.other_reply_to(at, call),
         }
     }
 
     fn other_reply_to(&self, at: Moment, call: &Call) -> Result<Reply, AllocError>
-        requires { IsKept self.now }
+        requires { IsStore self.now }
         ensures { is_other call.now ≡ true → IfOk result (IsReply self.now at call.now) }
     {
         match call {
@@ -61,7 +61,7 @@ impl Store {
     }
 
     fn jobs(&self, at: Moment, session: SessionId, wanted: &JobFilter) -> Result<Reply, AllocError>
-        requires { IsKept self.now }
+        requires { IsStore self.now }
         ensures { IfOk result (IsReply self.now at (Call.GetJobs session wanted.now)) }
     {
         match self.jobs_refusal(at, session) {
@@ -71,7 +71,7 @@ impl Store {
     }
 
     fn job_array(&self, at: Moment, session: SessionId, array: ArrayId) -> Result<Reply, AllocError>
-        requires { IsKept self.now }
+        requires { IsStore self.now }
         ensures { IfOk result (IsReply self.now at (Call.GetJobArray session array)) }
     {
         match self.own_refusal(at, session, &Target::Array(array)) {
@@ -80,14 +80,25 @@ impl Store {
         }
     }
 
-    /// The state of a job; it takes no memory.
-    pub fn state(&self, at: Moment, session: SessionId, job: JobId) -> Reply
-        requires { IsKept self.now }
+    fn told_state(&self, at: Moment, session: SessionId, job: JobId) -> Reply
+        requires { IsStore self.now }
         ensures { IsReply self.now at (Call.GetState session job) result }
     {
+        match self.state(at, session, job) {
+            Ok(state) => Reply::State(state),
+            Err(why) => Reply::Refused(why),
+        }
+    }
+
+    /// The state of a job, or why it is not told. It takes no memory.
+    pub fn state(&self, at: Moment, session: SessionId, job: JobId) -> Result<JobState, Refusal>
+        requires { IsStore self.now }
+        ensures ok { IfOk result (λ state. IsReply self.now at (Call.GetState session job) (Reply.State state)) }
+        ensures err { IfErr result (λ why. IsReply self.now at (Call.GetState session job) (Reply.Refused why)) }
+    {
         match self.seen_refusal(at, session, job) {
-            Some(why) => Reply::Refused(why),
-            None => Reply::State(self.state_at(at, job)),
+            Some(why) => Err(why),
+            None => Ok(self.state_at(at, job)),
         }
     }
 
@@ -101,7 +112,7 @@ impl Store {
     }
 
     fn job_info(&self, at: Moment, session: SessionId, job: JobId) -> Result<Reply, AllocError>
-        requires { IsKept self.now }
+        requires { IsStore self.now }
         ensures { IfOk result (IsReply self.now at (Call.GetInfo session job)) }
     {
         match self.seen_refusal(at, session, job) {
@@ -116,7 +127,7 @@ impl Store {
         session: SessionId,
         number: ReservationId,
     ) -> Result<Reply, AllocError>
-        requires { IsKept self.now }
+        requires { IsStore self.now }
         ensures { IfOk result (IsReply self.now at (Call.GetReservation session number)) }
     {
         match self.reservation_refusal(at, session, number) {
@@ -138,7 +149,7 @@ impl Store {
     }
 
     fn reservations(&self, at: Moment, session: SessionId) -> Result<Reply, AllocError>
-        requires { IsKept self.now }
+        requires { IsStore self.now }
         ensures { IfOk result (IsReply self.now at (Call.GetReservations session)) }
     {
         match self.reservations_refusal(at, session) {
@@ -153,7 +164,7 @@ impl Store {
         session: SessionId,
         wanted: &JobFilter,
     ) -> Result<Reply, AllocError>
-        requires { IsKept self.now }
+        requires { IsStore self.now }
         ensures { IfOk result (IsReply self.now at (Call.AllJobs session wanted.now)) }
     {
         match self.monitoring_refusal(at, session) {
@@ -163,7 +174,7 @@ impl Store {
     }
 
     fn all_reservations(&self, at: Moment, session: SessionId) -> Result<Reply, AllocError>
-        requires { IsKept self.now }
+        requires { IsStore self.now }
         ensures { IfOk result (IsReply self.now at (Call.AllReservations session)) }
     {
         match self.monitoring_refusal(at, session) {
@@ -182,12 +193,12 @@ impl Store {
     }
 
     fn all_machines(&self, at: Moment, session: SessionId) -> Result<Reply, AllocError>
-        requires { IsKept self.now }
+        requires { IsStore self.now }
         ensures { IfOk result (IsReply self.now at (Call.AllMachines session)) }
     {
         match self.monitoring_refusal(at, session) {
             Some(why) => Ok(Reply::Refused(why)),
-            None => Ok(Reply::Machine(self.machine_info(at)?)),
+            None => Ok(Reply::Machine(self.machine_info()?)),
         }
     }
 }

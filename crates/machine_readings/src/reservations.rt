@@ -6,7 +6,7 @@ ghost use Rattle.drmaa_model.specs.declared.reservations.Accepted.{Accepted};
 ghost use Rattle.drmaa_model.specs.Homes.{is_same_home};
 ghost use Rattle.drmaa_model.specs.Time.{advance_plan};
 ghost use Rattle.machine_readings.specs.Nexts.{AfterAccepted};
-ghost use Rattle.machine_readings.specs.Stores.{IsKept};
+ghost use Rattle.machine_readings.specs.Stores.{IsStore};
 
 use crate::sessions::is_same_home;
 use crate::store::Store;
@@ -16,7 +16,7 @@ use drmaa_types::{Moment, ReservationId};
 impl Store {
     /// The first accepted reservation whose number is this one or above it.
     pub fn next_accepted(&self, at: Moment, from: u64) -> Option<&Accepted>
-        requires { IsKept self.now }
+        requires { IsStore self.now }
         ensures { AfterAccepted (advance_plan 0 at self.now.core.plan).reservations from (option_copied result) }
     {
         match self.core.next_reservation(at, ReservationId(from)) {
@@ -27,7 +27,7 @@ impl Store {
 
     /// Whether a reservation is accepted, and belongs to this home.
     pub fn has_reservation_at(&self, at: Moment, home: Option<u64>, number: ReservationId) -> bool
-        requires { IsKept self.now }
+        requires { IsStore self.now }
         ensures { result ≡ list_any (λ (a : Accepted). a.reservation.0 == number.0) (filter (λ (a : Accepted). is_same_home home a.home) (advance_plan 0 at self.now.core.plan).reservations) }
     {
         match self.core.reservation(at, number) {

@@ -9,7 +9,7 @@ ghost use Rattle.drmaa_model.specs.Rows.{row_of, is_of};
 ghost use Rattle.drmaa_model.specs.Time.{rows_at};
 ghost use Rattle.scheduler_core.specs.Facts.{row_facts};
 ghost use Rattle.machine_readings.specs.Nexts.{AfterRow, AfterRowThrough};
-ghost use Rattle.machine_readings.specs.Stores.{IsKept};
+ghost use Rattle.machine_readings.specs.Stores.{IsStore};
 
 use crate::sessions::is_same_home;
 use crate::store::Store;
@@ -19,7 +19,7 @@ use scheduler_core::RowFacts;
 impl Store {
     /// The first kept job whose number is this one or above it, as it is then.
     pub fn next_facts(&self, at: Moment, from: u64) -> Option<RowFacts>
-        requires { IsKept self.now }
+        requires { IsStore self.now }
         ensures { AfterRow (rows_at at self.now.core.plan) from result }
     {
         match self.core.next_row(JobId(from)) {
@@ -30,7 +30,7 @@ impl Store {
 
     /// The same, unless its number passes the last one.
     pub(crate) fn next_facts_through(&self, at: Moment, from: u64, last: u64) -> Option<RowFacts>
-        requires { IsKept self.now }
+        requires { IsStore self.now }
         ensures { AfterRowThrough (rows_at at self.now.core.plan) from last result }
     {
         match self.next_facts(at, from) {
@@ -44,7 +44,7 @@ impl Store {
 
     /// Whether a job is kept.
     pub fn has_job(&self, at: Moment, job: JobId) -> bool
-        requires { IsKept self.now }
+        requires { IsStore self.now }
         ensures { result ≡ list_any (is_of job) (rows_at at self.now.core.plan) }
     {
         self.core.row(at, job).is_some()
@@ -52,7 +52,7 @@ impl Store {
 
     /// Whether a job is kept, and belongs to this home.
     pub fn has_job_at(&self, at: Moment, home: Option<u64>, job: JobId) -> bool
-        requires { IsKept self.now }
+        requires { IsStore self.now }
         ensures { result ≡ list_any (is_of job) (filter (λ (row : Row). is_same_home home row.home) (rows_at at self.now.core.plan)) }
     {
         match self.core.row(at, job) {
@@ -63,7 +63,7 @@ impl Store {
 
     /// Whether a job is kept that is without a session.
     pub fn has_left_job(&self, at: Moment, job: JobId) -> bool
-        requires { IsKept self.now }
+        requires { IsStore self.now }
         ensures { result ≡ list_any (λ (row : Row). is_of job row && is_none row.home) (rows_at at self.now.core.plan) }
     {
         match self.core.row(at, job) {
@@ -74,7 +74,7 @@ impl Store {
 
     /// Whether a member of an array is kept that belongs to this home.
     pub fn has_member_at(&self, at: Moment, home: Option<u64>, array: ArrayId) -> bool
-        requires { IsKept self.now }
+        requires { IsStore self.now }
         ensures { result ≡ list_any (is_member array) (filter (λ (row : Row). is_same_home home row.home) (rows_at at self.now.core.plan)) }
     {
         self.core.has_member(home, array)

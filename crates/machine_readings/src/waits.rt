@@ -7,7 +7,7 @@ ghost use Rattle.drmaa_model.specs.Homes.{session_test, own_rows};
 ghost use Rattle.drmaa_model.specs.Refusals.{lists_other};
 ghost use Rattle.drmaa_model.specs.Time.{rows_at};
 ghost use Rattle.drmaa_model.specs.Waiting.{most_waited, first_reached, is_reached_by, is_timed_out, has_reached};
-ghost use Rattle.machine_readings.specs.Stores.{IsKept, world_at};
+ghost use Rattle.machine_readings.specs.Stores.{IsStore, world_at};
 
 use crate::store::Store;
 use drmaa_types::{
@@ -21,7 +21,7 @@ const MOST_WAITED: usize = 10_000;
 impl Store {
     /// The refusal of a wait for these jobs.
     pub fn wait_refusal(&self, at: Moment, session: SessionId, jobs: &IdList) -> Option<Refusal>
-        requires { IsKept self.now }
+        requires { IsStore self.now }
         ensures { result ≡ first_refusal (
             session_test (SessionKind.Jobs ∷ []) session (world_at at self.now) ∷
             (length jobs.now == 0, Refusal.InvalidArgument Which.Jobs) ∷
@@ -45,7 +45,7 @@ impl Store {
 
     /// Whether a listed job is not kept in the named session.
     fn lists_other(&self, at: Moment, session: SessionId, jobs: &IdList) -> bool
-        requires { IsKept self.now }
+        requires { IsStore self.now }
         ensures { result ≡ lists_other jobs.now (own_rows session (world_at at self.now)) }
     {
         let home = self.home_in(session);
@@ -56,7 +56,7 @@ impl Store {
 
     /// The first listed job that has reached the state.
     pub fn first_reached(&self, at: Moment, kind: WaitKind, jobs: &IdList) -> Option<u64>
-        requires { IsKept self.now }
+        requires { IsStore self.now }
         ensures { result ≡ first_reached kind (rows_at at self.now.core.plan) jobs.now }
     {
         for job in jobs.as_slice() {
@@ -68,7 +68,7 @@ impl Store {
     }
 
     fn is_reached_by(&self, at: Moment, kind: WaitKind, job: u64) -> bool
-        requires { IsKept self.now }
+        requires { IsStore self.now }
         ensures { result ≡ is_reached_by kind (rows_at at self.now.core.plan) job }
     {
         match self.core.row(at, JobId(job)) {

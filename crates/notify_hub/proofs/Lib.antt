@@ -5,3 +5,4 @@ mod Looking
 mod Noting
 mod Pumping
 mod Registrations
+mod Unplaced

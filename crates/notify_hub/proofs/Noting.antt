@@ -20,8 +20,9 @@ use Rattle.call_history.specs.ClientLaws.{more-both, makes-both}
 use Rattle.call_history.specs.Clients.{Seat, seen_of, number_of, SeesMore, Makes}
 use Rattle.call_history.specs.Clocks.{Dial}
 use Rattle.notify_hub.specs.Ears.{Listening, place_at, silent}
-use Rattle.notify_hub.specs.Hubs.{noted, IsNoteOf, MayBe, FollowsNote, IsKept, with_place, IsRegistered, IsUnregistered}
+use Rattle.notify_hub.specs.Hubs.{noted, IsNoteOf, MayBe, FollowsNote, IsHub, with_place, IsRegistered, IsUnregistered}
 use Rattle.notify_hub.specs.Hubs.IsUnregistered.{by_entry, by_fault}
+use Rattle.notify_hub.specs.PlacedLaws.{none-there}
 use Rattle.notify_hub.specs.Places.{changes_of, place_of, registrations_of, Follows, AreCountable}
 use Rattle.notify_hub.specs.Registered.{IsNew, IsCounted}
 use Rattle.notify_hub.proofs.Growing.{changes-begin, begins-changes, begins-length}
@@ -73,15 +74,15 @@ module _ {B : Type 0} where
       subst (λ (o : Option Seat). Follows config (noted o) ears) (sym is) (subst (λ (k : Config). Follows k (seen_of seat) ears) same f)
 
   -- ears that a hub keeps follow what was seen since
-  pub kept-follows : (shared : Named Config) (ears : Listening B) (note : Option Seat) (handed : ℕ) (seen : List Entry) → IsKept ears note handed → IsNoteOf shared note → BeginsWith seen (noted note)
+  pub hub-follows : (shared : Named Config) (ears : Listening B) (note : Option Seat) (handed : ℕ) (seen : List Entry) → IsHub ears note handed → IsNoteOf shared note → BeginsWith seen (noted note)
       → IsLegal shared.fixed seen → Follows shared.fixed seen ears
-  kept-follows shared ears note handed seen k own b legal = follows-on shared.fixed (noted note) seen ears (k.follows shared.fixed (may-be shared note own)) legal b
+  hub-follows shared ears note handed seen k own b legal = follows-on shared.fixed (noted note) seen ears (k.follows shared.fixed (may-be shared note own)) legal b
 
   -- so the changes handed over are no more than those of what was seen since
-  pub kept-ahead : (shared : Named Config) (ears : Listening B) (note : Option Seat) (handed : ℕ) (seen : List Entry) → IsKept ears note handed → IsNoteOf shared note → BeginsWith seen (noted note)
+  pub hub-ahead : (shared : Named Config) (ears : Listening B) (note : Option Seat) (handed : ℕ) (seen : List Entry) → IsHub ears note handed → IsNoteOf shared note → BeginsWith seen (noted note)
       → IsLegal shared.fixed seen → handed ≤ length (changes_of shared.fixed seen)
-  kept-ahead shared ears note handed seen k own b legal =
-      let f = kept-follows shared ears note handed seen k own b legal in
+  hub-ahead shared ears note handed seen k own b legal =
+      let f = hub-follows shared ears note handed seen k own b legal in
       let most = begins-length ears.handed (changes_of shared.fixed seen) f.handed in
       let count = k.counted in
       omega (arith, most, count)
@@ -102,9 +103,9 @@ module _ {B : Type 0} where
   }
 
   -- it had none
-  pub kept-unplaced : (config : Config) (old mid : List Entry) (ears : Listening B) (n : ℕ) → Follows config old ears → BeginsWith mid old → IsLegal config mid → registrations_of config mid < n
+  pub hub-unplaced : (config : Config) (old mid : List Entry) (ears : Listening B) (n : ℕ) → Follows config old ears → BeginsWith mid old → IsLegal config mid → registrations_of config mid < n
       → place_at ears.places (n - 1) ≡ None
-  kept-unplaced config old mid ears n f b legal unknown =
+  hub-unplaced config old mid ears n f b legal unknown =
       (elim (place_at ears.places (n - 1)) as (λ o. place_at ears.places (n - 1) ≡ o → o ≡ None) [
         | None ↦ λ e. refl
         | Some q ↦ λ e.
@@ -186,22 +187,17 @@ module _ {B : Type 0} where
   placed-handed ears after n None some none = ap (λ (e : Listening B). e.handed) none
   placed-handed ears after n (Some p) some none = ap (λ (e : Listening B). e.handed) some
 
-none-at : (k i : ℕ) → place_at (replicate k None) i ≡ None
-none-at zero i = refl
-none-at (suc k) zero = refl
-none-at (suc k) (suc i) = none-at k i
-
 lacks : (o : Option ℕ) (p : ℕ) → o ≡ None → o ≡ Some p → ⊥
 lacks o p a b = cc
 
 -- ears that nothing was done with follow every note
-pub kept-silent : {B : Type 0} (callbacks : List B) (ears : Listening B) → ears ≡ silent callbacks → IsKept ears None 0
-kept-silent {B} callbacks ears is = subst (λ (e : Listening B). IsKept e None 0) (sym is) (record {
+pub hub-silent : {B : Type 0} (callbacks : List B) (ears : Listening B) → ears ≡ silent callbacks → IsHub ears None 0
+hub-silent {B} callbacks ears is = subst (λ (e : Listening B). IsHub e None 0) (sym is) (record {
   counted = refl;
   follows = λ config may. record {
     legal = tt;
     as_many = length-replicate {A = Option ℕ} 64 None;
-    places = λ i place at. absurd (lacks (place_at (replicate 64 None) i) place (none-at 64 i) at);
+    places = λ i place at. absurd (lacks (place_at (replicate 64 None) i) place (none-there 64 i) at);
     handed = record { rest = []; whole = refl };
   };
 })

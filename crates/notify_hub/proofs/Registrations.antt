@@ -1,5 +1,5 @@
 -- What a Register that a client makes comes to.
-use Rattle.std.proofs.Common.{◌≡◌, ℕ, ◌<◌, ◌≤◌, inl, inr, List, [], ◌∷◌, ◌++◌, length, refl, sym, ap, ◌∙◌, subst, arith, Some, Result, Ok, Err, IfOk, IfErr, IfSome}
+use Rattle.std.proofs.Common.{◌≡◌, ℕ, ◌<◌, ◌≤◌, inl, inr, List, [], ◌∷◌, ◌++◌, length, refl, sym, ap, ◌∙◌, subst, arith, Some, Result, Ok, Err, IfOk, IfErr}
 use Rattle.std.proofs.lemmas.Result.{IfOk-weaker}
 use Rattle.drmaa_types.specs.declared.refusals.Refusal.{Refusal}
 use Rattle.drmaa_model.specs.AnswerLaws.{answer-cases, reply-kind}
@@ -11,6 +11,7 @@ use Rattle.drmaa_model.specs.declared.faults.NoEntry.TheVariants as fault
 use Rattle.drmaa_model.specs.declared.replies.Reply.{Reply}
 use Rattle.drmaa_model.specs.declared.replies.Reply.TheVariants as reply
 use Rattle.drmaa_model.specs.Effects.{StepAnswer, gives, nothing, not_yet}
+use Rattle.drmaa_model.specs.Faults.{refusal_for}
 use Rattle.drmaa_model.specs.History.{IsLegal, replay}
 use Rattle.drmaa_model.specs.HistoryLaws.{legal-last, legal-prefix, legal_from-back, replay_from-append, replay-push}
 use Rattle.drmaa_model.specs.StepLaws.{legal-consistent}
@@ -22,7 +23,6 @@ use Rattle.call_history.specs.Calls.{entry_by, IsServed, IsUnserved}
 use Rattle.call_history.specs.ClientLaws.{begins-made, begins-more}
 use Rattle.call_history.specs.Clients.{Seat, seen_of, mine_of, number_of}
 use Rattle.call_history.specs.Clocks.{Dial}
-use Rattle.call_history.specs.Refused.{refusal_of}
 use Rattle.call_history.specs.Timed.{StaysTimed}
 use Rattle.call_history.specs.TimedLaws.{timed-served, timed-unserved}
 use Rattle.notify_hub.specs.Hubs.{IsUnregistered}
@@ -129,7 +129,7 @@ none-of config before after old new r why legal s refusal =
       | inr same ↦ absurd (refusal.unregistered same)
     ]
 
-fault-of : (config : Config) (before after : Dial) (old new : Seat) (f : NoEntry) (why : Refusal) → IsUnserved config before old call.Register f after new → IfSome (refusal_of f) (λ known. why ≡ known)
+fault-of : (config : Config) (before after : Dial) (old new : Seat) (f : NoEntry) (why : Refusal) → IsUnserved config before old call.Register f after new → why ≡ refusal_for f
     → IsUnregistered config before old why after new
 fault-of config before after old new fault.OutOfMemory why u told = by_fault fault.OutOfMemory (ap Some (sym told)) u
 fault-of config before after old new fault.NotYet why u told = absurd (never-waits (replay config (seen_of new)) u.at u.reason.cause)

@@ -101,7 +101,7 @@ module _ {B : Type 0} {counted : B → ℕ} {told : B → Option (List Notificat
         note = note.own;
         known = λ b. begins-same (seen_of after) (noted new.note) note.seen_is;
         begun = ap (λ (l : Listening B). l.begun) ears;
-        kept = λ f. follows;
+        follows = λ f. follows;
         heard = heard;
         placed = λ all.
             subst (λ (l : List Entry). HavePlaces l new.ears.places) (sym mine)
@@ -116,7 +116,7 @@ module _ {B : Type 0} {counted : B → ℕ} {told : B → Option (List Notificat
     note = note.own;
     known = λ b. begins-same (seen_of after) (noted new.note) note.seen_is;
     begun = ap (λ (l : Listening B). l.begun) ears;
-    kept = λ f. follows;
+    follows = λ f. follows;
     heard = λ h. subst (HaveHeard counted told) (sym ears) h;
     placed = λ all. subst (λ (l : Listening B). HavePlaces (mine_of after) l.places) (sym ears) (same-places all u);
   } where
@@ -133,7 +133,7 @@ module _ {B : Type 0} {counted : B → ℕ} {told : B → Option (List Notificat
     note = note;
     known = λ b. begins-then (noted hub.note) (seen_of client) (seen_of after) b begins;
     begun = refl;
-    kept = λ f. f;
+    follows = λ f. f;
     heard = λ h. h;
     placed = λ all. subst (λ (l : List Entry). HavePlaces l hub.ears.places) (sym mine) (have-more (mine_of client) added hub.ears.places all none);
   }
@@ -144,7 +144,7 @@ module _ {B : Type 0} {counted : B → ℕ} {told : B → Option (List Notificat
     note = y.note;
     known = λ k. y.known (x.known k);
     begun = y.begun ∙ x.begun;
-    kept = λ f. y.kept (x.kept f);
+    follows = λ f. y.follows (x.follows f);
     heard = λ h. y.heard (x.heard h);
     placed = λ all. y.placed (x.placed all);
   }

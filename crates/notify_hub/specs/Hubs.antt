@@ -46,7 +46,7 @@ abbrev pub FollowsNote : {B : Type 0} → Listening B → Option Seat → Type 0
 FollowsNote ears note = (config : Config) → MayBe config note → Follows config (noted note) ears
 
 -- beside that a hub knows how many changes it handed over
-pub record IsKept {B : Type 0} (ears : Listening B) (note : Option Seat) (handed : ℕ) : Type 0 where
+pub record IsHub {B : Type 0} (ears : Listening B) (note : Option Seat) (handed : ℕ) : Type 0 where
   pub counted : handed ≡ length ears.handed
   pub follows : FollowsNote ears note
 
@@ -69,7 +69,7 @@ pub record RegistersOn {B : Type 0} (counted : B → ℕ) (told : B → Option (
   pub note : IsNoteOf shared new.note
   pub known : BeginsWith (seen_of client) (noted old.note) → BeginsWith (seen_of after) (noted new.note)
   pub begun : new.ears.begun ≡ old.ears.begun
-  pub kept : FollowsNote old.ears old.note → FollowsNote new.ears new.note
+  pub follows : FollowsNote old.ears old.note → FollowsNote new.ears new.note
   pub heard : HaveHeard counted told old.ears → HaveHeard counted told new.ears
   pub placed : HavePlaces (mine_of client) old.ears.places → HavePlaces (mine_of after) new.ears.places
 

@@ -4,7 +4,7 @@ pub mod Hearing
 pub mod HearingLaws
 pub mod HubLaws
 pub mod Hubs
-pub mod Kept
+pub mod Gathered
 pub mod PlaceLaws
 pub mod PlacedLaws
 pub mod Places

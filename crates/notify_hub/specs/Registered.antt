@@ -1,13 +1,13 @@
 -- What a Register is told, inside a hub's call.
-use Rattle.std.specs.Prelude.{◌≡◌, ◌≢◌, ℕ, ◌<◌, ◌≤◌, List, length, Option, Some, None, IfSome, Result, Ok, Err}
+use Rattle.std.specs.Prelude.{◌≡◌, ◌≢◌, ℕ, ◌<◌, ◌≤◌, List, length, Option, Some, None, Result, Ok, Err}
 use Rattle.drmaa_types.specs.declared.refusals.Refusal.{Refusal}
 use Rattle.drmaa_model.specs.declared.configs.Config.{Config}
 use Rattle.drmaa_model.specs.declared.entries.Entry.{Entry}
 use Rattle.drmaa_model.specs.declared.faults.NoEntry.{NoEntry}
 use Rattle.drmaa_model.specs.declared.replies.Reply.{Reply}
 use Rattle.drmaa_model.specs.declared.replies.Reply.TheVariants as reply
+use Rattle.drmaa_model.specs.Faults.{refusal_for}
 use Rattle.drmaa_model.specs.ReplyKinds.{kind_of_reply, a_callback, a_refusal}
-use Rattle.call_history.specs.Refused.{refusal_of}
 use Rattle.notify_hub.specs.Places.{changes_of, place_of, registrations_of, AreCountable}
 
 -- a reply that is no callback's number is told as its refusal
@@ -18,7 +18,7 @@ pub record IsRefusal (told : Reply) (why : Refusal) : Type 0 where
 -- what is told where no callback was registered: the refusal of the entry, or the one that stands for a fault
 abbrev pub TellsNone : Result (ℕ × Reply) NoEntry → Refusal → Type 0
 TellsNone (Ok made) why = IsRefusal made.1 why
-TellsNone (Err f) why = IfSome (refusal_of f) (λ known. why ≡ known)
+TellsNone (Err f) why = why ≡ refusal_for f
 
 -- The last entry of the longer history registers the number n, which the shorter one does not; its place is at the end.
 pub record IsNew (config : Config) (before : List Entry) (n : ℕ) (after : List Entry) : Type 0 where

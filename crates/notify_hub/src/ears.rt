@@ -25,6 +25,8 @@ pub struct Ears<B> {
     begun: Snapshot<Callbacks<B>>,
     callbacks: Vec<B>,
     places: Vec<Option<u64>>,
+    /// Whether any number has a place.
+    is_any_placed: bool,
     handed: Handed,
 }
 
@@ -35,13 +37,15 @@ impl<B: Drop> Drop for Ears<B> {
             begun: _,
             callbacks: _,
             places: _,
+            is_any_placed: _,
             handed: _,
         } = self;
     }
 }
 
 impl<B> Model for Ears<B> {
-    ghost use Rattle.std.specs.Prelude.{◌≡◌, vec_len};
+    ghost use Rattle.std.specs.Prelude.{◌≡◌, is_some, vec_len};
+    ghost use Rattle.std.specs.List.{list_any};
     ghost use Rattle.notify_hub.specs.Ears.{Listening};
 
     ghost Value = { Listening B };
@@ -53,7 +57,7 @@ impl<B> Model for Ears<B> {
       handed = e.handed.changes;
     } };
 
-    ghost invariant = { λ e. vec_len e.places ≡ 64 };
+    ghost invariant = { λ e. (vec_len e.places ≡ 64) × (e.is_any_placed ≡ list_any is_some e.places.items) };
 }
 
 impl<B: Callback> Ears<B> {
@@ -72,6 +76,7 @@ impl<B: Callback> Ears<B> {
             begun,
             callbacks: callbacks.into_vec(),
             places,
+            is_any_placed: false,
             handed: Handed::nothing(),
         })
     }
@@ -86,13 +91,14 @@ impl<B: Callback> Ears<B> {
         ensures heard { HaveHeard B.counted B.told self.old → HaveHeard B.counted B.told self.new }
     {
         self.places[n as usize - 1] = Some(place);
+        self.is_any_placed = true;
     }
 
     /// Whether any number has a place. It takes no memory.
     pub fn listens(&self) -> bool
         ensures { result ≡ list_any is_some self.now.places }
     {
-        self.places.iter().any(|place| place.is_some())
+        self.is_any_placed
     }
 
     /// Hands over at most 64 changes, of which the first has the place `from`, the number of changes
@@ -106,7 +112,13 @@ impl<B: Callback> Ears<B> {
         ensures heard { HaveHeard B.counted B.told self.old → HaveHeard B.counted B.told self.new }
         ensures answer { result ≡ calls_for self.old from changes.now }
     {
-        let calls = tell_all(&mut self.callbacks, &self.places, from, changes);
+        let calls = tell_all(
+            &mut self.callbacks,
+            &self.places,
+            self.is_any_placed,
+            from,
+            changes,
+        );
         self.handed.follow(changes);
         calls
     }
@@ -123,6 +135,7 @@ impl<B: Callback> Ears<B> {
             begun: _,
             callbacks,
             places: _,
+            is_any_placed: _,
             handed: _,
         } = self;
         Callbacks::from_vec(callbacks)

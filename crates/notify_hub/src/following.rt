@@ -17,7 +17,7 @@ ghost use Rattle.notify_hub.specs.Places.{changes_of, is_up_to};
 ghost use Rattle.notify_hub.specs.Registered.{TellsNone, IsNew, IsCounted};
 
 use call_history::{Answer, Call, Client, NoEntry, Note, Question, Reply, SharedMachine};
-use drmaa_types::{Change, ChangeBatch, Clock, Limit, Refusal};
+use drmaa_types::{Change, ChangeBatch, Clock, Refusal};
 use std::sync::Wait;
 
 /// The most changes that one look finds.
@@ -122,10 +122,8 @@ fn told(made: Result<(u64, Reply), NoEntry>) -> Result<(u64, u32), Refusal>
     match &made {
         Ok((entry, Reply::Callback(n))) => Ok((*entry, *n)),
         Ok((_, Reply::Refused(why))) => Err(*why),
-        Err(NoEntry::Journal { size }) => Err(Refusal::OutOfResource(Limit::Journal {
-            size: *size,
-        })),
-        _ => Err(Refusal::OutOfMemory),
+        Ok(_) => Err(Refusal::OutOfMemory),
+        Err(fault) => Err(Refusal::from(*fault)),
     }
 }
 

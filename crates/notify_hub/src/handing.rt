@@ -1,5 +1,6 @@
 //! How changes are handed to callbacks: each change is one call of each callback that it is due to.
-ghost use Rattle.std.specs.Prelude.{◌≡◌, ◌≤◌, length, sum_by, take};
+ghost use Rattle.std.specs.Prelude.{◌≡◌, ◌≤◌, is_some, length, sum_by, take};
+ghost use Rattle.std.specs.List.{list_any};
 ghost use Rattle.notify_hub.specs.Hearing.{HasHeard};
 ghost use Rattle.notify_hub.specs.Ears.{EachHeard, notifications, due};
 
@@ -7,18 +8,23 @@ use crate::Callback;
 use drmaa_types::{Change, Notification};
 
 /// Tells each placed callback the changes that stand at its place or later, in order. The first change
-/// has the place `from`. Answers the number of calls.
+/// has the place `from`. Where no number has a place it looks at no callback. Answers the number of calls.
 pub(crate) fn tell_all<B: Callback>(
     callbacks: &mut [B],
     places: &[Option<u64>],
+    is_any_placed: bool,
     from: u64,
     changes: &[Change],
 ) -> u64
+    requires placed { is_any_placed ≡ list_any is_some places.now }
     requires places { length places.now ≤ 64 }
     requires few { length changes.now ≤ 64 }
     ensures heard { EachHeard B.counted B.told (due from changes.now) places.now callbacks.old callbacks.new }
     ensures answer { result ≡ sum_by (λ place. length (due from changes.now place)) (take (length callbacks.old) places.now) }
 {
+    if !is_any_placed {
+        return 0;
+    }
     let numbered = callbacks.len().min(places.len());
     let mut calls = 0;
     for i in 0..numbered {

@@ -9,7 +9,7 @@ ghost use Rattle.call_history.specs.Clients.{seen_of, mine_of, number_of, KnowsI
 ghost use Rattle.call_history.specs.Clocks.{dial};
 ghost use Rattle.call_history.specs.Timed.{StaysTimed};
 ghost use Rattle.notify_hub.specs.Ears.{HaveHeard, EachHeard, silent, from_place, place_at};
-ghost use Rattle.notify_hub.specs.Hubs.{Following, noted, IsNoteOf, IsNoteAt, MayBe, FollowsNote, IsKept, with_place, calls_made, LooksOn, IsRegistered, IsUnregistered};
+ghost use Rattle.notify_hub.specs.Hubs.{Following, noted, IsNoteOf, IsNoteAt, MayBe, FollowsNote, IsHub, with_place, calls_made, LooksOn, IsRegistered, IsUnregistered};
 ghost use Rattle.notify_hub.specs.Places.{changes_of, place_of, AreCountable, HaveHeardAll};
 ghost use Rattle.notify_hub.specs.Registered.{IsCounted};
 
@@ -45,13 +45,13 @@ impl<B: Drop> Drop for Hub<B> {
 }
 
 impl<B> Model for Hub<B> {
-    ghost use Rattle.notify_hub.specs.Hubs.{Following, IsKept};
+    ghost use Rattle.notify_hub.specs.Hubs.{Following, IsHub};
 
     ghost Value = { Following B };
 
     ghost view = { λ h. record { ears = h.ears; note = h.note } };
 
-    ghost invariant = { λ h. IsKept h.ears h.note h.handed };
+    ghost invariant = { λ h. IsHub h.ears h.note h.handed };
 }
 
 impl<B: Callback> Hub<B> {
@@ -100,7 +100,7 @@ impl<B: Callback> Hub<B> {
             (dial (C.given clock.new) (C.least clock.new)) client.new) }
         ensures place { IfOk result (λ n. AreCountable shared.now.fixed (seen_of client.new) → self.new.ears ≡ with_place self.old.ears n (place_of shared.now.fixed (seen_of client.new) n)) }
         ensures unplaced { OnErr result (self.new.ears ≡ self.old.ears) }
-        ensures kept { FollowsNote self.new.ears self.new.note }
+        ensures follows { FollowsNote self.new.ears self.new.note }
         ensures heard { HaveHeard B.counted B.told self.old.ears → HaveHeard B.counted B.told self.new.ears }
         ensures own { KnowsItsOwn client.new }
         ensures legal { IsLegal shared.now.fixed (seen_of client.new) }
@@ -142,7 +142,7 @@ impl<B: Callback> Hub<B> {
         ensures more { SeesMore client.old client.new }
         ensures ears { self.new.ears ≡ record self.old.ears { callbacks = self.new.ears.callbacks; handed = self.new.ears.handed } }
         ensures all { AreCountable shared.now.fixed (seen_of client.new) → self.new.ears.handed ≡ changes_of shared.now.fixed (seen_of client.new) }
-        ensures kept { FollowsNote self.new.ears self.new.note }
+        ensures follows { FollowsNote self.new.ears self.new.note }
         ensures heard { HaveHeard B.counted B.told self.old.ears → HaveHeard B.counted B.told self.new.ears }
         ensures answer { result ≡ min (calls_made self.new.ears - calls_made self.old.ears) (2 ^ 64 - 1) }
         ensures own { KnowsItsOwn client.new }

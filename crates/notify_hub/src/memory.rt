@@ -3,7 +3,7 @@ ghost use Rattle.std.specs.Prelude.{◌≡◌, ◌∷◌, [], Some, IfOk, IfErr}
 ghost use Rattle.drmaa_types.specs.Readings.{counted_on};
 ghost use Rattle.drmaa_types.specs.declared.refusals.Refusal.TheVariants.{OutOfMemory};
 ghost use Rattle.notify_hub.specs.Hearing.{Hears, heard_item};
-ghost use Rattle.notify_hub.specs.Kept.{told_list, with_call};
+ghost use Rattle.notify_hub.specs.Gathered.{told_list, with_call};
 
 use crate::Callback;
 use drmaa_types::{Notification, Refusal};
@@ -29,9 +29,9 @@ impl Drop for MemoryCallback {
 
 impl Model for MemoryCallback {
     ghost use Rattle.std.specs.Prelude.{◌≡◌, ◌≤◌, min, vec_len, vec_capacity};
-    ghost use Rattle.notify_hub.specs.Kept.{Kept, capacity};
+    ghost use Rattle.notify_hub.specs.Gathered.{Gathered, capacity};
 
-    ghost Value = { Kept };
+    ghost Value = { Gathered };
 
     ghost view = { λ m. record { calls = m.calls; items = m.items.items } };
 

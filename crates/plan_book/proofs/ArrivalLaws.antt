@@ -14,7 +14,7 @@ use Rattle.drmaa_model.specs.declared.reservations.Accepted.{Accepted}
 use Rattle.drmaa_model.specs.Effects.{left_by, is_forgotten, forget_home}
 use Rattle.drmaa_model.specs.Homes.{is_same_home}
 use Rattle.drmaa_model.specs.Fit.{IsSound, IsFit}
-use Rattle.drmaa_model.specs.Order.{held}
+use Rattle.drmaa_model.specs.NextLaunch.{held}
 use Rattle.drmaa_model.specs.Plan.{Plan}
 use Rattle.drmaa_model.specs.FitLaws.{not-using}
 use Rattle.drmaa_model.specs.RowLaws.{all-implied}
@@ -24,7 +24,7 @@ use Rattle.drmaa_model.specs.Targets.{is_meant}
 use Rattle.drmaa_model.specs.TimeLaws.{waits-not_started}
 use Rattle.reservation_calendar.specs.declared.bookings.Booking.{Booking}
 use Rattle.reservation_calendar.specs.Schedules.{Schedule}
-use Rattle.plan_book.specs.Book.{owes, may_ask, owed, askable, joined}
+use Rattle.plan_book.specs.Book.{owes, owes_kill, owed, owed_kills, joined}
 use Rattle.plan_book.specs.Owed.{reports_due, reports_to_come}
 use Rattle.plan_book.specs.Ties.{counted_of, counted_for, booking_of, IsTied}
 use Rattle.plan_book.specs.Waiting.{AreWaiting}
@@ -47,8 +47,8 @@ module _ (rows : List Row) (wait : AreWaiting rows) where
   pub waiting-owed : owed rows ≡ length rows
   waiting-owed = each (λ r. owes r.course) (λ r. 1) (λ r waits. ap (λ b. cond {A = ℕ} b 1 (cond (is_started r.course.state) 2 0)) waits) ∙ sum-one rows
 
-  pub waiting-askable : askable rows ≡ 0
-  waiting-askable = each (λ r. may_ask r.course) (λ r. 0) (λ r waits. ap (λ b. cond {A = ℕ} (b && is_unasked r.course.kill) 1 0) (waits-not_started r.course.state waits)) ∙ sum-zero rows
+  pub waiting-owed_kills : owed_kills rows ≡ 0
+  waiting-owed_kills = each (λ r. owes_kill r.course) (λ r. 0) (λ r waits. ap (λ b. cond {A = ℕ} (b && is_unasked r.course.kill) 1 0) (waits-not_started r.course.state waits)) ∙ sum-zero rows
 
   pub waiting-counted : (f : Booking → ℕ) → sum_by (counted_of f) rows ≡ 0
   waiting-counted f = each (counted_of f) (λ r. 0) (λ r waits. ap (λ b. cond b (f (booking_of r)) 0) (not-using r (waits-not_started r.course.state waits))) ∙ sum-zero rows
@@ -86,8 +86,8 @@ module _ (meant : Row → Bool) (rows : List Row) (sound : AllByRecursion (λ (r
       (let over = done-over r.course.state done in
       ap (λ b. cond {A = ℕ} b 1 (cond (is_started r.course.state) 2 0)) over.0 ∙ ap (λ b. cond {A = ℕ} b 2 0) over.1))
 
-  pub left-askable : askable (filter (λ (r : Row). not (meant r && is_done r)) rows) ≡ askable rows
-  left-askable = left (λ r. may_ask r.course) (λ r s done. ap (λ b. cond {A = ℕ} (b && is_unasked r.course.kill) 1 0) (done-over r.course.state done).1)
+  pub left-owed_kills : owed_kills (filter (λ (r : Row). not (meant r && is_done r)) rows) ≡ owed_kills rows
+  left-owed_kills = left (λ r. owes_kill r.course) (λ r s done. ap (λ b. cond {A = ℕ} (b && is_unasked r.course.kill) 1 0) (done-over r.course.state done).1)
 
   pub left-held : held (filter (λ (r : Row). not (meant r && is_done r)) rows) ≡ held rows
   left-held = left (λ r. r.course.held) (λ r s done. (s.idle (done-over r.course.state done).1).1)
@@ -107,8 +107,8 @@ joined-weight rows arrays p wait = omega (arith, sum-append (λ (r : Row). room_
 pub joined-owed : (old rows : List Row) → AreWaiting rows → owed (old ++ rows) ≡ owed old + length rows
 joined-owed old rows wait = omega (arith, sum-append (λ (r : Row). owes r.course) old rows, waiting-owed rows wait)
 
-pub joined-askable : (old rows : List Row) → AreWaiting rows → askable (old ++ rows) ≡ askable old
-joined-askable old rows wait = omega (arith, sum-append (λ (r : Row). may_ask r.course) old rows, waiting-askable rows wait)
+pub joined-owed_kills : (old rows : List Row) → AreWaiting rows → owed_kills (old ++ rows) ≡ owed_kills old
+joined-owed_kills old rows wait = omega (arith, sum-append (λ (r : Row). owes_kill r.course) old rows, waiting-owed_kills rows wait)
 
 pub tied-joined : (s : Schedule) (rows : List Row) (arrays : ℕ) (p : Plan) → AreWaiting rows → IsTied s p → IsTied s (joined rows arrays p)
 tied-joined s rows arrays p wait tied = record {
@@ -138,9 +138,9 @@ pub forgot-owed : (home : ℕ) (rows : List Row) → AllByRecursion (λ (r : Row
     → owed (map (λ (row : Row). record row { home = left_by home row.home }) (filter (λ (row : Row). not (is_forgotten home row)) rows)) ≡ owed rows
 forgot-owed home rows sound = sum-map (λ (r : Row). owes r.course) (left_row home) (filter (λ (row : Row). not (is_forgotten home row)) rows) ∙ left-owed (of_home home) rows sound
 
-pub forgot-askable : (home : ℕ) (rows : List Row) → AllByRecursion (λ (r : Row). IsSound r.wants r.course) rows
-    → askable (map (λ (row : Row). record row { home = left_by home row.home }) (filter (λ (row : Row). not (is_forgotten home row)) rows)) ≡ askable rows
-forgot-askable home rows sound = sum-map (λ (r : Row). may_ask r.course) (left_row home) (filter (λ (row : Row). not (is_forgotten home row)) rows) ∙ left-askable (of_home home) rows sound
+pub forgot-owed_kills : (home : ℕ) (rows : List Row) → AllByRecursion (λ (r : Row). IsSound r.wants r.course) rows
+    → owed_kills (map (λ (row : Row). record row { home = left_by home row.home }) (filter (λ (row : Row). not (is_forgotten home row)) rows)) ≡ owed_kills rows
+forgot-owed_kills home rows sound = sum-map (λ (r : Row). owes_kill r.course) (left_row home) (filter (λ (row : Row). not (is_forgotten home row)) rows) ∙ left-owed_kills (of_home home) rows sound
 
 pub tied-forgot : (s : Schedule) (home : ℕ) (p : Plan) → IsFit p → IsTied s p → IsTied s (forget_home home p)
 tied-forgot s home p fit tied = record {

@@ -11,7 +11,7 @@ use Rattle.drmaa_model.specs.Rows.{change_of, with_course}
 use Rattle.drmaa_model.specs.RowLaws.{row_of-is, sum_with_course, changes_with_course, sum-found}
 use Rattle.drmaa_model.specs.Size.{room_of, weight}
 use Rattle.plan_book.specs.declared.moves.Move.{Move}
-use Rattle.plan_book.specs.Book.{IsMove, moved, owes, may_ask, owed, askable, changed}
+use Rattle.plan_book.specs.Book.{IsMove, moved, owes, owes_kill, owed, owed_kills, changed}
 
 module _ (entry : ℕ) (p : Plan) (m : Move) (fit : IsFit p) (is : IsMove p m) where
   after : Row
@@ -45,8 +45,8 @@ module _ (entry : ℕ) (p : Plan) (m : Move) (fit : IsFit p) (is : IsMove p m) w
   pub moved-owed : owed (moved entry m p).rows + owes m.before ≡ owed p.rows + owes m.after
   moved-owed = moved-sum owes
 
-  pub moved-askable : askable (moved entry m p).rows + may_ask m.before ≡ askable p.rows + may_ask m.after
-  moved-askable = moved-sum may_ask
+  pub moved-owed_kills : owed_kills (moved entry m p).rows + owes_kill m.before ≡ owed_kills p.rows + owes_kill m.after
+  moved-owed_kills = moved-sum owes_kill
 
   pub moved-weight : weight (moved entry m p) + room_of m.before ≡ weight p + room_of m.after + changed m
   moved-weight =

@@ -19,11 +19,11 @@ use Rattle.drmaa_model.specs.Submitting.{kept_text}
 use Rattle.drmaa_model.specs.Targets.{is_meant}
 use Rattle.plan_book.specs.declared.sums.Sums.{Sums}
 use Rattle.plan_book.specs.Meant.{NoneMeant, HasAllMeant}
-use Rattle.plan_book.specs.Owed.{owes, may_ask, reports_due}
+use Rattle.plan_book.specs.Owed.{owes, owes_kill, reports_due}
 use Rattle.plan_book.specs.Settled.{is_settled, AreSettled}
 use Rattle.plan_book.specs.Sums.{AreSums, AreFew, AreAmong, with_others, without_others}
 use Rattle.plan_book.specs.Texts.{IsRoomBeside}
-use Rattle.plan_book.proofs.ArrivalLaws.{left-promised, left-owed, left-askable, left-held, left-reports}
+use Rattle.plan_book.proofs.ArrivalLaws.{left-promised, left-owed, left-owed_kills, left-held, left-reports}
 use Rattle.plan_book.proofs.MeantLaws.{map-stays, step-stays, filter-part}
 use Rattle.plan_book.proofs.OpenLaws.{all-fewer}
 use Rattle.plan_book.proofs.SumLaws.{all-append}
@@ -80,7 +80,7 @@ module _ (before part behind : List Row) (sums of_part : Sums) (are : AreSums (b
   part-among = record {
     promised = omega (arith, are.promised, own.promised, sum-parts (λ (row : Row). room_of row.course) part);
     owed = omega (arith, are.owed, own.owed, sum-parts (λ (row : Row). owes row.course) part);
-    askable = omega (arith, are.askable, own.askable, sum-parts (λ (row : Row). may_ask row.course) part);
+    owed_kills = omega (arith, are.owed_kills, own.owed_kills, sum-parts (λ (row : Row). owes_kill row.course) part);
     held = omega (arith, are.held, own.held, sum-parts (λ (row : Row). row.course.held) part);
     reports = omega (arith, are.reports, own.reports, sum-parts (λ (row : Row). reports_due row.course.phase) part);
   }
@@ -91,7 +91,7 @@ module _ (before part behind : List Row) (sums of_part : Sums) (are : AreSums (b
       record {
         promised = omega (arith, are.promised, own.promised, new.promised, sum-parts (λ (row : Row). room_of row.course) part, sum-parts (λ (row : Row). room_of row.course) next);
         owed = omega (arith, are.owed, own.owed, new.owed, sum-parts (λ (row : Row). owes row.course) part, sum-parts (λ (row : Row). owes row.course) next);
-        askable = omega (arith, are.askable, own.askable, new.askable, sum-parts (λ (row : Row). may_ask row.course) part, sum-parts (λ (row : Row). may_ask row.course) next);
+        owed_kills = omega (arith, are.owed_kills, own.owed_kills, new.owed_kills, sum-parts (λ (row : Row). owes_kill row.course) part, sum-parts (λ (row : Row). owes_kill row.course) next);
         held = omega (arith, are.held, own.held, new.held, sum-parts (λ (row : Row). row.course.held) part, sum-parts (λ (row : Row). row.course.held) next);
         reports = omega (arith, are.reports, own.reports, new.reports, sum-parts (λ (row : Row). reports_due row.course.phase) part, sum-parts (λ (row : Row). reports_due row.course.phase) next);
         small = all-append small before (next ++ behind) (all-left small before (part ++ behind) are.small)
@@ -102,7 +102,7 @@ pub few-without : (sums of_part : Sums) → AreFew sums → AreFew (without_othe
 few-without sums of_part few = record {
   promised = omega (arith, few.promised);
   owed = omega (arith, few.owed);
-  askable = omega (arith, few.askable);
+  owed_kills = omega (arith, few.owed_kills);
   held = omega (arith, few.held);
   reports = omega (arith, few.reports);
 }
@@ -126,7 +126,7 @@ pub sums-left : (meant : Row → Bool) (rows : List Row) (sums : Sums) → AllBy
 sums-left meant rows sums sound are = record {
   promised = are.promised ∙ sym (left-promised meant rows sound);
   owed = are.owed ∙ sym (left-owed meant rows sound);
-  askable = are.askable ∙ sym (left-askable meant rows sound);
+  owed_kills = are.owed_kills ∙ sym (left-owed_kills meant rows sound);
   held = are.held ∙ sym (left-held meant rows sound);
   reports = are.reports ∙ sym (left-reports meant rows sound);
   small = all-filter (λ (row : Row). row.course.held < 2 ^ 32) (λ (row : Row). not (meant row && is_done row)) rows are.small;

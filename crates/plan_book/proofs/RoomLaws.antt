@@ -8,13 +8,13 @@ use Rattle.drmaa_model.specs.declared.rows.Row.{Row}
 use Rattle.drmaa_model.specs.Courses.{failed, called, is_unasked}
 use Rattle.drmaa_model.specs.Time.{is_late, is_over, is_stranded, lapses, lapsed, is_due, called_in}
 use Rattle.drmaa_model.specs.TimeLaws.{trade, sum-kept, lapsed-cases, called-cases, waits-not_started}
-use Rattle.plan_book.specs.Book.{owes, may_ask, owed, askable}
+use Rattle.plan_book.specs.Book.{owes, owes_kill, owed, owed_kills}
 
 abbrev owes_row : Row → ℕ
 owes_row row = owes row.course
 
 abbrev asks_row : Row → ℕ
-asks_row row = may_ask row.course
+asks_row row = owes_kill row.course
 
 owes-lapsed : (m : ℕ) (rs : List Accepted) (r : Row) → owes_row (lapsed m rs r) + cond (lapses m rs r) 1 0 ≡ owes_row r
 owes-lapsed m rs r =
@@ -47,10 +47,10 @@ owes-called m rs r = called-cases (λ (p q : Row). owes_row q ≡ owes_row p) m 
 pub changes-expire : (m : ℕ) (rs : List Accepted) (rows : List Row) → owed (map (lapsed m rs) rows) + length (filter (lapses m rs) rows) ≡ owed rows
 changes-expire m rs rows = trade owes_row (lapsed m rs) (lapses m rs) (owes-lapsed m rs) rows
 
-pub orders-expire : (m : ℕ) (rs : List Accepted) (rows : List Row) → askable (map (lapsed m rs) rows) ≡ askable rows
+pub orders-expire : (m : ℕ) (rs : List Accepted) (rows : List Row) → owed_kills (map (lapsed m rs) rows) ≡ owed_kills rows
 orders-expire m rs rows = sum-kept asks_row (lapsed m rs) (asks-lapsed m rs) rows
 
-pub orders-called : (m : ℕ) (rs : List Accepted) (rows : List Row) → askable (map (called_in m rs) rows) + length (filter (is_due m rs) rows) ≡ askable rows
+pub orders-called : (m : ℕ) (rs : List Accepted) (rows : List Row) → owed_kills (map (called_in m rs) rows) + length (filter (is_due m rs) rows) ≡ owed_kills rows
 orders-called m rs rows = trade asks_row (called_in m rs) (is_due m rs) (asks-called m rs) rows
 
 pub changes-called : (m : ℕ) (rs : List Accepted) (rows : List Row) → owed (map (called_in m rs) rows) ≡ owed rows

@@ -23,7 +23,7 @@ use Rattle.drmaa_model.specs.Time as time
 use Rattle.drmaa_model.specs.TimeLaws.{expiry, timed}
 use Rattle.plan_book.specs.declared.sums.Sums.{Sums}
 use Rattle.plan_book.specs.Open.{is_over}
-use Rattle.plan_book.specs.Owed.{owes, may_ask, reports_due}
+use Rattle.plan_book.specs.Owed.{owes, owes_kill, reports_due}
 use Rattle.plan_book.specs.Lapses.{ends, kills, kills_then}
 use Rattle.plan_book.specs.Quiet.{IsLeftUntil}
 use Rattle.plan_book.specs.Settled.{is_settled, AreSettled}
@@ -82,11 +82,11 @@ sums-settled front rest sums all are = record {
     sum_by-append (λ (row : Row). owes row.course) front rest,
     settled-sum owes (λ row s. (let p = settled-parts row s in ap (λ (b : Bool). cond {A = ℕ} b 1 (cond (is_started row.course.state) 2 0)) p.waits ∙ ap (λ (b : Bool). cond {A = ℕ} b 2 0) p.starts)) front all,
   );
-  askable = omega (
+  owed_kills = omega (
     arith,
-    are.askable,
-    sum_by-append (λ (row : Row). may_ask row.course) front rest,
-    settled-sum may_ask (λ row s. ap (λ (b : Bool). cond {A = ℕ} (b && is_unasked row.course.kill) 1 0) (settled-parts row s).starts) front all,
+    are.owed_kills,
+    sum_by-append (λ (row : Row). owes_kill row.course) front rest,
+    settled-sum owes_kill (λ row s. ap (λ (b : Bool). cond {A = ℕ} (b && is_unasked row.course.kill) 1 0) (settled-parts row s).starts) front all,
   );
   held = omega (arith, are.held, sum_by-append (λ (row : Row). row.course.held) front rest, settled-sum (λ course. course.held) (λ row s. (settled-parts row s).none) front all);
   reports = omega (

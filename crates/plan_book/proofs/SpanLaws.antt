@@ -29,7 +29,7 @@ use Rattle.plan_book.specs.declared.spans.Spans.{Spans}
 use Rattle.plan_book.specs.Meant.{NoneMeant}
 use Rattle.plan_book.specs.Numbers.{HasNumbersOf}
 use Rattle.plan_book.specs.Places.{IsAt}
-use Rattle.plan_book.specs.Spans.{AreOrdered, AreSpanned, IsInSpan, IsSpanned, IsWithin, Keeps, span_number, span_of, widened}
+use Rattle.plan_book.specs.Spans.{AreBothSorted, AreSpanned, IsInSpan, IsSpanned, IsWithin, Keeps, span_number, span_of, widened}
 use Rattle.plan_book.proofs.Searched.{all-removed, find-at, find-beside, find-inserted, find-mapped, rising-inserted, rising-mapped, set-at}
 use Rattle.plan_book.proofs.SumLaws.{all-append}
 
@@ -130,9 +130,9 @@ spanned-then old new arrays homes row spanned = record {
   home = λ home is. homes home row.job.0 (spanned.home home is);
 }
 
-pub spanned-append : (rows more : List Row) (old new : Spans) → AreSpanned rows old → AreOrdered new → Keeps old.arrays new.arrays → Keeps old.homes new.homes → AllByRecursion (IsSpanned new) more → AreSpanned (rows ++ more) new
-spanned-append rows more old new are order arrays homes all = record {
-  order = order;
+pub spanned-append : (rows more : List Row) (old new : Spans) → AreSpanned rows old → AreBothSorted new → Keeps old.arrays new.arrays → Keeps old.homes new.homes → AllByRecursion (IsSpanned new) more → AreSpanned (rows ++ more) new
+spanned-append rows more old new are sorted arrays homes all = record {
+  sorted = sorted;
   members = all-append (IsSpanned new) rows more (all-implied (IsSpanned old) (IsSpanned new) (spanned-then old new arrays homes) rows are.members) all;
 }
 
@@ -140,7 +140,7 @@ spanned-append rows more old new are order arrays homes all = record {
 pub spanned-map : (f : Row → Row) → ((row : Row) → (f row).job ≡ row.job) → ((row : Row) → (f row).wants ≡ row.wants) → ((row : Row) (home : ℕ) → (f row).home ≡ Some home → row.home ≡ Some home)
     → (rows : List Row) (spans : Spans) → AreSpanned rows spans → AreSpanned (map f rows) spans
 spanned-map f job wants homes rows spans are = record {
-  order = are.order;
+  sorted = are.sorted;
   members = all-map (IsSpanned spans) f rows (all-implied (IsSpanned spans) (λ (row : Row). IsSpanned spans (f row))
       (λ row spanned. record {
         array = λ array is. subst (λ (j : JobId). IsWithin array.0 j.0 spans.arrays) (sym (job row)) (spanned.array array (sym (ap (λ (w : Wants). w.array) (wants row)) ∙ is));
@@ -179,10 +179,10 @@ spanned-left gone rows spans are =
     spanned-map (λ (row : Row). record row { home = left_by gone row.home }) (λ row. refl) (λ row. refl) (λ row home is. left-home gone home row.home is) rows spans are
 
 pub spanned-filter : (test : Row → Bool) (rows : List Row) (spans : Spans) → AreSpanned rows spans → AreSpanned (filter test rows) spans
-spanned-filter test rows spans are = record { order = are.order; members = all-filter (IsSpanned spans) test rows are.members }
+spanned-filter test rows spans are = record { sorted = are.sorted; members = all-filter (IsSpanned spans) test rows are.members }
 
 pub spanned-removed : (rows : List Row) (place : ℕ) (spans : Spans) → AreSpanned rows spans → AreSpanned (remove rows place) spans
-spanned-removed rows place spans are = record { order = are.order; members = all-removed number_of (IsSpanned spans) rows place are.members }
+spanned-removed rows place spans are = record { sorted = are.sorted; members = all-removed number_of (IsSpanned spans) rows place are.members }
 
 -- ---- no member stands outside
 

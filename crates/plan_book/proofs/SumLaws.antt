@@ -15,7 +15,7 @@ use Rattle.drmaa_model.specs.RowLaws.{all-implied, all-map, all-push, all_with_c
 use Rattle.drmaa_model.specs.Size.{phase_room, room_of}
 use Rattle.drmaa_model.specs.TimeLaws.{sum-kept}
 use Rattle.plan_book.specs.declared.sums.Sums.{Sums}
-use Rattle.plan_book.specs.Owed.{owes, may_ask, reports_due}
+use Rattle.plan_book.specs.Owed.{owes, owes_kill, reports_due}
 use Rattle.plan_book.specs.Sums.{AreSums, AreFew, AreParts, with_job, with_others, without_job}
 use Rattle.plan_book.proofs.Searched.{all-removed}
 
@@ -56,13 +56,13 @@ pub sums-few : (rows : List Row) (sums : Sums) → length rows < 2 ^ 63 → AreS
 sums-few rows sums few are =
     let room = sum-most (λ (row : Row). room_of row.course) 4 rows (all-are (λ row. room_of row.course ≤ 4) (λ row. phase-most (is_waiting row.course.state) row.course.phase) rows) in
     let changes = sum-most (λ (row : Row). owes row.course) 2 rows (all-are (λ row. owes row.course ≤ 2) (λ row. owes-most (is_waiting row.course.state) (is_started row.course.state)) rows) in
-    let orders = sum-most (λ (row : Row). may_ask row.course) 1 rows (all-are (λ row. may_ask row.course ≤ 1) (λ row. asks-most (is_started row.course.state && is_unasked row.course.kill)) rows) in
+    let orders = sum-most (λ (row : Row). owes_kill row.course) 1 rows (all-are (λ row. owes_kill row.course ≤ 1) (λ row. asks-most (is_started row.course.state && is_unasked row.course.kill)) rows) in
     let slots = sum-most (λ (row : Row). row.course.held) 4294967296 rows (all-implied (λ row. row.course.held < 2 ^ 32) (λ row. row.course.held ≤ 4294967296) (λ row less. omega (arith, less)) rows are.small) in
     let reports = sum-most (λ (row : Row). reports_due row.course.phase) 2 rows (all-are (λ row. reports_due row.course.phase ≤ 2) (λ row. due-most row.course.phase) rows) in
     record {
       promised = omega (arith, few, room, are.promised);
       owed = omega (arith, few, changes, are.owed);
-      askable = omega (arith, few, orders, are.askable);
+      owed_kills = omega (arith, few, orders, are.owed_kills);
       held = omega (arith, few, slots, are.held);
       reports = omega (arith, few, reports, are.reports);
     }
@@ -73,7 +73,7 @@ pub sums-push : (rows : List Row) (row : Row) (sums : Sums) → row.course.held 
 sums-push rows row sums small are = record {
   promised = ap (λ n. n + room_of row.course) are.promised ∙ sym (sum_by_push (λ (r : Row). room_of r.course) rows row);
   owed = ap (λ n. n + owes row.course) are.owed ∙ sym (sum_by_push (λ (r : Row). owes r.course) rows row);
-  askable = ap (λ n. n + may_ask row.course) are.askable ∙ sym (sum_by_push (λ (r : Row). may_ask r.course) rows row);
+  owed_kills = ap (λ n. n + owes_kill row.course) are.owed_kills ∙ sym (sum_by_push (λ (r : Row). owes_kill r.course) rows row);
   held = ap (λ n. n + row.course.held) are.held ∙ sym (sum_by_push (λ (r : Row). r.course.held) rows row);
   reports = ap (λ n. n + reports_due row.course.phase) are.reports ∙ sym (sum_by_push (λ (r : Row). reports_due r.course.phase) rows row);
   small = all-push (λ r. r.course.held < 2 ^ 32) rows row are.small small;
@@ -87,7 +87,7 @@ pub sums-append : (rows more : List Row) (sums added : Sums) → AreSums rows su
 sums-append rows more sums added are others = record {
   promised = omega (arith, are.promised, others.promised, sum_by-append (λ (r : Row). room_of r.course) rows more);
   owed = omega (arith, are.owed, others.owed, sum_by-append (λ (r : Row). owes r.course) rows more);
-  askable = omega (arith, are.askable, others.askable, sum_by-append (λ (r : Row). may_ask r.course) rows more);
+  owed_kills = omega (arith, are.owed_kills, others.owed_kills, sum_by-append (λ (r : Row). owes_kill r.course) rows more);
   held = omega (arith, are.held, others.held, sum_by-append (λ (r : Row). r.course.held) rows more);
   reports = omega (arith, are.reports, others.reports, sum_by-append (λ (r : Row). reports_due r.course.phase) rows more);
   small = all-append (λ r. r.course.held < 2 ^ 32) rows more are.small others.small;
@@ -99,7 +99,7 @@ pub sums-map : (f : Row → Row) → ((row : Row) → (f row).course ≡ row.cou
 sums-map f same rows sums are = record {
   promised = are.promised ∙ sym (sum-kept (λ (r : Row). room_of r.course) f (λ row. ap room_of (same row)) rows);
   owed = are.owed ∙ sym (sum-kept (λ (r : Row). owes r.course) f (λ row. ap owes (same row)) rows);
-  askable = are.askable ∙ sym (sum-kept (λ (r : Row). may_ask r.course) f (λ row. ap may_ask (same row)) rows);
+  owed_kills = are.owed_kills ∙ sym (sum-kept (λ (r : Row). owes_kill r.course) f (λ row. ap owes_kill (same row)) rows);
   held = are.held ∙ sym (sum-kept (λ (r : Row). r.course.held) f (λ row. ap (λ (c : Course). c.held) (same row)) rows);
   reports = are.reports ∙ sym (sum-kept (λ (r : Row). reports_due r.course.phase) f (λ row. ap (λ (c : Course). reports_due c.phase) (same row)) rows);
   small = all-map (λ r. r.course.held < 2 ^ 32) f rows (all-implied (λ (r : Row). r.course.held < 2 ^ 32) (λ (r : Row). (f r).course.held < 2 ^ 32) (λ r less. subst (λ (c : Course). c.held < 2 ^ 32) (sym (same r)) less) rows are.small);
@@ -118,7 +118,7 @@ module _ (job : JobId) (course : Course) (rows : List Row) (row : Row) (sums : S
   sums-parts = record {
     promised = omega (arith, part room_of, are.promised);
     owed = omega (arith, part owes, are.owed);
-    askable = omega (arith, part may_ask, are.askable);
+    owed_kills = omega (arith, part owes_kill, are.owed_kills);
     held = omega (arith, part (λ c. c.held), are.held);
     reports = omega (arith, part (λ c. reports_due c.phase), are.reports);
   }
@@ -127,7 +127,7 @@ module _ (job : JobId) (course : Course) (rows : List Row) (row : Row) (sums : S
   sums-change small = record {
     promised = omega (arith, part room_of, sum-then room_of, are.promised);
     owed = omega (arith, part owes, sum-then owes, are.owed);
-    askable = omega (arith, part may_ask, sum-then may_ask, are.askable);
+    owed_kills = omega (arith, part owes_kill, sum-then owes_kill, are.owed_kills);
     held = omega (arith, part (λ c. c.held), sum-then (λ c. c.held), are.held);
     reports = omega (arith, part (λ c. reports_due c.phase), sum-then (λ c. reports_due c.phase), are.reports);
     small = all_with_course job course (λ r. r.course.held < 2 ^ 32) rows row rising found are.small small;
@@ -143,7 +143,7 @@ module _ (rows : List Row) (place : ℕ) (row : Row) (sums : Sums) (within : pla
   removed-parts = record {
     promised = omega (arith, sum-without room_of, are.promised);
     owed = omega (arith, sum-without owes, are.owed);
-    askable = omega (arith, sum-without may_ask, are.askable);
+    owed_kills = omega (arith, sum-without owes_kill, are.owed_kills);
     held = omega (arith, sum-without (λ c. c.held), are.held);
     reports = omega (arith, sum-without (λ c. reports_due c.phase), are.reports);
   }
@@ -152,7 +152,7 @@ module _ (rows : List Row) (place : ℕ) (row : Row) (sums : Sums) (within : pla
   without = record {
     promised = omega (arith, sum-without room_of, are.promised);
     owed = omega (arith, sum-without owes, are.owed);
-    askable = omega (arith, sum-without may_ask, are.askable);
+    owed_kills = omega (arith, sum-without owes_kill, are.owed_kills);
     held = omega (arith, sum-without (λ c. c.held), are.held);
     reports = omega (arith, sum-without (λ c. reports_due c.phase), are.reports);
     small = all-removed number_of (λ r. r.course.held < 2 ^ 32) rows place are.small;

@@ -34,8 +34,8 @@ use Rattle.drmaa_model.specs.Targets.{is_meant}
 use Rattle.drmaa_model.specs.TimeLaws.{waits-not_failed}
 use Rattle.drmaa_model.specs.WeightLaws.{length-same}
 use Rattle.reservation_calendar.specs.Schedules.{Schedule}
-use Rattle.plan_book.specs.Book.{owes, may_ask, owed, askable}
-use Rattle.plan_book.specs.Sweeps.{acted, growth, is_asking, asking, noted}
+use Rattle.plan_book.specs.Book.{owes, owes_kill, owed, owed_kills}
+use Rattle.plan_book.specs.Sweeps.{acted, growth, may_add_order, most_orders, noted}
 use Rattle.plan_book.specs.Ties.{IsTied}
 use Rattle.plan_book.specs.TieLaws.{tied-eased}
 
@@ -245,9 +245,9 @@ control-size t what entry p = omega (arith, control-promised entry p.moment t wh
 -- ---- the orders
 
 abbrev asks-at-most : Control → Row → Row → List Order → Bool → Type 0
-asks-at-most what r next orders b = may_ask next.course + length orders ≤ may_ask r.course + cond {A = ℕ} b (cond (is_asking what) 1 0) 0
+asks-at-most what r next orders b = owes_kill next.course + length orders ≤ owes_kill r.course + cond {A = ℕ} b (cond (may_add_order what) 1 0) 0
 
-asks-state : (r : Row) (state : JobState) → is_started state ≡ is_started r.course.state → may_ask (record r.course { state = state }) ≡ may_ask r.course
+asks-state : (r : Row) (state : JobState) → is_started state ≡ is_started r.course.state → owes_kill (record r.course { state = state }) ≡ owes_kill r.course
 asks-state r state same = ap (λ b. cond {A = ℕ} (b && is_unasked r.course.kill) 1 0) same
 
 asks-called : (s : Bool) → cond {A = ℕ} (s && false) 1 0 ≡ 0
@@ -257,8 +257,8 @@ asks-called false = refl
 asks-terminated : (moment : ℕ) (r : Row) → asks-at-most Terminate r (record r { course = terminated moment r.course }) (orders_for r.job (asked_for Terminate r.course)) true
 asks-terminated moment r =
     (elim (is_started r.course.state) as (λ s. is_started r.course.state ≡ s →
-    may_ask (cond s (cond (may_kill r.course.kill) (called note.Terminated r.course) r.course) (failed moment note.Terminated r.course)) + length (orders_for r.job (cond (s && may_kill r.course.kill) (Some signal.Kill) None)) ≤ may_ask r.course + 1) [
-      | true ↦ λ is. elim (may_kill r.course.kill) as (λ k. may_ask (cond k (called note.Terminated r.course) r.course) + length (orders_for r.job (cond k (Some signal.Kill) None)) ≤ may_ask r.course + 1) [
+    owes_kill (cond s (cond (may_kill r.course.kill) (called note.Terminated r.course) r.course) (failed moment note.Terminated r.course)) + length (orders_for r.job (cond (s && may_kill r.course.kill) (Some signal.Kill) None)) ≤ owes_kill r.course + 1) [
+      | true ↦ λ is. elim (may_kill r.course.kill) as (λ k. owes_kill (cond k (called note.Terminated r.course) r.course) + length (orders_for r.job (cond k (Some signal.Kill) None)) ≤ owes_kill r.course + 1) [
         | true ↦ omega (arith, asks-called (is_started r.course.state))
         | false ↦ omega arith
       ]
@@ -277,18 +277,18 @@ asks-step : (moment : ℕ) (t : Target) (what : Control) (r : Row) → asks-at-m
 asks-step moment t what r = stays-or (λ (p q : Row) (b : Bool). asks-at-most what p q (cond b (orders_for p.job (asked_for what p.course)) []) b) moment t what r
     (omega arith) (λ state e. asks-controlled moment what r state e)
 
-pub control-askable : (moment : ℕ) (t : Target) (what : Control) (rows : List Row)
-    → askable (map (control_step moment t what) rows) + length (flat_map (asked_orders t what) rows) ≤ askable rows + asking what (acted t what rows)
-control-askable moment t what [] = (elim (is_asking what) as (λ b. 0 + 0 ≤ 0 + cond {A = ℕ} b 0 0) [ true ↦ omega arith | false ↦ omega arith ])
-control-askable moment t what (r ∷ rows) =
-    let h : Row → ℕ = λ (x : Row). may_ask x.course in
+pub control-owed_kills : (moment : ℕ) (t : Target) (what : Control) (rows : List Row)
+    → owed_kills (map (control_step moment t what) rows) + length (flat_map (asked_orders t what) rows) ≤ owed_kills rows + most_orders what (acted t what rows)
+control-owed_kills moment t what [] = (elim (may_add_order what) as (λ b. 0 + 0 ≤ 0 + cond {A = ℕ} b 0 0) [ true ↦ omega arith | false ↦ omega arith ])
+control-owed_kills moment t what (r ∷ rows) =
+    let h : Row → ℕ = λ (x : Row). owes_kill x.course in
     let f = control_step moment t what in
-    let more : asking what (acted t what (r ∷ rows)) ≡ cond {A = ℕ} (is_controlled t what r) (cond (is_asking what) 1 0) 0 + asking what (acted t what rows) =
-    (elim (is_controlled t what r) as (λ b. cond {A = ℕ} (is_asking what) (length (cond b (r ∷ filter (is_controlled t what) rows) (filter (is_controlled t what) rows))) 0 ≡ cond {A = ℕ} b (cond (is_asking what) 1 0) 0 + cond (is_asking what) (acted t what rows) 0) [
+    let more : most_orders what (acted t what (r ∷ rows)) ≡ cond {A = ℕ} (is_controlled t what r) (cond (may_add_order what) 1 0) 0 + most_orders what (acted t what rows) =
+    (elim (is_controlled t what r) as (λ b. cond {A = ℕ} (may_add_order what) (length (cond b (r ∷ filter (is_controlled t what) rows) (filter (is_controlled t what) rows))) 0 ≡ cond {A = ℕ} b (cond (may_add_order what) 1 0) 0 + cond (may_add_order what) (acted t what rows) 0) [
       | false ↦ omega arith
-      | true ↦ (elim (is_asking what) as (λ k. cond {A = ℕ} k (length (r ∷ filter (is_controlled t what) rows)) 0 ≡ cond {A = ℕ} k 1 0 + cond k (acted t what rows) 0) [ true ↦ omega arith | false ↦ omega arith ])
+      | true ↦ (elim (may_add_order what) as (λ k. cond {A = ℕ} k (length (r ∷ filter (is_controlled t what) rows)) 0 ≡ cond {A = ℕ} k 1 0 + cond k (acted t what rows) 0) [ true ↦ omega arith | false ↦ omega arith ])
     ]) in
-    omega (arith, asks-step moment t what r, control-askable moment t what rows, more, sum_by-cons h r rows, sum_by-cons h (f r) (map f rows), length-append (asked_orders t what r) (flat_map (asked_orders t what) rows))
+    omega (arith, asks-step moment t what r, control-owed_kills moment t what rows, more, sum_by-cons h r rows, sum_by-cons h (f r) (map f rows), length-append (asked_orders t what r) (flat_map (asked_orders t what) rows))
 
 -- ---- how many there are
 

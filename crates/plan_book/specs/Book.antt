@@ -8,11 +8,7 @@ use Rattle.drmaa_model.specs.declared.courses.Course.{Course}
 use Rattle.drmaa_model.specs.declared.courses.Order.{Order}
 use Rattle.drmaa_model.specs.declared.rows.Row.{Row}
 use Rattle.drmaa_model.specs.Fit.{IsFit}
-use Rattle.drmaa_types.specs.declared.refusals.Refusal.{Refusal}
-use Rattle.drmaa_types.specs.declared.refusals.Refusal.TheVariants.{OutOfResource}
-use Rattle.drmaa_types.specs.declared.refusals.Limit.TheVariants as resource
 use Rattle.drmaa_model.specs.Controlling.{orders_for}
-use Rattle.drmaa_model.specs.Operation.{is_answer, size_at}
 use Rattle.drmaa_model.specs.Launching.{take_first}
 use Rattle.drmaa_model.specs.Reporting.{orders_without, drop_first, signal_number}
 use Rattle.drmaa_model.specs.Plan.{Plan}
@@ -21,13 +17,13 @@ use Rattle.drmaa_model.specs.Size.{weight}
 use Rattle.drmaa_model.specs.Time.{lasts}
 use Rattle.drmaa_model.specs.TimeLaws.{timed}
 use Rattle.reservation_calendar.specs.Schedules.{Schedule}
-pub use Rattle.plan_book.specs.Owed.{owes, may_ask, owed, askable}
+pub use Rattle.plan_book.specs.Owed.{owes, owes_kill, owed, owed_kills}
 use Rattle.plan_book.specs.Quiet.{IsQuiet}
 use Rattle.plan_book.specs.Ties.{IsTied}
 use Rattle.plan_book.specs.declared.book.Book.{Book}
 use Rattle.plan_book.specs.declared.moves.Move.{Move}
 use Rattle.plan_book.specs.declared.moves.Edit.{Edit}
-use Rattle.plan_book.specs.declared.moves.Edit.TheVariants.{Keep, Ask, Clear, Take, Drop}
+use Rattle.plan_book.specs.declared.moves.Edit.TheVariants.{Keep, Add, Clear, Take, Drop}
 
 -- The plan of a book. The one place that knows how it is kept.
 abbrev pub plan_of : Book → Plan
@@ -54,7 +50,7 @@ course_then at p row = (timed (max p.moment at) (filter (lasts (max p.moment at)
 
 pub record HasRoom (b : Book) : Type 0 where
   pub changes : vec_len b.changes + owed b.rows.items ≤ vec_capacity b.changes
-  pub orders : vec_len b.orders + askable b.rows.items ≤ vec_capacity b.orders
+  pub orders : vec_len b.orders + owed_kills b.rows.items ≤ vec_capacity b.orders
 
 -- for how many jobs more there is memory
 abbrev pub spare_rows : Book → ℕ
@@ -73,7 +69,7 @@ abbrev pub HasFewQueues : Plan → Type 0
 HasFewQueues p = length p.queues ≤ most_queues
 
 -- what every book keeps
-pub record IsKept (b : Book) : Type 0 where
+pub record IsBook (b : Book) : Type 0 where
   pub room : HasRoom b
   pub fit : IsFit (plan_of b)
   pub light : weight (plan_of b) ≤ 4_000_000
@@ -88,7 +84,7 @@ is_order job kind taken order = (if taken then order.taken else not order.taken)
 -- what a move does to the orders
 abbrev pub edited : Edit → JobId → List Order → List Order
 edited Keep job orders = orders
-edited (Ask kind) job orders = orders ++ orders_for job (Some kind)
+edited (Add kind) job orders = orders ++ orders_for job (Some kind)
 edited Clear job orders = orders_without job orders
 edited (Take kind) job orders = take_first (is_order job kind false) orders
 edited (Drop kind) job orders = drop_first (is_order job kind true) orders
@@ -99,7 +95,7 @@ moved entry m p = record (go_on entry m.job m.after p) { orders = edited m.order
 
 -- how many orders more there is room for
 abbrev pub spare_orders : Book → ℕ
-spare_orders b = vec_capacity b.orders - (vec_len b.orders + askable b.rows.items)
+spare_orders b = vec_capacity b.orders - (vec_len b.orders + owed_kills b.rows.items)
 
 -- a move is of a kept job, from the course that it has
 pub record IsMove (p : Plan) (m : Move) : Type 0 where
@@ -113,28 +109,23 @@ abbrev pub changed : Move → ℕ
 changed m = if is_state m.before.state m.after.state then 0 else 1
 
 -- how many orders it adds
-abbrev pub asked : Edit → ℕ
-asked Keep = 0
-asked (Ask kind) = 1
-asked Clear = 0
-asked (Take kind) = 0
-asked (Drop kind) = 0
+abbrev pub added_orders : Edit → ℕ
+added_orders Keep = 0
+added_orders (Add kind) = 1
+added_orders Clear = 0
+added_orders (Take kind) = 0
+added_orders (Drop kind) = 0
 
 -- how much room it wants beside what is promised
 abbrev pub grows : Move → ℕ
 grows m = (owes m.after + changed m) - owes m.before
 
-abbrev pub asks : Move → ℕ
-asks m = (may_ask m.after + asked m.orders) - may_ask m.before
-
--- A refusal is told in the plan that has come to its moment, or the journal would be too large even for that.
-pub data Refuses (why : Refusal) (q old : Plan) (entry limit : ℕ) (told : Refusal) (new : Plan) : Type 0 where
-  refuses : told ≡ why → is_answer why ≡ true → new ≡ q → size_at entry q ≤ limit → Refuses why q old entry limit told new
-  overfull : told ≡ OutOfResource (resource.Journal (size_at entry q)) → limit < size_at entry q → new ≡ old → Refuses why q old entry limit told new
+abbrev pub more_orders : Move → ℕ
+more_orders m = (owes_kill m.after + added_orders m.orders) - owes_kill m.before
 
 abbrev pub edit_of : Option SignalKind → Edit
 edit_of None = Keep
-edit_of (Some kind) = Ask kind
+edit_of (Some kind) = Add kind
 
 -- Jobs come in, and so many array numbers are used.
 abbrev pub joined : List Row → ℕ → Plan → Plan

@@ -12,14 +12,14 @@ abbrev pub owes : Course → ℕ
 owes course = if is_waiting course.state then 1 else if is_started course.state then 2 else 0
 
 -- the order that time may ask
-abbrev pub may_ask : Course → ℕ
-may_ask course = if is_started course.state && is_unasked course.kill then 1 else 0
+abbrev pub owes_kill : Course → ℕ
+owes_kill course = if is_started course.state && is_unasked course.kill then 1 else 0
 
 abbrev pub owed : List Row → ℕ
 owed rows = sum_by (λ (row : Row). owes row.course) rows
 
-abbrev pub askable : List Row → ℕ
-askable rows = sum_by (λ (row : Row). may_ask row.course) rows
+abbrev pub owed_kills : List Row → ℕ
+owed_kills rows = sum_by (λ (row : Row). owes_kill row.course) rows
 
 -- the reports of a start and an end that the process of a job in this phase may still bring
 abbrev pub reports_due : Phase → ℕ

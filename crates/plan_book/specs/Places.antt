@@ -9,8 +9,8 @@ pub record IsAt {X : Type 0} (number : X → ℕ) (n : ℕ) (xs : List X) (i : �
   pub there : (d : X) → number (slice_index_or xs i d) ≡ n
 
 -- the reservations are in order of number
-abbrev pub AreInOrder : List Accepted → Type 0
-AreInOrder rs = IsRising reservation_number rs
+abbrev pub AreSorted : List Accepted → Type 0
+AreSorted rs = IsRising reservation_number rs
 
 -- the element at place i is the first that meets the test
 pub record IsFirstTo {X : Type 0} (test : X → Bool) (xs : List X) (i : ℕ) : Type 0 where

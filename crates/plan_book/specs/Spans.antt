@@ -12,13 +12,13 @@ abbrev pub span_number : Span → ℕ
 span_number span = span.group
 
 -- the spans are in order of the number of their group, an array or a home
-abbrev pub IsOrdered : SpanList → Type 0
-IsOrdered spans = IsRising span_number spans.list.items
+abbrev pub IsSorted : SpanList → Type 0
+IsSorted spans = IsRising span_number spans.list.items
 
 -- both lists are
-pub record AreOrdered (spans : Spans) : Type 0 where
-  pub arrays : IsOrdered spans.arrays
-  pub homes : IsOrdered spans.homes
+pub record AreBothSorted (spans : Spans) : Type 0 where
+  pub arrays : IsSorted spans.arrays
+  pub homes : IsSorted spans.homes
 
 -- the span of the group
 abbrev pub span_of : ℕ → List Span → Option Span
@@ -53,7 +53,7 @@ pub record IsSpanned (spans : Spans) (row : Row) : Type 0 where
 
 -- the spans are those of the jobs
 pub record AreSpanned (rows : List Row) (spans : Spans) : Type 0 where
-  pub order : AreOrdered spans
+  pub sorted : AreBothSorted spans
   pub members : AllByRecursion (IsSpanned spans) rows
 
 -- the span with one more number

@@ -3,11 +3,11 @@ use Rattle.std.specs.Prelude.{◌≡◌, ℕ, ◌+◌, ◌-◌, ◌<◌, ◌≤�
 use Rattle.std.specs.List.{AllByRecursion}
 use Rattle.drmaa_model.specs.declared.courses.Course.{Course}
 use Rattle.drmaa_model.specs.declared.rows.Row.{Row}
-use Rattle.drmaa_model.specs.Order.{held}
+use Rattle.drmaa_model.specs.NextLaunch.{held}
 use Rattle.drmaa_model.specs.Size.{room_of, promised}
 use Rattle.drmaa_model.specs.Submitting.{kept_text}
 use Rattle.plan_book.specs.Open.{IsPriorityBound}
-use Rattle.plan_book.specs.Owed.{owes, may_ask, reports_due, owed, askable, reports_to_come}
+use Rattle.plan_book.specs.Owed.{owes, owes_kill, reports_due, owed, owed_kills, reports_to_come}
 use Rattle.plan_book.specs.Settled.{AreSettled}
 use Rattle.plan_book.specs.Spans.{AreSpanned}
 use Rattle.plan_book.specs.Texts.{IsRoomBeside}
@@ -18,14 +18,14 @@ use Rattle.plan_book.specs.declared.sums.Sums.{Sums}
 pub record AreSums (rows : List Row) (sums : Sums) : Type 0 where
   pub promised : sums.promised ≡ promised rows
   pub owed : sums.owed ≡ owed rows
-  pub askable : sums.askable ≡ askable rows
+  pub owed_kills : sums.owed_kills ≡ owed_kills rows
   pub held : sums.held ≡ held rows
   pub reports : sums.reports ≡ reports_to_come rows
   -- so that the sum of what they hold is small too
   pub small : AllByRecursion (λ (row : Row). row.course.held < 2 ^ 32) rows
 
 -- what is kept beside the rows is theirs
-pub record AreKept (rows : List Row) (sums : Sums) (room : Option ℕ) (front : ℕ) (most : ℤ) (spans : Spans) : Type 0 where
+pub record AreRows (rows : List Row) (sums : Sums) (room : Option ℕ) (front : ℕ) (most : ℤ) (spans : Spans) : Type 0 where
   pub totals : AreSums rows sums
   pub text : IsRoomBeside (kept_text rows) room
   pub settled : AreSettled front rows
@@ -36,7 +36,7 @@ pub record AreKept (rows : List Row) (sums : Sums) (room : Option ℕ) (front : 
 pub record AreFew (sums : Sums) : Type 0 where
   pub promised : sums.promised < 2 ^ 127
   pub owed : sums.owed < 2 ^ 127
-  pub askable : sums.askable < 2 ^ 127
+  pub owed_kills : sums.owed_kills < 2 ^ 127
   pub held : sums.held < 2 ^ 127
   pub reports : sums.reports < 2 ^ 127
 
@@ -44,7 +44,7 @@ pub record AreFew (sums : Sums) : Type 0 where
 pub record AreAmong (others sums : Sums) : Type 0 where
   pub promised : others.promised ≤ sums.promised
   pub owed : others.owed ≤ sums.owed
-  pub askable : others.askable ≤ sums.askable
+  pub owed_kills : others.owed_kills ≤ sums.owed_kills
   pub held : others.held ≤ sums.held
   pub reports : others.reports ≤ sums.reports
 
@@ -52,7 +52,7 @@ pub record AreAmong (others sums : Sums) : Type 0 where
 pub record AreParts (course : Course) (sums : Sums) : Type 0 where
   pub promised : room_of course ≤ sums.promised
   pub owed : owes course ≤ sums.owed
-  pub askable : may_ask course ≤ sums.askable
+  pub owed_kills : owes_kill course ≤ sums.owed_kills
   pub held : course.held ≤ sums.held
   pub reports : reports_due course.phase ≤ sums.reports
 
@@ -61,7 +61,7 @@ abbrev pub with_job : Sums → Course → Sums
 with_job sums course = record {
   promised = sums.promised + room_of course;
   owed = sums.owed + owes course;
-  askable = sums.askable + may_ask course;
+  owed_kills = sums.owed_kills + owes_kill course;
   held = sums.held + course.held;
   reports = sums.reports + reports_due course.phase;
 }
@@ -71,7 +71,7 @@ abbrev pub with_others : Sums → Sums → Sums
 with_others sums others = record {
   promised = sums.promised + others.promised;
   owed = sums.owed + others.owed;
-  askable = sums.askable + others.askable;
+  owed_kills = sums.owed_kills + others.owed_kills;
   held = sums.held + others.held;
   reports = sums.reports + others.reports;
 }
@@ -81,7 +81,7 @@ abbrev pub without_job : Course → Sums → Sums
 without_job course sums = record {
   promised = sums.promised - room_of course;
   owed = sums.owed - owes course;
-  askable = sums.askable - may_ask course;
+  owed_kills = sums.owed_kills - owes_kill course;
   held = sums.held - course.held;
   reports = sums.reports - reports_due course.phase;
 }
@@ -91,7 +91,7 @@ abbrev pub without_others : Sums → Sums → Sums
 without_others sums others = record {
   promised = sums.promised - others.promised;
   owed = sums.owed - others.owed;
-  askable = sums.askable - others.askable;
+  owed_kills = sums.owed_kills - others.owed_kills;
   held = sums.held - others.held;
   reports = sums.reports - others.reports;
 }

@@ -18,16 +18,16 @@ abbrev pub growth : Control → ℕ → ℕ
 growth what n = if is_growing what then n else 0
 
 -- the call may ask for a signal that was not promised
-abbrev pub is_asking : Control → Bool
-is_asking Suspend = true
-is_asking Resume = true
-is_asking Hold = false
-is_asking Release = false
-is_asking Terminate = true
+abbrev pub may_add_order : Control → Bool
+may_add_order Suspend = true
+may_add_order Resume = true
+may_add_order Hold = false
+may_add_order Release = false
+may_add_order Terminate = true
 
 -- the room for orders that it wants at most
-abbrev pub asking : Control → ℕ → ℕ
-asking what n = if is_asking what then n else 0
+abbrev pub most_orders : Control → ℕ → ℕ
+most_orders what n = if may_add_order what then n else 0
 
 -- the change of a job on which it acts, where its state changes
 abbrev pub noted : ℕ → ℕ → Target → Control → Row → List Change

@@ -2,7 +2,7 @@
 ghost use Rattle.std.specs.Prelude.{◌≡◌, max};
 ghost use Rattle.drmaa_model.specs.Time.{advance_plan, come_to, let_go, expire, call_in};
 ghost use Rattle.plan_book.specs.Book.{plan_of, HasPlace, HasRoom, spare, spare_orders, spare_rows};
-ghost use Rattle.plan_book.specs.Places.{AreInOrder};
+ghost use Rattle.plan_book.specs.Places.{AreSorted};
 ghost use Rattle.plan_book.specs.Quiet.{IsQuiet};
 ghost use Rattle.plan_book.specs.Ties.{let_go_of};
 
@@ -15,9 +15,9 @@ use drmaa_types::Moment;
 impl Book {
     fn come_to(&mut self, at: Moment)
         requires room { HasRoom self.old }
-        requires order { AreInOrder self.old.reservations.items }
+        requires sorted { AreSorted self.old.reservations.items }
         ensures plan { plan_of self.new ≡ let_go (come_to at (plan_of self.old)) }
-        ensures order { AreInOrder self.new.reservations.items }
+        ensures sorted { AreSorted self.new.reservations.items }
         ensures calendar { self.new.calendar ≡ let_go_of (max self.old.moment at) self.old.reservations.items self.old.calendar }
         ensures room { HasRoom self.new }
         ensures spare { spare self.new ≡ spare self.old }
@@ -33,9 +33,9 @@ impl Book {
     /// Time has come to its moment: the jobs whose time is over end or are asked to end, and the alarm is set anew.
     pub(crate) fn sweep(&mut self, entry: u64)
         requires room { HasRoom self.old }
-        requires order { AreInOrder self.old.reservations.items }
+        requires sorted { AreSorted self.old.reservations.items }
         ensures plan { plan_of self.new ≡ call_in (expire entry (plan_of self.old)) }
-        ensures order { AreInOrder self.new.reservations.items }
+        ensures sorted { AreSorted self.new.reservations.items }
         ensures calendar { self.new.calendar ≡ self.old.calendar }
         ensures room { HasRoom self.new }
         ensures spare { spare self.new ≡ spare self.old }
@@ -57,10 +57,10 @@ impl Book {
     /// Time goes on. It takes no memory. Before the alarm it looks at no job and no reservation.
     pub fn advance(&mut self, at: Moment, entry: u64)
         requires room { HasRoom self.old }
-        requires order { AreInOrder self.old.reservations.items }
+        requires sorted { AreSorted self.old.reservations.items }
         requires quiet { IsQuiet self.old.alarm (plan_of self.old) }
         ensures plan { plan_of self.new ≡ advance_plan entry at (plan_of self.old) }
-        ensures order { AreInOrder self.new.reservations.items }
+        ensures sorted { AreSorted self.new.reservations.items }
         ensures calendar { self.new.calendar ≡ let_go_of (max self.old.moment at) self.old.reservations.items self.old.calendar }
         ensures room { HasRoom self.new }
         ensures spare { spare self.new ≡ spare self.old }

@@ -7,13 +7,13 @@ ghost use Rattle.drmaa_types.specs.declared.moments.End.{End};
 ghost use Rattle.drmaa_model.specs.declared.rows.Row.{Row};
 ghost use Rattle.drmaa_model.specs.Fit.{IsRising, number_of};
 ghost use Rattle.drmaa_model.specs.Rows.{row_of};
-ghost use Rattle.plan_book.specs.Places.{AreInOrder};
+ghost use Rattle.plan_book.specs.Places.{AreSorted};
 ghost use Rattle.plan_book.specs.Quiet.{IsLeftUntil, LastsUntil, acts_at, unless_stranded};
 
 use crate::book::opening_moment;
 use crate::courses::{is_unasked, lesser_end, optional_end};
-use crate::kept::Rows;
 use crate::states::{is_started, is_waiting};
+use crate::summed_rows::Rows;
 use crate::time::is_stranded;
 use drmaa_model::{Accepted, Course, Row};
 use drmaa_types::{End, JobId};
@@ -21,7 +21,7 @@ use drmaa_types::{End, JobId};
 /// The first moment at which time may act on a job that has this course: a waiting one may lapse, and a started one may be asked to
 /// end.
 pub fn acts_at(rs: &Vec<Accepted>, row: &Row, course: &Course) -> End
-    requires order { AreInOrder rs.now.items }
+    requires sorted { AreSorted rs.now.items }
     ensures { result ≡ acts_at rs.now.items (record row.now { course = course.now }) }
 {
     if is_waiting(course.state) {
@@ -54,7 +54,7 @@ fn end_or_never(end: Option<End>) -> End
 
 /// Before it time leaves a job as it is that goes on to this course.
 pub fn soonest_with(rs: &Vec<Accepted>, rows: &Rows, job: JobId, course: &Course) -> End
-    requires order { AreInOrder rs.now.items }
+    requires sorted { AreSorted rs.now.items }
     requires rising { IsRising number_of rows.now.items }
     ensures { (row : Row) → row_of job rows.now.items ≡ Some row → IsLeftUntil result rs.now.items (record row { course = course.now }) }
 {
@@ -66,7 +66,7 @@ pub fn soonest_with(rs: &Vec<Accepted>, rows: &Rows, job: JobId, course: &Course
 
 /// Before it time leaves each of the jobs as it is.
 pub fn soonest_of(rs: &Vec<Accepted>, rows: &Vec<Row>) -> End
-    requires order { AreInOrder rs.now.items }
+    requires sorted { AreSorted rs.now.items }
     ensures { AllByRecursion (IsLeftUntil result rs.now.items) rows.now.items }
 {
     let mut soonest = End::Never;

@@ -1,12 +1,12 @@
 //! Jobs that come in, and ended ones that are forgotten.
-ghost use Rattle.std.specs.Prelude.{◌≡◌, ◌≢◌, ◌+◌, ◌^◌, ◌<◌, ◌≤◌, ◌&&◌, ◌++◌, not, filter, length, vec_len, vec_capacity, Err, OnOk, OnErr};
+ghost use Rattle.std.specs.Prelude.{◌≡◌, ◌≢◌, ◌+◌, ◌^◌, ◌<◌, ◌≤◌, ◌&&◌, ◌++◌, not, true, filter, length, vec_len, vec_capacity, Err, OnOk, OnErr};
 ghost use Rattle.drmaa_model.specs.declared.rows.Row.{Row};
 ghost use Rattle.drmaa_model.specs.Controlling.{reap, is_done};
 ghost use Rattle.drmaa_model.specs.Fit.{IsFit};
 ghost use Rattle.drmaa_model.specs.Targets.{is_meant};
-ghost use Rattle.plan_book.specs.Book.{plan_of, HasRoom, IsKept, joined, spare, spare_rows};
+ghost use Rattle.plan_book.specs.Book.{plan_of, HasRoom, IsBook, joined, spare, spare_rows};
 ghost use Rattle.plan_book.specs.Occasions.{plan_at, StepsAt};
-ghost use Rattle.plan_book.specs.Places.{AreInOrder};
+ghost use Rattle.plan_book.specs.Places.{AreSorted};
 ghost use Rattle.plan_book.specs.Quiet.{IsQuiet};
 ghost use Rattle.plan_book.specs.Waiting.{AreWaiting};
 
@@ -15,38 +15,34 @@ use crate::book::Book;
 use crate::courses::lesser_end;
 use crate::occasions::Occasion;
 use crate::targets::{is_done, is_meant};
-use drmaa_model::{Row, Target};
-use drmaa_types::Refusal;
+use drmaa_model::{NoEntry, Row, Target};
 use std::alloc::AllocError;
 
 impl Book {
-    /// Takes jobs in on an occasion, where the journal and the memory have room for them. They wait, and have the next numbers;
-    /// `arrays` says how many array numbers they use.
+    /// Takes jobs in on an occasion. They wait, and have the next numbers; `arrays` says how many array numbers they use.
     ///
     /// # Errors
     ///
-    /// A journal that would be too large, and want of memory. Nothing has changed then.
+    /// A journal that would be too large, and else want of memory. Nothing has changed then.
     pub fn push_rows(
         &mut self,
         occasion: Occasion,
         rows: Vec<Row>,
         arrays: u64,
-    ) -> Result<(), Refusal>
-        requires kept { IsKept self.old }
+    ) -> Result<(), NoEntry>
+        requires book { IsBook self.old }
         requires few { length rows.items < 2 ^ 32 }
         requires waits { AreWaiting rows.items }
         requires next_job { (plan_of self.old).next_job + length rows.items < 2 ^ 64 }
         requires next_array { (plan_of self.old).next_array + arrays < 2 ^ 64 }
         requires fit { IsFit (joined rows.items arrays (plan_at occasion (plan_of self.old))) }
         ensures meets { StepsAt occasion (joined rows.items arrays) (plan_of self.old) result (plan_of self.new) }
-        ensures kept { IsKept self.new }
+        ensures book { IsBook self.new }
         ensures spare { spare self.old ≤ spare self.new + length rows.items }
         ensures err { OnErr result (spare self.old ≤ spare self.new) }
     {
         occasion.admit(self.weight() + rows.len() as u64)?;
-        if self.make_seats(rows.len()).is_err() {
-            return Err(Refusal::OutOfMemory);
-        }
+        self.make_seats(rows.len())?;
         self.advance(occasion.at, occasion.entry);
         self.put_rows(rows, arrays);
         Ok(())
@@ -76,7 +72,7 @@ impl Book {
         requires next_job { self.old.next_job + length rows.items < 2 ^ 64 }
         requires next_array { self.old.next_array + arrays < 2 ^ 64 }
         requires quiet { IsQuiet self.old.alarm (plan_of self.old) }
-        requires order { AreInOrder self.old.reservations.items }
+        requires sorted { AreSorted self.old.reservations.items }
         ensures plan { plan_of self.new ≡ joined rows.items arrays (plan_of self.old) }
         ensures calendar { self.new.calendar ≡ self.old.calendar }
         ensures room { HasRoom self.new }
@@ -89,17 +85,17 @@ impl Book {
         self.rows.append_rows(rows);
     }
 
-    /// Forgets the ended ones of the jobs that are meant, on an occasion, where the journal has room for that. It takes no memory.
+    /// Forgets the ended ones of the jobs that are meant, on an occasion. It takes no memory.
     ///
     /// # Errors
     ///
-    /// A journal that would be too large. Nothing has changed then.
-    pub fn drop_rows(&mut self, occasion: Occasion, target: &Target) -> Result<(), Refusal>
-        requires kept { IsKept self.old }
+    /// A journal that would be too large, and else want of memory for the entry. Nothing has changed then.
+    pub fn drop_rows(&mut self, occasion: Occasion, target: &Target) -> Result<(), NoEntry>
+        requires book { IsBook self.old }
         ensures meets { StepsAt occasion ((reap target.now).effect occasion.entry) (plan_of self.old) result (plan_of self.new) }
-        ensures kept { IsKept self.new }
+        ensures book { IsBook self.new }
         ensures spare { spare self.new ≡ spare self.old }
-        ensures memory { result ≢ Err Refusal.OutOfMemory }
+        ensures memory { occasion.has_memory ≡ true → result ≢ Err NoEntry.OutOfMemory }
     {
         occasion.admit(self.weight())?;
         self.advance(occasion.at, occasion.entry);

@@ -5,25 +5,25 @@ ghost use Rattle.std.specs.Option.{option_copied, option_map};
 ghost use Rattle.drmaa_types.specs.Queues.{most_queues};
 ghost use Rattle.drmaa_model.specs.declared.rows.Row.{Row};
 ghost use Rattle.drmaa_model.specs.Homes.{is_same_home};
-ghost use Rattle.drmaa_model.specs.Order.{held};
+ghost use Rattle.drmaa_model.specs.NextLaunch.{held};
 ghost use Rattle.drmaa_model.specs.Plan.{opening_plan};
 ghost use Rattle.drmaa_model.specs.Rows.{row_of};
 ghost use Rattle.drmaa_model.specs.Size.{weight};
 ghost use Rattle.drmaa_model.specs.Submitting.{kept_text, most_kept_text};
 ghost use Rattle.drmaa_model.specs.Time.{advance_plan, is_accepted, rows_at, lasts, lapsed, called_in};
 ghost use Rattle.drmaa_model.specs.Load.{is_member, reservation_of};
-ghost use Rattle.plan_book.specs.Book.{plan_of, calendar_of, IsKept, spare, course_then};
+ghost use Rattle.plan_book.specs.Book.{plan_of, calendar_of, IsBook, spare, course_then};
 ghost use Rattle.plan_book.specs.Facts.{facts_of};
 ghost use Rattle.plan_book.specs.Meant.{HasAllMeant};
 ghost use Rattle.plan_book.specs.Numbers.{HasNumbersOf};
 ghost use Rattle.plan_book.specs.Open.{AreOpen, IsPriorityBound};
 ghost use Rattle.plan_book.specs.Owed.{reports_to_come};
-ghost use Rattle.plan_book.specs.Places.{AreInOrder};
+ghost use Rattle.plan_book.specs.Places.{AreSorted};
 
-use crate::kept::Rows;
 use crate::reservations::{is_lasting, reservation_of};
 use crate::rows::Facts;
 use crate::spans::{NumberRange, no_numbers};
+use crate::summed_rows::Rows;
 use crate::time::{course_at, is_past};
 use drmaa_model::{Accepted, Course, Order, Row, Target};
 use drmaa_types::{ArrayId, Change, End, JobId, Moment, QueueList, Refusal, ReservationId};
@@ -72,7 +72,7 @@ impl Book {
     pub fn new(alloc: Global, slots: u32, queues: QueueList) -> Book
         requires few { length queues ≤ most_queues }
         ensures plan { plan_of result ≡ opening_plan slots queues }
-        ensures kept { IsKept result }
+        ensures book { IsBook result }
     {
         Book {
             total: slots,
@@ -92,9 +92,9 @@ impl Book {
 
     /// Takes the memory for so many further changes.
     pub fn reserve(&mut self, n: u32) -> Result<(), Refusal>
-        requires kept { IsKept self.old }
+        requires book { IsBook self.old }
         ensures plan { plan_of self.new ≡ plan_of self.old }
-        ensures kept { IsKept self.new }
+        ensures book { IsBook self.new }
         ensures spare { OnOk result (n ≤ spare self.new) }
         ensures more { spare self.old ≤ spare self.new }
         ensures err { IfErr result (λ why. why ≡ Refusal.OutOfMemory) }
@@ -127,7 +127,7 @@ impl Book {
 
     /// Whether time leaves all jobs as they are on its way to this moment. It looks at no job.
     pub fn is_quiet_at(&self, at: Moment) -> bool
-        requires kept { IsKept self.now }
+        requires book { IsBook self.now }
         ensures { result ≡ true → AllByRecursion (λ (row : Row). course_then at (plan_of self.now) row ≡ row.course) (plan_of self.now).rows }
     {
         !is_past(self.alarm, self.moment_at(at))
@@ -135,7 +135,7 @@ impl Book {
 
     /// What is known of a job once time has come to this moment.
     pub fn facts_at(&self, at: Moment, job: JobId) -> Option<Facts>
-        requires kept { IsKept self.now }
+        requires book { IsBook self.now }
         ensures { result ≡ option_map facts_of (row_of job (rows_at at (plan_of self.now))) }
     {
         let moment = self.moment_at(at);
@@ -147,7 +147,7 @@ impl Book {
 
     /// The machine's queues.
     pub fn queues(&self) -> &QueueList
-        requires kept { IsKept self.now }
+        requires book { IsBook self.now }
         ensures queues { result.now ≡ (plan_of self.now).queues }
         ensures few { length result.now ≤ most_queues }
     {
@@ -185,7 +185,7 @@ impl Book {
     /// The kept jobs, but for some at the front and at the end of which none is meant: that of one job alone, or those between the first
     /// and the last member of an array, or all where the array's span found no memory.
     pub fn meant_rows(&self, target: Target) -> &[Row]
-        requires kept { IsKept self.now }
+        requires book { IsBook self.now }
         ensures { HasAllMeant target (plan_of self.now).rows result.now }
     {
         self.rows.meant_rows(target)
@@ -194,7 +194,7 @@ impl Book {
     /// Numbers among which are those of all kept members of the array: from its first to its last, or all numbers up to the next one
     /// where its span found no memory.
     pub fn numbers_of_array(&self, array: ArrayId) -> NumberRange
-        requires kept { IsKept self.now }
+        requires book { IsBook self.now }
         ensures { HasNumbersOf (is_member array) (plan_of self.now).rows result }
     {
         self.numbers_or_all(self.rows.numbers_of_array(array))
@@ -203,7 +203,7 @@ impl Book {
     /// Numbers among which are those of all kept jobs of the home: from its first to its last, or all numbers up to the next one where
     /// its span found no memory. No job is of no home.
     pub fn numbers_of_home(&self, home: Option<u64>) -> NumberRange
-        requires kept { IsKept self.now }
+        requires book { IsBook self.now }
         ensures { HasNumbersOf (λ (row : Row). is_same_home home row.home) (plan_of self.now).rows result }
     {
         match home {
@@ -214,7 +214,7 @@ impl Book {
 
     /// These numbers, or all up to the next one.
     fn numbers_or_all(&self, range: Option<NumberRange>) -> NumberRange
-        requires kept { IsKept self.now }
+        requires book { IsBook self.now }
         ensures { (test : Row → Bool) → IfSome range (HasNumbersOf test (plan_of self.now).rows) → HasNumbersOf test (plan_of self.now).rows result }
     {
         match range {
@@ -235,7 +235,7 @@ impl Book {
 
     /// The slots that all jobs hold.
     pub fn held(&self) -> u32
-        requires kept { IsKept self.now }
+        requires book { IsBook self.now }
         ensures { result ≡ held (plan_of self.now).rows }
     {
         let _total = self.total(); // which is not less
@@ -309,7 +309,7 @@ impl Book {
 
     /// The course of a kept job once time has come to this moment.
     pub fn course_at(&self, at: Moment, row: &Row) -> Course
-        requires kept { IsKept self.now }
+        requires book { IsBook self.now }
         ensures { result ≡ (course_then at (plan_of self.now) row.now) }
     {
         course_at(&self.reservations, row, self.moment_at(at))
@@ -317,7 +317,7 @@ impl Book {
 
     /// The accepted reservation of this number as it is now, before time goes on, if there is one.
     pub fn reservation(&self, number: ReservationId) -> Option<&Accepted>
-        requires kept { IsKept self.now }
+        requires book { IsBook self.now }
         ensures { option_copied result ≡ reservation_of number (plan_of self.now).reservations }
     {
         reservation_of(&self.reservations, number)
@@ -325,7 +325,7 @@ impl Book {
 
     /// Whether a reservation will be accepted once time has come to this moment.
     pub fn is_accepted_at(&self, at: Moment, number: ReservationId) -> bool
-        requires kept { IsKept self.now }
+        requires book { IsBook self.now }
         ensures { result ≡ is_accepted (advance_plan 0 at (plan_of self.now)).reservations number }
     {
         is_lasting(&self.reservations, number, self.moment_at(at))
@@ -333,7 +333,7 @@ impl Book {
 
     /// The row of this job as it is now, before time goes on, if the job is kept.
     pub fn row(&self, job: JobId) -> Option<&Row>
-        requires kept { IsKept self.now }
+        requires book { IsBook self.now }
         ensures { option_copied result ≡ row_of job (plan_of self.now).rows }
     {
         self.rows.row_of(job)
@@ -349,7 +349,7 @@ pub fn opening_moment() -> Moment
 
 /// What is known of a job's row once time has come to this moment.
 fn facts_then(rs: &Vec<Accepted>, row: &Row, moment: Moment) -> Facts
-    requires order { AreInOrder rs.now.items }
+    requires sorted { AreSorted rs.now.items }
     ensures { result ≡ facts_of (called_in moment (filter (lasts moment) rs.now.items) (lapsed moment (filter (lasts moment) rs.now.items) row.now)) }
 {
     Facts {

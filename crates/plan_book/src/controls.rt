@@ -1,27 +1,25 @@
 //! A control call, on one job or on the members of an array: all jobs that it acts on go on in one step, or nothing changes.
-ghost use Rattle.std.specs.Prelude.{◌≡◌, ◌≢◌, ◌+◌, ◌^◌, ◌<◌, ◌≤◌, false, filter, length, Err, OnOk, OnErr, IsOk};
+ghost use Rattle.std.specs.Prelude.{◌≡◌, ◌≢◌, ◌+◌, ◌^◌, ◌<◌, ◌≤◌, true, false, filter, length, Err, OnOk, OnErr, IsOk};
 ghost use Rattle.drmaa_model.specs.Controlling.{control, is_controlled};
 ghost use Rattle.drmaa_model.specs.Fit.{IsFit};
-ghost use Rattle.drmaa_model.specs.Operation.{size_at};
 ghost use Rattle.drmaa_model.specs.Time.{lasts, rows_at};
 ghost use Rattle.drmaa_model.specs.TimeLaws.{timed};
-ghost use Rattle.plan_book.specs.Book.{plan_of, HasRoom, IsKept, spare, spare_orders};
-ghost use Rattle.plan_book.specs.Occasions.{plan_at, StepsAt};
-ghost use Rattle.plan_book.specs.Places.{AreInOrder};
+ghost use Rattle.plan_book.specs.Book.{plan_of, HasRoom, IsBook, spare, spare_orders};
+ghost use Rattle.plan_book.specs.Occasions.{StepsAt};
+ghost use Rattle.plan_book.specs.Places.{AreSorted};
 ghost use Rattle.plan_book.specs.Quiet.{IsQuiet};
-ghost use Rattle.plan_book.specs.Sweeps.{acted, growth, asking, is_asking};
+ghost use Rattle.plan_book.specs.Sweeps.{acted, growth, most_orders, may_add_order};
 
 use crate::book::Book;
 use crate::occasions::Occasion;
-use crate::sweeps::{ask_controls, is_controlled, note_controls};
+use crate::sweeps::{add_orders, is_controlled, note_controls};
 use crate::time::course_at;
-use drmaa_model::{Accepted, Row, Target};
-use drmaa_types::{Control, Moment, Refusal};
+use drmaa_model::{Accepted, NoEntry, Row, Target};
+use drmaa_types::{Control, Moment};
 use std::alloc::AllocError;
 
 impl Book {
-    /// Hold, release, suspend, resume or terminate each job that is meant and whose state permits it, on an occasion, where the
-    /// journal and the memory have room for that.
+    /// Hold, release, suspend, resume or terminate each job that is meant and whose state permits it, on an occasion.
     ///
     /// # Errors
     ///
@@ -31,25 +29,18 @@ impl Book {
         occasion: Occasion,
         target: &Target,
         what: Control,
-    ) -> Result<(), Refusal>
-        requires kept { IsKept self.old }
+    ) -> Result<(), NoEntry>
+        requires book { IsBook self.old }
         ensures meets { StepsAt occasion ((control target.now what).effect occasion.entry) (plan_of self.old) result (plan_of self.new) }
-        ensures kept { IsKept self.new }
+        ensures book { IsBook self.new }
         ensures spare { spare self.old ≤ spare self.new + growth what (acted target.now what (rows_at occasion.at (plan_of self.old))) }
         ensures err { OnErr result (spare self.old ≤ spare self.new) }
-        ensures memory { growth what (acted target.now what (rows_at occasion.at (plan_of self.old))) ≤ spare self.old → is_asking what ≡ false
-            → result ≢ Err Refusal.OutOfMemory }
-        ensures sized { occasion.limit < size_at occasion.entry ((control target.now what).effect occasion.entry (plan_at occasion (plan_of self.old)))
-            → result ≢ Err Refusal.OutOfMemory }
+        ensures memory { occasion.has_memory ≡ true → growth what (acted target.now what (rows_at occasion.at (plan_of self.old))) ≤ spare self.old
+            → may_add_order what ≡ false → result ≢ Err NoEntry.OutOfMemory }
     {
         let acted = self.acted(occasion.at, target, what);
         occasion.admit(self.weight() + growth(what, acted) as u64)?;
-        if self
-            .make_share(growth(what, acted), asking(what, acted))
-            .is_err()
-        {
-            return Err(Refusal::OutOfMemory);
-        }
+        self.make_share(growth(what, acted), most_orders(what, acted))?;
         self.advance(occasion.at, occasion.entry);
         self.control_now(occasion.entry, target, what);
         Ok(())
@@ -57,7 +48,7 @@ impl Book {
 
     /// On how many jobs the call will act.
     fn acted(&self, at: Moment, target: &Target, what: Control) -> usize
-        requires kept { IsKept self.now }
+        requires book { IsBook self.now }
         ensures value { result ≡ acted target.now what (rows_at at (plan_of self.now)) }
         ensures few { result ≤ 4_000_000 }
     {
@@ -85,7 +76,7 @@ impl Book {
         ensures quiet { IsQuiet self.old.alarm (plan_of self.old) → IsQuiet self.new.alarm (plan_of self.new) }
     {
         self.changes.reserve(self.rows.owed() + changes)?;
-        self.orders.reserve(self.rows.askable() + orders)
+        self.orders.reserve(self.rows.owed_kills() + orders)
     }
 
     /// The jobs go on, where there is room for that.
@@ -93,7 +84,7 @@ impl Book {
         requires room { HasRoom self.old }
         requires fit { IsFit (plan_of self.old) }
         requires changes { growth what (acted target.now what self.old.rows.items) ≤ spare self.old }
-        requires orders { asking what (acted target.now what self.old.rows.items) ≤ spare_orders self.old }
+        requires orders { most_orders what (acted target.now what self.old.rows.items) ≤ spare_orders self.old }
         ensures plan { plan_of self.new ≡ (control target.now what).effect entry (plan_of self.old) }
         ensures calendar { self.new.calendar ≡ self.old.calendar }
         ensures room { HasRoom self.new }
@@ -108,7 +99,7 @@ impl Book {
             target,
             what,
         );
-        ask_controls(
+        add_orders(
             self.rows.meant_rows(*target),
             &mut self.orders,
             target,
@@ -128,8 +119,8 @@ fn growth(what: Control, n: usize) -> usize
     }
 }
 
-fn asking(what: Control, n: usize) -> usize
-    ensures value { result ≡ asking what n }
+fn most_orders(what: Control, n: usize) -> usize
+    ensures value { result ≡ most_orders what n }
     ensures few { result ≤ n }
 {
     match what {
@@ -146,7 +137,7 @@ fn acted_then(
     target: &Target,
     what: Control,
 ) -> usize
-    requires order { AreInOrder rs.now.items }
+    requires sorted { AreSorted rs.now.items }
     ensures { result ≡ length (filter (λ row. is_controlled target.now what (timed moment (filter (lasts moment) rs.now.items) row)) rows.now) }
 {
     let mut acted = 0;
@@ -166,7 +157,7 @@ fn is_controlled_then(
     target: &Target,
     what: Control,
 ) -> bool
-    requires order { AreInOrder rs.now.items }
+    requires sorted { AreSorted rs.now.items }
     ensures { result ≡ is_controlled target.now what (timed moment (filter (lasts moment) rs.now.items) row.now) }
 {
     is_controlled(target, row, &course_at(rs, row, moment), what)

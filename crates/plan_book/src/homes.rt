@@ -6,7 +6,7 @@ ghost use Rattle.drmaa_model.specs.Effects.{left_by, is_forgotten, forget_home};
 ghost use Rattle.drmaa_model.specs.Homes.{is_same_home};
 ghost use Rattle.drmaa_model.specs.Size.{weight};
 ghost use Rattle.drmaa_model.specs.Time.{advance_plan};
-ghost use Rattle.plan_book.specs.Book.{plan_of, IsKept, spare};
+ghost use Rattle.plan_book.specs.Book.{plan_of, IsBook, spare};
 
 use crate::book::Book;
 use crate::targets::is_done;
@@ -17,10 +17,10 @@ impl Book {
     /// Forgets a home at a moment: its ended jobs go, and its other jobs and its reservations are left without one. It has no
     /// limit, since the journal's size stays the same, and takes no memory.
     pub fn forget_home(&mut self, at: Moment, entry: u64, home: u64)
-        requires kept { IsKept self.old }
+        requires book { IsBook self.old }
         ensures plan { plan_of self.new ≡ forget_home home (advance_plan entry at (plan_of self.old)) }
         ensures size { weight (plan_of self.new) ≡ weight (plan_of self.old) }
-        ensures kept { IsKept self.new }
+        ensures book { IsBook self.new }
         ensures spare { spare self.new ≡ spare self.old }
     {
         self.advance(at, entry);

@@ -5,7 +5,7 @@ ghost use Rattle.std.specs.List.{AllByRecursion, flat_map};
 ghost use Rattle.drmaa_model.specs.Time.{lapsed, called_in};
 ghost use Rattle.drmaa_model.specs.TimeLaws.{timed};
 ghost use Rattle.plan_book.specs.Lapses.{ends, kills, kills_then};
-ghost use Rattle.plan_book.specs.Places.{AreInOrder};
+ghost use Rattle.plan_book.specs.Places.{AreSorted};
 ghost use Rattle.plan_book.specs.Quiet.{IsLeftUntil};
 ghost use Rattle.plan_book.specs.Sums.{AreSums};
 
@@ -32,7 +32,7 @@ fn expire_row(
     moment: Moment,
     entry: u64,
 )
-    requires order { AreInOrder rs.now.items }
+    requires sorted { AreSorted rs.now.items }
     requires room { vec_len changes.old + length (ends entry moment rs.now.items row.old) ≤ vec_capacity changes.old }
     ensures row { row.new ≡ lapsed moment rs.now.items row.old }
     ensures items { changes.new.items ≡ changes.old.items ++ ends entry moment rs.now.items row.old }
@@ -54,7 +54,7 @@ fn expire_row(
 
 /// Asks for the end of a started job whose time is over.
 fn call_in_row(rs: &Vec<Accepted>, row: &mut Row, orders: &mut Vec<Order>, moment: Moment)
-    requires order { AreInOrder rs.now.items }
+    requires sorted { AreSorted rs.now.items }
     requires room { vec_len orders.old + length (kills moment rs.now.items row.old) ≤ vec_capacity orders.old }
     ensures row { row.new ≡ called_in moment rs.now.items row.old }
     ensures items { orders.new.items ≡ orders.old.items ++ kills moment rs.now.items row.old }
@@ -81,7 +81,7 @@ pub fn sweep_rows(
     moment: Moment,
     entry: u64,
 ) -> Swept
-    requires order { AreInOrder rs.now.items }
+    requires sorted { AreSorted rs.now.items }
     requires few { length rows.old < 2 ^ 63 }
     requires changes { vec_len changes.old + length (flat_map (ends entry moment rs.now.items) rows.old) ≤ vec_capacity changes.old }
     requires orders { vec_len orders.old + length (flat_map (kills_then moment rs.now.items) rows.old) ≤ vec_capacity orders.old }

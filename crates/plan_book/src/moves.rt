@@ -1,5 +1,5 @@
 //! What an operation does to one job.
-use crate::rooms::{may_ask, owes};
+use crate::rooms::{owes, owes_kill};
 use crate::states::is_state;
 use drmaa_model::Course;
 use drmaa_types::{JobId, SignalKind};
@@ -10,7 +10,7 @@ use reservation_calendar::Booking;
 pub enum Edit {
     Keep,
     /// One more, for the job.
-    Ask(SignalKind),
+    Add(SignalKind),
     /// Those for the job go.
     Clear,
     /// The first one for the job of this kind that was not handed out is handed out.
@@ -41,7 +41,7 @@ pub struct Move {
 }
 
 ghost use Rattle.std.specs.Prelude.{◌≡◌, ◌≤◌};
-ghost use Rattle.plan_book.specs.Book.{changed, asked, grows, asks};
+ghost use Rattle.plan_book.specs.Book.{changed, added_orders, grows, more_orders};
 
 impl Move {
     /// How many changes it adds.
@@ -65,20 +65,20 @@ impl Move {
     }
 
     /// How much room for orders it wants beside what is promised.
-    pub fn asks(&self) -> usize
-        ensures value { result ≡ asks self.now }
+    pub fn more_orders(&self) -> usize
+        ensures value { result ≡ more_orders self.now }
         ensures few { result ≤ 2 }
     {
-        (may_ask(&self.after) + asked(self.orders)).saturating_sub(may_ask(&self.before))
+        (owes_kill(&self.after) + added_orders(self.orders)).saturating_sub(owes_kill(&self.before))
     }
 }
 
-fn asked(edit: Edit) -> usize
-    ensures value { result ≡ asked edit }
+fn added_orders(edit: Edit) -> usize
+    ensures value { result ≡ added_orders edit }
     ensures few { result ≤ 1 }
 {
     match edit {
-        Edit::Ask(_) => 1,
+        Edit::Add(_) => 1,
         Edit::Keep | Edit::Clear | Edit::Take(_) | Edit::Drop(_) => 0,
     }
 }

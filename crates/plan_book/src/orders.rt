@@ -3,7 +3,7 @@ ghost use Rattle.std.specs.Prelude.{◌≡◌, ◌+◌, ◌≤◌, vec_len, vec_
 ghost use Rattle.std.specs.List.{list_any};
 ghost use Rattle.drmaa_model.specs.Launching.{take_first};
 ghost use Rattle.drmaa_model.specs.Reporting.{orders_without, drop_first, signal_number};
-ghost use Rattle.plan_book.specs.Book.{edited, asked, is_order};
+ghost use Rattle.plan_book.specs.Book.{edited, added_orders, is_order};
 ghost use Rattle.plan_book.specs.Places.{IsFirstTo};
 
 use crate::moves::Edit;
@@ -12,14 +12,14 @@ use drmaa_types::{JobId, SignalKind};
 
 /// What a move does to the orders.
 pub fn edit_orders(orders: &mut Vec<Order>, job: JobId, edit: Edit)
-    requires { vec_len orders.old + asked edit ≤ vec_capacity orders.old }
+    requires { vec_len orders.old + added_orders edit ≤ vec_capacity orders.old }
     ensures items { orders.new.items ≡ edited edit job orders.old.items }
-    ensures len { vec_len orders.new ≤ vec_len orders.old + asked edit }
+    ensures len { vec_len orders.new ≤ vec_len orders.old + added_orders edit }
     ensures capacity { vec_capacity orders.new ≡ vec_capacity orders.old }
 {
     match edit {
         Edit::Keep => {}
-        Edit::Ask(kind) => orders.push_reserved(Order {
+        Edit::Add(kind) => orders.push_reserved(Order {
             job,
             kind,
             taken: false,

@@ -1,7 +1,7 @@
 //! The room that is promised to a job: in the journal, and in the memory for what time and its reports will add.
 ghost use Rattle.std.specs.Prelude.{◌≡◌, ◌≤◌};
 ghost use Rattle.drmaa_model.specs.Size.{room_of};
-ghost use Rattle.plan_book.specs.Owed.{owes, may_ask, reports_due};
+ghost use Rattle.plan_book.specs.Owed.{owes, owes_kill, reports_due};
 
 use crate::courses::is_unasked;
 use crate::states::{is_started, is_waiting};
@@ -34,8 +34,8 @@ pub fn owes(course: &Course) -> usize
 }
 
 /// The orders that time may ask for a job.
-pub fn may_ask(course: &Course) -> usize
-    ensures value { result ≡ may_ask course.now }
+pub fn owes_kill(course: &Course) -> usize
+    ensures value { result ≡ owes_kill course.now }
     ensures few { result ≤ 1 }
 {
     if !is_started(course.state) {

@@ -9,7 +9,7 @@ ghost use Rattle.drmaa_model.specs.Effects.{left_by, is_forgotten};
 ghost use Rattle.drmaa_model.specs.Targets.{is_meant};
 ghost use Rattle.drmaa_model.specs.TimeLaws.{timed};
 ghost use Rattle.plan_book.specs.Lapses.{ends, kills_then};
-ghost use Rattle.plan_book.specs.Places.{AreInOrder};
+ghost use Rattle.plan_book.specs.Places.{AreSorted};
 ghost use Rattle.plan_book.specs.Quiet.{IsLeftUntil};
 ghost use Rattle.plan_book.specs.Sums.{AreSums};
 
@@ -101,7 +101,7 @@ impl RowList {
         entry: u64,
     ) -> Swept
         requires within { from ≤ length self.old.items }
-        requires order { AreInOrder rs.now.items }
+        requires sorted { AreSorted rs.now.items }
         requires changes { vec_len changes.old + length (flat_map (ends entry moment rs.now.items) (drop from self.old.items)) ≤ vec_capacity changes.old }
         requires orders { vec_len orders.old + length (flat_map (kills_then moment rs.now.items) (drop from self.old.items)) ≤ vec_capacity orders.old }
         ensures items { self.new.items ≡ take from self.old.items ++ map (timed moment rs.now.items) (drop from self.old.items) }
@@ -122,7 +122,7 @@ impl RowList {
 
     /// Those of the jobs between these places on which the call acts go on.
     pub fn control_rows(&mut self, places: Places, moment: Moment, target: &Target, what: Control)
-        requires order { places.from ≤ places.until }
+        requires span { places.from ≤ places.until }
         requires within { places.until ≤ length self.old.items }
         ensures { self.new.items ≡ take places.from self.old.items ++ (map (control_step moment target.now what) (take (places.until - places.from) (drop places.from self.old.items)) ++ drop places.until self.old.items) }
     {

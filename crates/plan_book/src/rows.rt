@@ -49,7 +49,7 @@ pub struct Places {
 /// Where the rows stand that have the numbers from the first to the last. They are found by halves.
 pub fn places_within(rows: &[Row], first: u64, last: u64) -> Places
     requires rising { IsRising number_of rows.now }
-    ensures order { result.from ≤ result.until }
+    ensures span { result.from ≤ result.until }
     ensures within { result.until ≤ length rows.now }
     ensures before { AllByRecursion (λ (row : Row). row.job.0 < first) (take result.from rows.now) }
     ensures behind { AllByRecursion (λ (row : Row). last < row.job.0) (drop result.until rows.now) }

@@ -5,7 +5,7 @@ ghost use Rattle.std.specs.Prelude.{◌≡◌, ◌<◌, ◌≤◌, ℕ, true, No
 ghost use Rattle.std.specs.List.{AllByRecursion};
 ghost use Rattle.drmaa_model.specs.Fit.{IsRising};
 ghost use Rattle.plan_book.specs.Places.{IsAt};
-ghost use Rattle.plan_book.specs.Spans.{AreOrdered, AreSpanned, IsInArraySpan, IsInHomeSpan, IsInSpan, IsOrdered, IsSpanned, IsWithin, Keeps, span_number, span_of, widened};
+ghost use Rattle.plan_book.specs.Spans.{AreBothSorted, AreSpanned, IsInArraySpan, IsInHomeSpan, IsInSpan, IsSorted, IsSpanned, IsWithin, Keeps, span_number, span_of, widened};
 
 use drmaa_model::Row;
 use std::alloc::Global;
@@ -38,7 +38,7 @@ pub struct SpanList {
 impl SpanList {
     /// Those of no jobs. It takes no memory.
     fn new(alloc: Global) -> SpanList
-        ensures { IsOrdered result }
+        ensures { IsSorted result }
     {
         SpanList {
             list: Vec::new(alloc),
@@ -48,7 +48,7 @@ impl SpanList {
 
     /// Between which numbers the jobs of the group stand. None where they may stand anywhere.
     pub fn numbers_of(&self, group: u64) -> Option<NumberRange>
-        requires { IsOrdered self.now }
+        requires { IsSorted self.now }
         ensures { IfSome result (λ range. (job : ℕ) → IsWithin group job self.now → (range.first ≤ job) × (job ≤ range.last)) }
     {
         if group <= self.unspanned {
@@ -62,8 +62,8 @@ impl SpanList {
 
     /// A job comes in. Where a new span finds no memory, groups up to its own do without.
     fn put_member(&mut self, group: u64, job: u64)
-        requires { IsOrdered self.old }
-        ensures order { IsOrdered self.new }
+        requires { IsSorted self.old }
+        ensures sorted { IsSorted self.new }
         ensures keeps { Keeps self.old self.new }
         ensures member { IsWithin group job self.new }
     {
@@ -74,7 +74,7 @@ impl SpanList {
 
     /// Those of no jobs.
     fn clear(&mut self)
-        ensures { IsOrdered self.new }
+        ensures { IsSorted self.new }
     {
         self.list.clear();
         self.unspanned = 0;
@@ -101,8 +101,8 @@ impl Spans {
 
     /// Jobs come in.
     pub fn put_rows(&mut self, more: &[Row])
-        requires { AreOrdered self.old }
-        ensures order { AreOrdered self.new }
+        requires { AreBothSorted self.old }
+        ensures sorted { AreBothSorted self.new }
         ensures arrays { Keeps self.old.arrays self.new.arrays }
         ensures homes { Keeps self.old.homes self.new.homes }
         ensures members { AllByRecursion (IsSpanned self.new) more.now }
@@ -113,8 +113,8 @@ impl Spans {
     }
 
     fn put_row(&mut self, row: &Row)
-        requires { AreOrdered self.old }
-        ensures order { AreOrdered self.new }
+        requires { AreBothSorted self.old }
+        ensures sorted { AreBothSorted self.new }
         ensures arrays { Keeps self.old.arrays self.new.arrays }
         ensures homes { Keeps self.old.homes self.new.homes }
         ensures member { IsSpanned self.new row.now }
@@ -147,8 +147,8 @@ impl Spans {
 
 /// The job comes in, which may be a member of an array.
 fn put_in_array(arrays: &mut SpanList, row: &Row)
-    requires { IsOrdered arrays.old }
-    ensures order { IsOrdered arrays.new }
+    requires { IsSorted arrays.old }
+    ensures sorted { IsSorted arrays.new }
     ensures keeps { Keeps arrays.old arrays.new }
     ensures member { IsInArraySpan arrays.new row.now }
 {
@@ -160,8 +160,8 @@ fn put_in_array(arrays: &mut SpanList, row: &Row)
 
 /// The job comes in, which may belong to a home.
 fn put_in_home(homes: &mut SpanList, row: &Row)
-    requires { IsOrdered homes.old }
-    ensures order { IsOrdered homes.new }
+    requires { IsSorted homes.old }
+    ensures sorted { IsSorted homes.new }
     ensures keeps { Keeps homes.old homes.new }
     ensures member { IsInHomeSpan homes.new row.now }
 {
@@ -187,7 +187,7 @@ pub fn no_numbers() -> NumberRange {
 
 /// Where the span of the group stands, or where it would. It is found by halves.
 fn place_of(spans: &Vec<Span>, group: u64) -> Result<usize, usize>
-    requires order { IsRising span_number spans.now.items }
+    requires sorted { IsRising span_number spans.now.items }
     ensures found { IfOk result (IsAt span_number group spans.now.items) }
     ensures absent { IfErr result (λ _. span_of group spans.now.items ≡ None) }
     ensures below { IfErr result (λ place. AllByRecursion (λ span. span.group < group) (take place spans.now.items)) }
@@ -200,7 +200,7 @@ fn place_of(spans: &Vec<Span>, group: u64) -> Result<usize, usize>
 /// Whether the span of the group has the number then, where it takes memory for a new one.
 fn put_number(spans: &mut Vec<Span>, group: u64, job: u64) -> bool
     requires { IsRising span_number spans.old.items }
-    ensures order { IsRising span_number spans.new.items }
+    ensures sorted { IsRising span_number spans.new.items }
     ensures keeps { (other number : ℕ) → IsInSpan other number spans.old.items → IsInSpan other number spans.new.items }
     ensures member { result ≡ true → IsInSpan group job spans.new.items }
 {

@@ -2,7 +2,7 @@
 ghost use Rattle.std.specs.Prelude.{◌≡◌, ◌<◌, ◌^◌, length, []};
 ghost use Rattle.plan_book.specs.Sums.{AreSums, AreFew, AreAmong, AreParts, with_job, with_others, without_job, without_others};
 
-use crate::rooms::{may_ask, owes, reports_due, room_of};
+use crate::rooms::{owes, owes_kill, reports_due, room_of};
 use drmaa_model::{Course, Row};
 
 /// What all rows come to. The sums have 128 bits, which no number of rows fills.
@@ -13,7 +13,7 @@ pub struct Sums {
     /// The changes that they may still make with no memory.
     pub owed: u128,
     /// The orders that time may ask for them.
-    pub askable: u128,
+    pub owed_kills: u128,
     /// The slots that they hold.
     pub held: u128,
     /// The reports of starts and ends that their processes may still bring.
@@ -27,7 +27,7 @@ pub fn no_sums() -> Sums
     Sums {
         promised: 0,
         owed: 0,
-        askable: 0,
+        owed_kills: 0,
         held: 0,
         reports: 0,
     }
@@ -54,7 +54,7 @@ pub fn with_job(sums: &Sums, course: &Course) -> Sums
     Sums {
         promised: sums.promised + u128::from(room_of(course)),
         owed: sums.owed + owes(course) as u128,
-        askable: sums.askable + may_ask(course) as u128,
+        owed_kills: sums.owed_kills + owes_kill(course) as u128,
         held: sums.held + wide(course.held),
         reports: sums.reports + u128::from(reports_due(course.phase)),
     }
@@ -69,7 +69,7 @@ pub fn with_others(sums: &Sums, others: &Sums) -> Sums
     Sums {
         promised: sums.promised + others.promised,
         owed: sums.owed + others.owed,
-        askable: sums.askable + others.askable,
+        owed_kills: sums.owed_kills + others.owed_kills,
         held: sums.held + others.held,
         reports: sums.reports + others.reports,
     }
@@ -83,7 +83,7 @@ pub fn without_others(sums: &Sums, others: &Sums) -> Sums
     Sums {
         promised: sums.promised - others.promised,
         owed: sums.owed - others.owed,
-        askable: sums.askable - others.askable,
+        owed_kills: sums.owed_kills - others.owed_kills,
         held: sums.held - others.held,
         reports: sums.reports - others.reports,
     }
@@ -109,7 +109,7 @@ pub fn without_job(sums: &Sums, course: &Course) -> Sums
     Sums {
         promised: sums.promised - u128::from(room_of(course)),
         owed: sums.owed - owes(course) as u128,
-        askable: sums.askable - may_ask(course) as u128,
+        owed_kills: sums.owed_kills - owes_kill(course) as u128,
         held: sums.held - wide(course.held),
         reports: sums.reports - u128::from(reports_due(course.phase)),
     }

@@ -76,7 +76,7 @@ pub fn note_controls(
     }
 }
 
-fn ask_control(row: &Row, orders: &mut Vec<Order>, target: &Target, what: Control)
+fn add_order(row: &Row, orders: &mut Vec<Order>, target: &Target, what: Control)
     requires { vec_len orders.old + length (asked_orders target.now what row.now) ≤ vec_capacity orders.old }
     ensures items { orders.new.items ≡ orders.old.items ++ asked_orders target.now what row.now }
     ensures len { vec_len orders.new ≡ vec_len orders.old + length (asked_orders target.now what row.now) }
@@ -95,14 +95,14 @@ fn ask_control(row: &Row, orders: &mut Vec<Order>, target: &Target, what: Contro
 }
 
 /// Adds the orders that the call asks for to these jobs.
-pub fn ask_controls(rows: &[Row], orders: &mut Vec<Order>, target: &Target, what: Control)
+pub fn add_orders(rows: &[Row], orders: &mut Vec<Order>, target: &Target, what: Control)
     requires { vec_len orders.old + length (flat_map (asked_orders target.now what) rows.now) ≤ vec_capacity orders.old }
     ensures items { orders.new.items ≡ orders.old.items ++ flat_map (asked_orders target.now what) rows.now }
     ensures len { vec_len orders.new ≡ vec_len orders.old + length (flat_map (asked_orders target.now what) rows.now) }
     ensures capacity { vec_capacity orders.new ≡ vec_capacity orders.old }
 {
     for row in rows {
-        ask_control(row, orders, target, what);
+        add_order(row, orders, target, what);
     }
 }
 

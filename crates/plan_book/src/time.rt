@@ -4,7 +4,7 @@ ghost use Rattle.drmaa_types.specs.States.{is_waiting, is_started};
 ghost use Rattle.drmaa_model.specs.Courses.{is_unasked};
 ghost use Rattle.drmaa_model.specs.Time.{lasts, is_late, is_past, is_over, is_stranded, lapses, lapsed, is_due, called_in};
 ghost use Rattle.reservation_calendar.specs.Schedules.{without};
-ghost use Rattle.plan_book.specs.Places.{AreInOrder};
+ghost use Rattle.plan_book.specs.Places.{AreSorted};
 ghost use Rattle.plan_book.specs.Ties.{let_go_of};
 
 use crate::courses::{called, failed, is_unasked};
@@ -16,7 +16,7 @@ use reservation_calendar::{Calendar, Key};
 
 /// Whether the job names a reservation that is gone.
 pub fn is_stranded(rs: &Vec<Accepted>, row: &Row) -> bool
-    requires order { AreInOrder rs.now.items }
+    requires sorted { AreSorted rs.now.items }
     ensures { result ≡ is_stranded rs.now.items row.now }
 {
     match row.wants.reservation {
@@ -55,7 +55,7 @@ fn is_over(row: &Row, moment: Moment) -> bool
 
 /// Whether a waiting job's time is over.
 pub fn lapses(rs: &Vec<Accepted>, row: &Row, moment: Moment) -> bool
-    requires order { AreInOrder rs.now.items }
+    requires sorted { AreSorted rs.now.items }
     ensures { result ≡ lapses moment rs.now.items row.now }
 {
     lapses_where(row, moment, is_stranded(rs, row))
@@ -71,7 +71,7 @@ fn lapses_where(row: &Row, moment: Moment, stranded: bool) -> bool
 }
 
 fn is_stranded_at(rs: &Vec<Accepted>, row: &Row, moment: Moment) -> bool
-    requires order { AreInOrder rs.now.items }
+    requires sorted { AreSorted rs.now.items }
     ensures { result ≡ is_stranded (filter (lasts moment) rs.now.items) row.now }
 {
     match row.wants.reservation {
@@ -82,7 +82,7 @@ fn is_stranded_at(rs: &Vec<Accepted>, row: &Row, moment: Moment) -> bool
 
 /// A job's course once time has come to this moment.
 pub fn course_at(rs: &Vec<Accepted>, row: &Row, moment: Moment) -> Course
-    requires order { AreInOrder rs.now.items }
+    requires sorted { AreSorted rs.now.items }
     ensures { result ≡ (called_in moment (filter (lasts moment) rs.now.items) (lapsed moment (filter (lasts moment) rs.now.items) row.now)).course }
 {
     let stranded = is_stranded_at(rs, row, moment);
@@ -108,7 +108,7 @@ pub fn lapse_note(row: &Row, moment: Moment) -> Note
 
 /// Whether a started job's time is over, which is not asked to end.
 pub fn is_due(rs: &Vec<Accepted>, row: &Row, moment: Moment) -> bool
-    requires order { AreInOrder rs.now.items }
+    requires sorted { AreSorted rs.now.items }
     ensures { result ≡ is_due moment rs.now.items row.now }
 {
     is_due_where(row, moment, is_stranded(rs, row))

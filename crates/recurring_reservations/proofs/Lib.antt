@@ -1,3 +1,4 @@
+mod AnswerLaws
 mod Beyond
 mod DenialLaws
 mod Found

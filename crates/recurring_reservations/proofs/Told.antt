@@ -1,13 +1,8 @@
 -- What the machine's answer to a request tells.
-use Rattle.std.proofs.Common.{◌≡◌, ℕ, Bool, true, false, cond, List, [], ◌∷◌, Some, None, Result, Ok, Err, IfOk, IfErr, refl, sym, ap, subst, ◌∙◌, inl, inr}
+use Rattle.std.proofs.Common.{◌≡◌, ℕ, [], ◌∷◌, Some, None, Result, Ok, Err, IfOk, IfErr, refl, sym, ap, subst, ◌∙◌, inl, inr}
 use Rattle.std.specs.Prelude.{◌⊎◌}
-use Rattle.std.proofs.lemmas.Option.{same_Some}
-use Rattle.drmaa_types.specs.Refusals.{first_refusal}
 use Rattle.drmaa_types.specs.declared.infos.Reserved.{Reserved}
-use Rattle.drmaa_types.specs.declared.refusals.Limit.TheVariants as limit
 use Rattle.drmaa_types.specs.declared.refusals.Refusal.{Refusal}
-use Rattle.drmaa_types.specs.declared.refusals.Refusal.TheVariants as why
-use Rattle.drmaa_types.specs.declared.sessions.SessionKind.TheVariants.{Reservations}
 use Rattle.job_template.specs.declared.templates.ReservationTemplate.{ReservationTemplate}
 use Rattle.drmaa_model.specs.declared.faults.NoEntry.{NoEntry}
 use Rattle.drmaa_model.specs.declared.faults.NoEntry.TheVariants as fault
@@ -15,9 +10,8 @@ use Rattle.drmaa_model.specs.declared.replies.Reply.{Reply}
 use Rattle.drmaa_model.specs.declared.replies.Reply.TheVariants as reply
 use Rattle.drmaa_model.specs.AnswerLaws.{refused-gives, served-gives}
 use Rattle.drmaa_model.specs.Effects.{StepAnswer, gives, not_yet, nothing}
+use Rattle.drmaa_model.specs.Faults.{refusal_for}
 use Rattle.drmaa_model.specs.History.{Ledger, now_of}
-use Rattle.drmaa_model.specs.Homes.{session_test}
-use Rattle.drmaa_model.specs.Operation.{is_answer}
 use Rattle.drmaa_model.specs.Refusals.{refusal}
 use Rattle.drmaa_model.specs.Steps.{answer_now, IsStep}
 use Rattle.drmaa_model.specs.Time.{advance}
@@ -29,8 +23,8 @@ use Rattle.recurring_reservations.proofs.HoldLaws.{gives-same, acceptance, accep
 use Rattle.recurring_reservations.specs.Requests.{asking, entry_of, by_entry, by_memory, by_size}
 use Rattle.recurring_reservations.proofs.RequestLaws.{with-none}
 use Rattle.recurring_reservations.specs.Steps.{Grants, Denies}
-use Rattle.drmaa_model.specs.Requests.{reserved_as, request_tests}
-use Rattle.scheduler_core.proofs.TableLaws.{request-answers}
+use Rattle.drmaa_model.specs.Requests.{reserved_as}
+use Rattle.recurring_reservations.proofs.AnswerLaws.{refusal-answers}
 
 -- ---- a reply
 
@@ -43,17 +37,6 @@ told-is a v t told next answered =
       | Some reason ↦ λ e. inr (reason, e, sym (gives-same (reply.Refused reason) told (counted v) next (sym (refused-gives a.at v (asking a t) reason e) ∙ answered)).0)
       | None ↦ λ e. inl (reserved_as (acceptance a v t), sym (gives-same (reply.Reserved (reserved_as (acceptance a v t))) told (accepted_world a v t) next (sym (served-gives a.at v (asking a t) e) ∙ answered)).0)
     ]) refl
-
--- a refusal by an entry is an answer
-answers : (a : Asker) (v : World) (t : ReservationTemplate) (reason : Refusal) → refusal v (asking a t) ≡ Some reason → is_answer reason ≡ true
-answers a v t reason is = answers-first (session_test (Reservations ∷ []) a.session v) (request_tests t v.plan) reason refl (request-answers t v.plan reason) is
-  where
-    answers-first : (test : Bool × Refusal) (tests : List (Bool × Refusal)) (why : Refusal) → is_answer test.1 ≡ true → (first_refusal tests ≡ Some why → is_answer why ≡ true) → first_refusal (test ∷ tests) ≡ Some why → is_answer why ≡ true
-    answers-first test tests why first others is =
-        (elim test.0 as (λ b. cond b (Some test.1) (first_refusal tests) ≡ Some why → is_answer why ≡ true) [
-          | true ↦ λ e. subst (λ (r : Refusal). is_answer r ≡ true) (same_Some _ _ e) first
-          | false ↦ λ e. others e
-        ]) is
 
 -- what the answer tells, which is the number or the refusal in the reply
 pub record Tells (a : Asker) (t : ReservationTemplate) (old : Ledger) (result : Result ℕ Refusal) (new : Ledger) : Type 0 where
@@ -69,7 +52,7 @@ tells a t old new told result step made reserved refused =
           (record { ok = record { given = given; number_is = refl; made = made ∙ ap (λ (r : Reply). served old (entry_of a (asking a t) r)) is }; err = tt })
       | inr (reason, why_so, is) ↦
           subst (λ (r : Result ℕ Refusal). Tells a t old r new) (sym (refused reason is))
-          (record { ok = tt; err = record { refused = entry_of a (asking a t) (reply.Refused reason) ∷ []; cause = by_entry why_so (answers a (advance (now_of old) a.at) t reason why_so) refl; made = made ∙ ap (λ (r : Reply). served old (entry_of a (asking a t) r)) is } })
+          (record { ok = tt; err = record { refused = entry_of a (asking a t) (reply.Refused reason) ∷ []; cause = by_entry why_so (refusal-answers a (advance (now_of old) a.at) t reason why_so) refl; made = made ∙ ap (λ (r : Reply). served old (entry_of a (asking a t) r)) is } })
     ]
 
 -- ---- no reply
@@ -89,8 +72,8 @@ not-nothing : (r : Reply) (w : World) → gives r w ≡ nothing → ⊥
 not-nothing r w e = cc
 
 pub unanswered : (a : Asker) (t : ReservationTemplate) (old new : Ledger) (f : NoEntry) (reason : Refusal) → MakesNone (now_of old) a.at (asking a t) f → new ≡ old
-    → (f ≡ fault.OutOfMemory → reason ≡ why.OutOfMemory) → ((n : ℕ) → f ≡ fault.Journal n → reason ≡ why.OutOfResource (limit.Journal n)) → Denies a t old reason new
-unanswered a t old new fault.OutOfMemory reason none same memory full = record { refused = []; cause = by_memory (memory refl) none refl; made = same ∙ sym (with-none old) }
-unanswered a t old new fault.NotYet reason none same memory full = absurd (always-answered a (advance (now_of old) a.at) t not_yet not-waiting none.cause)
-unanswered a t old new fault.Nothing reason none same memory full = absurd (always-answered a (advance (now_of old) a.at) t nothing not-nothing none.cause)
-unanswered a t old new (fault.Journal n) reason none same memory full = record { refused = []; cause = by_size n (full n refl) none refl; made = same ∙ sym (with-none old) }
+    → reason ≡ refusal_for f → Denies a t old reason new
+unanswered a t old new fault.OutOfMemory reason none same stands = record { refused = []; cause = by_memory stands none refl; made = same ∙ sym (with-none old) }
+unanswered a t old new fault.NotYet reason none same stands = absurd (always-answered a (advance (now_of old) a.at) t not_yet not-waiting none.cause)
+unanswered a t old new fault.Nothing reason none same stands = absurd (always-answered a (advance (now_of old) a.at) t nothing not-nothing none.cause)
+unanswered a t old new (fault.Journal n) reason none same stands = record { refused = []; cause = by_size n stands none refl; made = same ∙ sym (with-none old) }

@@ -1,13 +1,13 @@
 //! One reservation is asked for, or ended.
-ghost use Rattle.std.specs.Prelude.{◌≡◌, ℕ, true, Ok, Err, IfOk, IfErr};
+ghost use Rattle.std.specs.Prelude.{◌≡◌, true, Ok, Err, IfOk, IfErr};
 ghost use Rattle.std.specs.Bool.{OnTrue, OnFalse};
 ghost use Rattle.drmaa_types.specs.declared.infos.Reserved.{Reserved};
 ghost use Rattle.drmaa_types.specs.declared.refusals.Refusal.{Refusal};
 ghost use Rattle.recurring_reservations.specs.Steps.{IsLegalLedger, Grants, Denies, Ends, EndsNot};
 
 use drmaa_machine::Machine;
-use drmaa_model::{Call, NoEntry, Reply};
-use drmaa_types::{Boxed, CallerId, Limit, Moment, Refusal, ReservationId, SessionId};
+use drmaa_model::{Call, Reply};
+use drmaa_types::{Boxed, CallerId, Moment, Refusal, ReservationId, SessionId};
 use job_template::ReservationTemplate;
 
 /// Who asks, when, and in which session.
@@ -38,7 +38,7 @@ pub(crate) fn request(
     };
     match machine.apply(asker.caller, asker.at, call) {
         Ok(reply) => number_in(reply),
-        Err(fault) => Err(refusal_for(fault)),
+        Err(fault) => Err(Refusal::from(fault)),
     }
 }
 
@@ -58,17 +58,6 @@ fn number_in(reply: Reply) -> Result<u64, Refusal>
 fn untold(other: Reply) -> Result<u64, Refusal> {
     drop(other);
     Err(Refusal::OutOfMemory)
-}
-
-/// The refusal that stands for a request that made no entry. A request waits for nothing, and nothing has to be found for it.
-fn refusal_for(fault: NoEntry) -> Refusal
-    ensures memory { fault ≡ NoEntry.OutOfMemory → result ≡ Refusal.OutOfMemory }
-    ensures full { (size : ℕ) → fault ≡ NoEntry.Journal size → result ≡ Refusal.OutOfResource (Limit.Journal size) }
-{
-    match fault {
-        NoEntry::Journal { size } => Refusal::OutOfResource(Limit::Journal { size }),
-        NoEntry::OutOfMemory | NoEntry::NotYet | NoEntry::Nothing => Refusal::OutOfMemory,
-    }
 }
 
 /// Ends the reservation of a number. False where the machine made no entry of it.

@@ -34,7 +34,7 @@ fn occurrence_within(start: Moment, every: Every, index: u32, duration: u64) -> 
     ensures late { IfNone result ((from : ℕ) × IsOccurrence start every index from × (greatest < from + duration)) }
 {
     let from = occurrence(start, every, index)?;
-    let _end = from.plus(duration)?;
+    from.plus(duration)?;
     Some(from)
 }
 

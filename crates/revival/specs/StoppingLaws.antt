@@ -26,7 +26,7 @@ use Rattle.drmaa_model.specs.Fit.{IsFit, IsFor, number_of}
 use Rattle.drmaa_model.specs.FitLaws.{all-append}
 use Rattle.drmaa_model.specs.History.{Ledger, IsLegal, now_of, replay}
 use Rattle.drmaa_model.specs.HistoryLaws.{replay-step, legal-push}
-use Rattle.drmaa_model.specs.KeptCalls.{kept}
+use Rattle.drmaa_model.specs.RecordedCalls.{recorded}
 use Rattle.drmaa_model.specs.Plan.{Plan}
 use Rattle.drmaa_model.specs.Refusals.{refusal}
 use Rattle.drmaa_model.specs.RestSteps.{legal-still}
@@ -210,21 +210,21 @@ asked_entry at asked told = record { caller = record { 0 = 0 }; at = at; call = 
 
 -- what the machine answers to it
 pub end-found : (from at : ℕ) (first old new : Ledger) (found : Started) (asked : Call) (result : Result Reply NoEntry) → IsLegal first.config first.history → at ≡ (now_of first).plan.moment
-    → IsStopping from first old → Finds at from old (Some found) → asked ≡ told_call found → kept asked ≡ asked
+    → IsStopping from first old → Finds at from old (Some found) → asked ≡ told_call found → recorded asked ≡ asked
     → (refusal (advance (now_of old) at) asked ≡ None → IsOk result)
-    → IfOk result (λ (r : Reply). IsStep (now_of old) (asked_entry at (kept asked) r) (now_of new))
-    → IfOk result (λ (r : Reply). new ≡ record old { history = old.history ++ asked_entry at (kept asked) r ∷ [] })
+    → IfOk result (λ (r : Reply). IsStep (now_of old) (asked_entry at (recorded asked) r) (now_of new))
+    → IfOk result (λ (r : Reply). new ≡ record old { history = old.history ++ asked_entry at (recorded asked) r ∷ [] })
     → IsStopping (found.job.0 + 1) first new
-end-found from at first old new found asked (Ok r) legal here stopping finds call_is kept_is reports step entry =
+end-found from at first old new found asked (Ok r) legal here stopping finds call_is recorded_is reports step entry =
     let next = next-found from at first old found here stopping finds in
-    let same : kept asked ≡ told_call found = kept_is ∙ call_is in
+    let same : recorded asked ≡ told_call found = recorded_is ∙ call_is in
     let answered : answer (now_of old) at (told_call found) ≡ gives r (now_of new) = ap (answer (now_of old) at) (sym same) ∙ step.answered in
     let unit = end-unit from at first old found r (now_of new) here stopping next answered in
     let is : new ≡ record old { history = old.history ++ told_stop at found ∷ [] } =
     entry ∙ ap (λ (c : Call). let l : Ledger = record old { history = old.history ++ asked_entry at c r ∷ [] } in l) same
     ∙ ap (λ (q : Reply). let l : Ledger = record old { history = old.history ++ asked_entry at (told_call found) q ∷ [] } in l) unit in
     subst (IsStopping (found.job.0 + 1) first) (sym is) (stop-next from at first old found legal here stopping next)
-end-found from at first old new found asked (Err why) legal here stopping finds call_is kept_is reports step entry =
+end-found from at first old new found asked (Err why) legal here stopping finds call_is recorded_is reports step entry =
     let next = next-found from at first old found here stopping finds in
     absurd (false≢true (reports (subst (λ (c : Call). refusal (advance (now_of old) at) c ≡ None) (sym call_is) (end-free from at first old found here stopping next))))
 
@@ -333,21 +333,21 @@ pub number-low : (from : ℕ) (ledger : Ledger) (found : Started) → IsNext fro
 number-low from ledger found next =
     (let number : next.row.job.0 ≡ found.job.0 = ap (λ (s : Started). s.job.0) next.told in let low = next.low in omega (arith, low, number))
 
--- ---- kept calls
+-- ---- recorded calls
 
 -- a journal keeps the report of an end as it is
-stop-kept : (row : Row) → kept (stop_call row) ≡ stop_call row
-stop-kept row =
-    elim (reruns row) as (λ b. kept (cond b (call.Exited row.job row.course.attempt (Code rerun_code)) (call.ExitUnknown row.job row.course.attempt)) ≡ cond b (call.Exited row.job row.course.attempt (Code rerun_code)) (call.ExitUnknown row.job row.course.attempt)) [
+stop-recorded : (row : Row) → recorded (stop_call row) ≡ stop_call row
+stop-recorded row =
+    elim (reruns row) as (λ b. recorded (cond b (call.Exited row.job row.course.attempt (Code rerun_code)) (call.ExitUnknown row.job row.course.attempt)) ≡ cond b (call.Exited row.job row.course.attempt (Code rerun_code)) (call.ExitUnknown row.job row.course.attempt)) [
       | true ↦ refl
       | false ↦ refl
     ]
 
-pub stops-kept : (entries : List Entry) (w : World) → AllByRecursion (λ (e : Entry). kept e.call ≡ e.call) entries → AllByRecursion (λ (e : Entry). kept e.call ≡ e.call) (entries ++ stops w)
-stops-kept entries w front =
-    all-append (λ (e : Entry). kept e.call ≡ e.call) entries (stops w) front
-    (all-map (λ (e : Entry). kept e.call ≡ e.call) (stop w.plan.moment) (filter is_started_row w.plan.rows)
-    (all-each (λ (row : Row). kept (stop_call row) ≡ stop_call row) stop-kept (filter is_started_row w.plan.rows)))
+pub stops-recorded : (entries : List Entry) (w : World) → AllByRecursion (λ (e : Entry). recorded e.call ≡ e.call) entries → AllByRecursion (λ (e : Entry). recorded e.call ≡ e.call) (entries ++ stops w)
+stops-recorded entries w front =
+    all-append (λ (e : Entry). recorded e.call ≡ e.call) entries (stops w) front
+    (all-map (λ (e : Entry). recorded e.call ≡ e.call) (stop w.plan.moment) (filter is_started_row w.plan.rows)
+    (all-each (λ (row : Row). recorded (stop_call row) ≡ stop_call row) stop-recorded (filter is_started_row w.plan.rows)))
 
 -- ---- legality
 

@@ -1,7 +1,7 @@
 //! The started jobs end, by number.
 ghost use Rattle.std.specs.Prelude.{◌≡◌, ◌+◌, true, Some};
 ghost use Rattle.drmaa_model.specs.History.{Ledger, IsLegal, now_of};
-ghost use Rattle.drmaa_model.specs.KeptCalls.{kept};
+ghost use Rattle.drmaa_model.specs.RecordedCalls.{recorded};
 ghost use Rattle.drmaa_machine.specs.Applying.{is_run_report};
 ghost use Rattle.revival.specs.Stopping.{told_call, Finds, IsStopping, IsStopped};
 
@@ -13,7 +13,7 @@ use drmaa_types::{CallerId, Exit, JobId, Moment};
 /// no kill of it was asked, and otherwise that its end can't be learnt.
 fn end_of(found: &Started) -> Call
     ensures call { result ≡ told_call found.now }
-    ensures kept { kept result ≡ result }
+    ensures recorded { recorded result ≡ result }
     ensures run { is_run_report result ≡ true }
 {
     let Started { job, attempt, .. } = *found;

@@ -4,7 +4,7 @@ ghost use Rattle.std.specs.List.{AllByRecursion};
 ghost use Rattle.drmaa_types.specs.declared.identifiers.JobId.{JobId};
 ghost use Rattle.drmaa_model.specs.Fit.{number_of};
 ghost use Rattle.drmaa_model.specs.History.{IsLegal, now_of, replay};
-ghost use Rattle.drmaa_model.specs.KeptCalls.{kept};
+ghost use Rattle.drmaa_model.specs.RecordedCalls.{recorded};
 ghost use Rattle.drmaa_model.specs.Rows.{row_of};
 ghost use Rattle.drmaa_model.specs.Size.{size};
 ghost use Rattle.drmaa_model.specs.declared.entries.Entry.{Entry};
@@ -19,7 +19,7 @@ use crate::ends::end_started;
 use drmaa_machine::Machine;
 use drmaa_model::Reply;
 use journal_check::{Replayed, replay_history};
-use journal_text::{Journal, a_writable_journal_keeps_its_calls};
+use journal_text::{Journal, a_writable_journal_has_recorded_calls};
 use std::alloc::Global;
 use std::error::Error;
 use std::fmt;
@@ -67,12 +67,12 @@ impl Error for ReviveFault {}
 fn replayed_journal(alloc: Global, journal: Journal) -> Replayed
     requires { IsWritable journal.config journal.entries }
     ensures replays { Replays journal.config journal.entries result }
-    ensures kept { AllByRecursion (λ (e : Entry). kept e.call ≡ e.call) journal.entries }
+    ensures recorded { AllByRecursion (λ (e : Entry). recorded e.call ≡ e.call) journal.entries }
     ensures only_legal { IsLegal journal.config journal.entries → IsMachine result ⊎ (result ≡ Replayed.OutOfMemory) }
     ensures only_fault { (number : ℕ) (given : Reply) (machine : Option Reply)
         → FirstFault journal.config journal.entries number given machine → (result ≡ Replayed.NotLegal number given machine) ⊎ (result ≡ Replayed.OutOfMemory) }
 {
-    a_writable_journal_keeps_its_calls();
+    a_writable_journal_has_recorded_calls();
     replay_history(alloc, journal.config, journal.entries)
 }
 
@@ -101,7 +101,7 @@ pub fn revive(alloc: Global, journal: Journal) -> Result<Machine, ReviveFault>
     // The history is legal, and so is the machine's; each of its calls is as a journal keeps it.
     ensures legal { OnOk result (IsLegal journal.config journal.entries) }
     ensures legal_still { IfOk result (λ machine. IsLegal machine.ledger.config machine.ledger.history) }
-    ensures kept { IfOk result (λ machine. AllByRecursion (λ (e : Entry). kept e.call ≡ e.call) machine.ledger.history) }
+    ensures recorded { IfOk result (λ machine. AllByRecursion (λ (e : Entry). recorded e.call ≡ e.call) machine.ledger.history) }
     ensures fault { (number : ℕ) (given : Reply) (machine : Option Reply) →
         result ≡ Err (ReviveFault.NotLegal number given machine) → FirstFault journal.config journal.entries number given machine }
     // exactly where

@@ -2,7 +2,7 @@
 ghost use Rattle.std.specs.Prelude.{◌≡◌, drop, map, IfOk};
 ghost use Rattle.std.specs.Vec.Iter.{into_iter_items};
 ghost use Rattle.run_chart.specs.Bars as bars;
-ghost use Rattle.run_views.specs.Runs as told;
+ghost use Rattle.run_views.specs.Runs as meant;
 
 use crate::lanes::{SpanList, lanes_of};
 use drmaa_model::Entry;
@@ -112,7 +112,7 @@ pub fn bars_of(
     now: Moment,
 ) -> Result<BarList, AllocError>
     ensures bars { IfOk result (λ found. found ≡ bars.bars_of slots now entries.now) }
-    ensures runs { IfOk result (λ found. map bars.plain found ≡ map (bars.plain_bar now) (told.runs_of entries.now)) }
+    ensures runs { IfOk result (λ found. map bars.plain found ≡ map (bars.plain_bar now) (meant.runs_of entries.now)) }
 {
     let runs = runs_of(alloc, entries)?;
     let lanes = lanes_of(alloc, entries, slots)?;

@@ -1,6 +1,6 @@
 //! The reservations of a history, from their start to their end.
 ghost use Rattle.std.specs.Prelude.{◌≡◌, ◌++◌, [], ℕ, map, nat_eq, IfOk, OnOk, Some, if◌then◌else◌, option_to_list};
-ghost use Rattle.run_chart.specs.Blocks as told;
+ghost use Rattle.run_chart.specs.Blocks as meant;
 
 use crate::moments::{earlier, later, opening_moment};
 use drmaa_model::{Call, Entry, Reply};
@@ -38,7 +38,7 @@ impl Ends {
 
     /// The ends with that of a reservation.
     fn with(self, reservation: u64, at: Moment) -> Result<Ends, AllocError>
-        ensures { IfOk result (λ more. (n : ℕ) → told.end_in more n ≡ (if nat_eq reservation n then Some at else told.end_in self n)) }
+        ensures { IfOk result (λ more. (n : ℕ) → meant.end_in more n ≡ (if nat_eq reservation n then Some at else meant.end_in self n)) }
     {
         let mut ends = self.ends;
         match ends.insert(reservation, at) {
@@ -49,7 +49,7 @@ impl Ends {
 
     /// When a reservation was ended.
     fn find(&self, reservation: u64) -> Option<Moment>
-        ensures { result ≡ told.end_in self.now reservation }
+        ensures { result ≡ meant.end_in self.now reservation }
     {
         self.ends.get(&reservation).copied()
     }
@@ -57,7 +57,7 @@ impl Ends {
 
 /// The reservation that an accepted call ends.
 fn ended_by(call: &Call) -> Option<u64>
-    ensures { result ≡ told.ended_by call.now }
+    ensures { result ≡ meant.ended_by call.now }
 {
     match call {
         Call::EndReservation { reservation, .. } => Some(reservation.0),
@@ -67,7 +67,7 @@ fn ended_by(call: &Call) -> Option<u64>
 
 /// The reservation that an entry ends.
 fn ended_in(call: &Call, reply: &Reply) -> Option<u64>
-    ensures { result ≡ told.ended_in call.now reply.now }
+    ensures { result ≡ meant.ended_in call.now reply.now }
 {
     match reply {
         Reply::Unit => ended_by(call),
@@ -77,7 +77,7 @@ fn ended_in(call: &Call, reply: &Reply) -> Option<u64>
 
 /// The ends with the one of an entry, where there is one.
 fn noted(ends: Ends, at: Moment, ended: Option<u64>) -> Result<Ends, AllocError>
-    ensures { IfOk result (λ more. (n : ℕ) → told.end_in more n ≡ told.ended_at n at ended (told.end_in ends n)) }
+    ensures { IfOk result (λ more. (n : ℕ) → meant.end_in more n ≡ meant.ended_at n at ended (meant.end_in ends n)) }
 {
     match ended {
         Some(reservation) => ends.with(reservation, at),
@@ -87,7 +87,7 @@ fn noted(ends: Ends, at: Moment, ended: Option<u64>) -> Result<Ends, AllocError>
 
 /// When the reservations of a history were ended.
 fn ends_of(alloc: Global, entries: &[Entry]) -> Result<Ends, AllocError>
-    ensures { IfOk result (λ ends. told.Shows ends entries.now) }
+    ensures { IfOk result (λ ends. meant.Shows ends entries.now) }
 {
     let mut ends = Ends::new(alloc);
     let mut now = opening_moment();
@@ -100,7 +100,7 @@ fn ends_of(alloc: Global, entries: &[Entry]) -> Result<Ends, AllocError>
 
 /// The reservation that a reply tells was accepted.
 fn accepted_in(reply: &Reply) -> Option<Reserved>
-    ensures { result ≡ told.accepted_in reply.now }
+    ensures { result ≡ meant.accepted_in reply.now }
 {
     match reply {
         Reply::Reserved(reserved) => Some(*reserved),
@@ -110,7 +110,7 @@ fn accepted_in(reply: &Reply) -> Option<Reserved>
 
 /// A reservation, up to where it was ended.
 fn cut(reserved: Reserved, ended: Option<Moment>) -> Reserved
-    ensures { result ≡ told.cut reserved ended }
+    ensures { result ≡ meant.cut reserved ended }
 {
     match ended {
         Some(at) => Reserved {
@@ -138,7 +138,7 @@ fn push_accepted(accepted: &mut Vec<Reserved>, reserved: Option<Reserved>) -> Re
 
 /// The reservations that were accepted, as they were then.
 fn accepted_of(alloc: Global, entries: &[Entry]) -> Result<Vec<Reserved>, AllocError>
-    ensures { IfOk result (λ accepted. accepted.items ≡ told.accepted_of entries.now) }
+    ensures { IfOk result (λ accepted. accepted.items ≡ meant.accepted_of entries.now) }
 {
     let mut accepted = Vec::new(alloc);
     for entry in entries {
@@ -149,7 +149,7 @@ fn accepted_of(alloc: Global, entries: &[Entry]) -> Result<Vec<Reserved>, AllocE
 
 /// These reservations, up to where they were ended.
 fn cut_all(alloc: Global, accepted: &[Reserved], ends: &Ends) -> Result<Vec<Reserved>, AllocError>
-    ensures { IfOk result (λ blocks. blocks.items ≡ map (told.cut_in ends.now) accepted.now) }
+    ensures { IfOk result (λ blocks. blocks.items ≡ map (meant.cut_in ends.now) accepted.now) }
 {
     let mut blocks = Vec::with_capacity(alloc, accepted.len())?;
     for reserved in accepted {
@@ -162,7 +162,7 @@ fn cut_all(alloc: Global, accepted: &[Reserved], ends: &Ends) -> Result<Vec<Rese
 /// The reservations of a history.
 #[tactic(auto, using(crate::specs::BlockLaws::cut_by_table))]
 pub(crate) fn blocks_of(alloc: Global, entries: &[Entry]) -> Result<BlockList, AllocError>
-    ensures { IfOk result (λ found. found ≡ told.blocks_of entries.now) }
+    ensures { IfOk result (λ found. found ≡ meant.blocks_of entries.now) }
 {
     let accepted = accepted_of(alloc, entries)?;
     let ends = ends_of(alloc, entries)?;

@@ -1,7 +1,7 @@
 //! What the entries of a history tell of runs.
 ghost use Rattle.std.specs.Prelude.{◌≡◌, ◌++◌, IfOk, OnOk, max, option_to_list};
 ghost use Rattle.std.specs.Option.{option_map};
-ghost use Rattle.run_views.specs.Runs as told;
+ghost use Rattle.run_views.specs.Runs as meant;
 
 use crate::runs::{EndReport, Ending, Run, RunEnd, RunEvent};
 use drmaa_model::{Call, Entry, Launch, Reply};
@@ -24,7 +24,7 @@ pub(crate) fn later(now: Moment, at: Moment) -> Moment
 
 /// The run that a launch begins.
 fn begun(at: Moment, launch: &Launch) -> Result<Run, AllocError>
-    ensures { IfOk result (λ run. run ≡ told.begun at launch.now) }
+    ensures { IfOk result (λ run. run ≡ meant.begun at launch.now) }
 {
     Ok(Run {
         job: launch.job,
@@ -38,7 +38,7 @@ fn begun(at: Moment, launch: &Launch) -> Result<Run, AllocError>
 
 /// The end of a run that a call reports.
 pub(crate) fn reported(at: Moment, call: &Call) -> Option<EndReport>
-    ensures { result ≡ told.reported at call.now }
+    ensures { result ≡ meant.reported at call.now }
 {
     match call {
         Call::StartFailed { job, attempt } => Some(EndReport {
@@ -81,7 +81,7 @@ fn ended(report: Option<EndReport>) -> Option<RunEvent>
 
 /// What an entry tells at a moment.
 fn event_in(at: Moment, entry: &Entry) -> Result<Option<RunEvent>, AllocError>
-    ensures { IfOk result (λ event. event ≡ told.event_in at entry.now.call entry.now.reply) }
+    ensures { IfOk result (λ event. event ≡ meant.event_in at entry.now.call entry.now.reply) }
 {
     match &entry.reply {
         Reply::Launch(launch) => Ok(Some(RunEvent::Launched(begun(at, launch)?))),
@@ -105,7 +105,7 @@ fn push_event(events: &mut Vec<RunEvent>, event: Option<RunEvent>) -> Result<(),
 
 /// What entries tell, in order.
 pub(crate) fn events_of(alloc: Global, entries: &[Entry]) -> Result<Vec<RunEvent>, AllocError>
-    ensures { IfOk result (λ events. events.items ≡ told.events_from 0 entries.now) }
+    ensures { IfOk result (λ events. events.items ≡ meant.events_from 0 entries.now) }
 {
     let mut events = Vec::new(alloc);
     let mut now = opening_moment();

@@ -1,6 +1,6 @@
 //! Each launch with the report that ended it.
 ghost use Rattle.std.specs.Prelude.{◌≡◌, IfOk};
-ghost use Rattle.run_views.specs.Runs as told;
+ghost use Rattle.run_views.specs.Runs as meant;
 
 use crate::ends::Ends;
 use crate::events::events_of;
@@ -11,7 +11,7 @@ use std::alloc::{AllocError, Global};
 /// Each run that begins, with the end that is reported of it later. The events are gone through from the last one to the first, so
 /// that the end noted last is the one that comes first.
 fn paired(alloc: Global, mut events: Vec<RunEvent>) -> Result<Vec<Run>, AllocError>
-    ensures { IfOk result (λ runs. runs.items ≡ told.paired events.items) }
+    ensures { IfOk result (λ runs. runs.items ≡ meant.paired events.items) }
 {
     let mut ends = Ends::new(alloc);
     let mut runs: Vec<Run> = Vec::new(alloc);
@@ -35,7 +35,7 @@ fn paired(alloc: Global, mut events: Vec<RunEvent>) -> Result<Vec<Run>, AllocErr
 ///
 /// Want of memory.
 pub fn runs_of(alloc: Global, entries: &[Entry]) -> Result<RunList, AllocError>
-    ensures { IfOk result (λ runs. runs ≡ told.runs_of entries.now) }
+    ensures { IfOk result (λ runs. runs ≡ meant.runs_of entries.now) }
 {
     let events = events_of(alloc, entries)?;
     let runs = paired(alloc, events)?;

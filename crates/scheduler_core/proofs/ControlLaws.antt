@@ -14,7 +14,7 @@ use Rattle.drmaa_model.specs.Growth.{is_growing}
 use Rattle.drmaa_model.specs.Plan.{Plan}
 use Rattle.drmaa_model.specs.Rows.{is_of}
 use Rattle.drmaa_model.specs.Time.{rows_at}
-use Rattle.plan_book.specs.Sweeps.{acted, growth, is_asking}
+use Rattle.plan_book.specs.Sweeps.{acted, growth, may_add_order}
 use Rattle.scheduler_core.specs.Targets.{is_one_quiet}
 
 none-of : (job : JobId) (what : Control) (n : ℕ) (rows : List Row) → n ≡ job.0 → AllByRecursion (λ (y : Row). n < number_of y) rows → length (filter (is_controlled (target.Job job) what) rows) ≡ 0
@@ -49,6 +49,6 @@ grows-one t what at p fit quiet =
     omega (arith, growth-few what (acted t what (rows_at at p)), acted-one t what (rows_at at p) (advance-fit 0 at p fit).jobs.rising quiet)
 
 -- and asks for no signal
-pub asks-none : (t : Target) (what : Control) → is_one_quiet t what ≡ true → is_asking what ≡ false
-asks-none (target.Job job) what quiet = not-true (is_asking what) quiet
+pub asks-none : (t : Target) (what : Control) → is_one_quiet t what ≡ true → may_add_order what ≡ false
+asks-none (target.Job job) what quiet = not-true (may_add_order what) quiet
 asks-none (target.Array array) what quiet = absurd (cc)

@@ -35,8 +35,8 @@ use Rattle.drmaa_model.specs.Operation.{Outcome, outcome}
 use Rattle.drmaa_model.specs.Launching.{launch, launch_of}
 use Rattle.drmaa_model.specs.OperationLaws.{outcome-served, outcome-fit}
 use Rattle.drmaa_model.specs.LaunchFit.{launch-effect, launch-keeps}
-use Rattle.drmaa_model.specs.Order.{held, is_ready, may_come, has_slots, slots_for, better, first_in_order, next_launch, has_room_in, has_slots_in, is_within_bound, is_queued, is_reached}
-use Rattle.drmaa_model.specs.OrderLaws.{IsNextLaunch, next_launch-is, ready-parts, ready-from, queued-may_launch}
+use Rattle.drmaa_model.specs.NextLaunch.{held, is_ready, may_come, has_slots, slots_for, better, best_of, next_launch, has_room_in, has_slots_in, is_within_bound, is_queued, is_reached}
+use Rattle.drmaa_model.specs.NextLaunchLaws.{IsNextLaunch, next_launch-is, ready-parts, ready-from, queued-may_launch}
 use Rattle.drmaa_model.specs.Plan.{Plan}
 use Rattle.drmaa_model.specs.RowLaws.{row_of-all}
 use Rattle.drmaa_model.specs.Time.{come_to, let_go, lasts, called_in, lapsed, advance_plan}
@@ -44,36 +44,36 @@ use Rattle.drmaa_model.specs.TimeLaws.{timed, map-twice, lapsed-cases, called-ca
 use Rattle.scheduler_core.specs.declared.launches.Next.{Next}
 use Rattle.plan_book.specs.declared.moves.Move.{Move}
 use Rattle.plan_book.specs.Book.{IsMove, moved, grows, owes}
-use Rattle.scheduler_core.specs.Launches.{may_launch, launch-move, IsLaunchOf, IsNext, IsNextIn, MayMakeNext, seen, seen_row, within_bound, room_of, free_of, slots_of, queue_left, capped, IsMost, launch_booking}
+use Rattle.scheduler_core.specs.Launches.{may_launch, launch-move, IsLaunchOf, IsNext, IsNextIn, MayMakeNext, seen, seen_row, room_of, free_of, slots_of, queue_left, capped, IsMost, launch_booking}
 use Rattle.scheduler_core.proofs.Priorities.{first_of}
 use Rattle.scheduler_core.proofs.SeenLaws.{tied-seen}
 
 -- whether a job that asks for this, in this state, is ready
 abbrev pub ready_of : ℕ → Plan → Wants → JobState → Bool
-ready_of m p w s = (is_queued s && is_reached m w.start && within_bound p.rows w) && (leb (held p.rows + w.min) p.total && slots_of (seen m p) w.min w)
+ready_of m p w s = (is_queued s && is_reached m w.start && is_within_bound p.rows w) && (leb (held p.rows + w.min) p.total && slots_of (seen m p) w.min w)
 
 -- the look over the rows as they will be is the look over the rows of the plan that has come to its moment
 pub look-is : (at : ℕ) (p : Plan) (o : Option Row) → IsFit p → (let m = max p.moment at in
-    option_map (seen_row m p) o ≡ first_in_order (filter (may_launch m p) (map (seen_row m p) p.rows)))
+    option_map (seen_row m p) o ≡ best_of (filter (may_launch m p) (map (seen_row m p) p.rows)))
     → option_map (seen_row (max p.moment at) p) o
-    ≡ first_in_order (filter (λ (r : Row). is_ready (advance_plan 0 at p) r.wants.min r) (advance_plan 0 at p).rows)
+    ≡ best_of (filter (λ (r : Row). is_ready (advance_plan 0 at p) r.wants.min r) (advance_plan 0 at p).rows)
 look-is at p o fit look =
     let q = let_go (come_to at p) in
     look
-    ∙ ap (λ (rs : List Row). first_in_order (filter (may_launch (max p.moment at) p) rs)) (map-twice (called_in q.moment q.reservations) (lapsed q.moment q.reservations) p.rows)
-    ∙ ap first_in_order (filter-same (may_launch (max p.moment at) p) (λ (r : Row). is_ready (advance_plan 0 at p) r.wants.min r)
+    ∙ ap (λ (rs : List Row). best_of (filter (may_launch (max p.moment at) p) rs)) (map-twice (called_in q.moment q.reservations) (lapsed q.moment q.reservations) p.rows)
+    ∙ ap best_of (filter-same (may_launch (max p.moment at) p) (λ (r : Row). is_ready (advance_plan 0 at p) r.wants.min r)
     (λ r. sym (ready-same (advance_plan 0 at p) q r.wants.min r (seen-advance 0 at p fit))) (advance_plan 0 at p).rows)
 
-pub first-next : (q : Plan) (row : Row) → IsFit q → first_in_order (filter (λ (r : Row). is_ready q r.wants.min r) q.rows) ≡ Some row →
+pub first-next : (q : Plan) (row : Row) → IsFit q → best_of (filter (λ (r : Row). is_ready q r.wants.min r) q.rows) ≡ Some row →
     (next_launch q ≡ Some (row, slots_for q row)) × IsNextLaunch q row (slots_for q row)
 first-next q row fit first =
     let next : next_launch q ≡ Some (row, slots_for q row) = ap (option_map (λ (r : Row). (r, slots_for q r))) first in
     (next, next_launch-is q (row, slots_for q row) fit.jobs.rising next)
 
-pub none-next : (q : Plan) → first_in_order (filter (λ (r : Row). is_ready q r.wants.min r) q.rows) ≡ None → next_launch q ≡ None
+pub none-next : (q : Plan) → best_of (filter (λ (r : Row). is_ready q r.wants.min r) q.rows) ≡ None → next_launch q ≡ None
 none-next q first = ap (option_map (λ (r : Row). (r, slots_for q r))) first
 
-pub launch-next : (q : Plan) (row : Row) (next : Next) → IsFit q → first_in_order (filter (λ (r : Row). is_ready q r.wants.min r) q.rows) ≡ Some row →
+pub launch-next : (q : Plan) (row : Row) (next : Next) → IsFit q → best_of (filter (λ (r : Row). is_ready q r.wants.min r) q.rows) ≡ Some row →
     IsLaunchOf row q.moment (slots_for q row) next → IsNext q next
 launch-next q row next fit first is = record { row = row; slots = slots_for q row; first = (first-next q row fit first).0; is = is }
 
@@ -81,7 +81,7 @@ launch-next q row next fit first is = record { row = row; slots = slots_for q ro
 pub slots-most : (q : Plan) (row : Row) (n : ℕ) → is_ready q row.wants.min row ≡ true → row.wants.min ≤ row.wants.max → IsMost q row.wants n → slots_for q row ≡ n
 slots-most q row n ready order is =
     let parts = ready-parts q row.wants.min row ready in
-    let come = and_from (is_queued row.course.state && is_reached q.moment row.wants.start) (is_within_bound q.rows row) (and_from (is_queued row.course.state) (is_reached q.moment row.wants.start) parts.queued parts.reached) parts.turn in
+    let come = and_from (is_queued row.course.state && is_reached q.moment row.wants.start) (is_within_bound q.rows row.wants) (and_from (is_queued row.course.state) (is_reached q.moment row.wants.start) parts.queued parts.reached) parts.in_bound in
     let most = is.most in
     greatest-is row.wants.min (row.wants.max - row.wants.min) n (λ slots. is_ready q slots row) is.least (omega arith) (ready-from q n row come is.free is.has)
     (λ m above within.
@@ -272,14 +272,14 @@ pub record NextFacts (s : Schedule) (at m : ℕ) (p : Plan) (row : Row) : Type 0
   pub first : next_launch (advance_plan 0 at p) ≡ Some (seen_row m p row, slots_for (advance_plan 0 at p) (seen_row m p row))
   pub ready : is_ready (seen m p) row.wants.min (seen_row m p row) ≡ true
   pub least : 1 ≤ row.wants.min
-  pub order : row.wants.min ≤ row.wants.max
+  pub range : row.wants.min ≤ row.wants.max
   pub limit : IfSome row.wants.limit (λ (seconds : ℕ). 1 ≤ seconds)
   pub fresh : is_booked s.bookings (Job row.job) ≡ false
   pub attempt : (seen_row m p row).course.attempt ≤ length (advance_plan 0 at p).changes
   pub slots : slots_for (seen m p) (seen_row m p row) ≡ slots_for (advance_plan 0 at p) (seen_row m p row)
 
 next-facts-at : (s : Schedule) (at : ℕ) (p : Plan) (row : Row) → IsFit p → IsTied s p
-    → first_in_order (filter (λ (r : Row). is_ready (advance_plan 0 at p) r.wants.min r) (advance_plan 0 at p).rows) ≡ Some (seen_row (max p.moment at) p row) → NextFacts s at (max p.moment at) p row
+    → best_of (filter (λ (r : Row). is_ready (advance_plan 0 at p) r.wants.min r) (advance_plan 0 at p).rows) ≡ Some (seen_row (max p.moment at) p row) → NextFacts s at (max p.moment at) p row
 next-facts-at s at p row fit tied first =
     let m = max p.moment at in
     let rs = filter (lasts m) p.reservations in
@@ -295,7 +295,7 @@ next-facts-at s at p row fit tied first =
       first = found.0;
       ready = subst (λ (w : Wants). is_ready (seen m p) w.min r ≡ true) wants (sym (ready-same q (let_go (come_to at p)) r.wants.min r alike) ∙ found.1.ready);
       least = subst (λ (w : Wants). 1 ≤ w.min) wants sound.least;
-      order = subst (λ (w : Wants). w.min ≤ w.max) wants sound.order;
+      range = subst (λ (w : Wants). w.min ≤ w.max) wants sound.range;
       limit = subst (λ (w : Wants). IfSome w.limit (λ (seconds : ℕ). 1 ≤ seconds)) wants sound.limit;
       fresh = next-fresh s at p row fit tied (subst (λ (j : JobId). row_of j q.rows ≡ Some r) job found.1.kept) found.1.state.idle;
       attempt = row_of-all (λ (x : Row). x.course.attempt ≤ length q.changes) r.job q.rows r fit_q.attempts found.1.kept;
@@ -303,10 +303,10 @@ next-facts-at s at p row fit tied first =
     }
 
 pub next-facts : (s : Schedule) (at m : ℕ) (p : Plan) (row : Row) → IsFit p → IsTied s p → m ≡ max p.moment at
-    → first_in_order (filter (λ (r : Row). is_ready (advance_plan 0 at p) r.wants.min r) (advance_plan 0 at p).rows) ≡ Some (seen_row m p row) → NextFacts s at m p row
+    → best_of (filter (λ (r : Row). is_ready (advance_plan 0 at p) r.wants.min r) (advance_plan 0 at p).rows) ≡ Some (seen_row m p row) → NextFacts s at m p row
 next-facts s at m p row fit tied m_is first =
     subst (λ (n : ℕ). NextFacts s at n p row) (sym m_is) (next-facts-at s at p row fit tied
-    (subst (λ (n : ℕ). first_in_order (filter (λ (r : Row). is_ready (advance_plan 0 at p) r.wants.min r) (advance_plan 0 at p).rows) ≡ Some (seen_row n p row)) m_is first))
+    (subst (λ (n : ℕ). best_of (filter (λ (r : Row). is_ready (advance_plan 0 at p) r.wants.min r) (advance_plan 0 at p).rows) ≡ Some (seen_row n p row)) m_is first))
 
 -- the move of a launch, in the plan that has come to its moment
 pub record Launches (entry : ℕ) (q : Plan) (next : Next) : Type 0 where
@@ -360,29 +360,29 @@ better-assoc a b c = grind arith
 
 -- the best so far, and the first of the rest
 pub chosen : (at : Row → Row) → ((r : Row) → (at r).wants ≡ r.wants) → (test : Row → Bool) (best : Option Row) (row : Row) (rest : List Row) → test (at row) ≡ true
-    → first_of (option_map at (Some (option_map_or (λ (first : Row). better first row) best row))) (first_in_order (filter test (map at rest)))
-    ≡ first_of (option_map at best) (first_in_order (filter test (map at (row ∷ rest))))
+    → first_of (option_map at (Some (option_map_or (λ (first : Row). better first row) best row))) (best_of (filter test (map at rest)))
+    ≡ first_of (option_map at best) (best_of (filter test (map at (row ∷ rest))))
 chosen at same test None row rest is =
-    ap (λ b. first_in_order (cond b (at row ∷ filter test (map at rest)) (filter test (map at rest)))) (sym is)
+    ap (λ b. best_of (cond b (at row ∷ filter test (map at rest)) (filter test (map at rest)))) (sym is)
 chosen at same test (Some first) row rest is =
-    ap (λ (r : Row). first_of (Some r) (first_in_order (filter test (map at rest)))) (better-wants at same first row)
-    ∙ (elim (first_in_order (filter test (map at rest))) as (λ o. first_of (Some (better (at first) (at row))) o ≡ first_of (Some (at first)) (Some (option_map_or (better (at row)) o (at row)))) [
+    ap (λ (r : Row). first_of (Some r) (best_of (filter test (map at rest)))) (better-wants at same first row)
+    ∙ (elim (best_of (filter test (map at rest))) as (λ o. first_of (Some (better (at first) (at row))) o ≡ first_of (Some (at first)) (Some (option_map_or (better (at row)) o (at row)))) [
       | None ↦ refl
       | Some r ↦ ap (λ (x : Row). Some x) (better-assoc (at first) (at row) r)
     ])
-    ∙ ap (λ b. first_of (Some (at first)) (first_in_order (cond b (at row ∷ filter test (map at rest)) (filter test (map at rest))))) (sym is)
+    ∙ ap (λ b. first_of (Some (at first)) (best_of (cond b (at row ∷ filter test (map at rest)) (filter test (map at rest))))) (sym is)
 
 pub passed : (at : Row → Row) (test : Row → Bool) (best : Option Row) (row : Row) (rest : List Row) → test (at row) ≡ false
-    → first_of (option_map at best) (first_in_order (filter test (map at rest))) ≡ first_of (option_map at best) (first_in_order (filter test (map at (row ∷ rest))))
-passed at test best row rest is = ap (λ b. first_of (option_map at best) (first_in_order (cond b (at row ∷ filter test (map at rest)) (filter test (map at rest))))) (sym is)
+    → first_of (option_map at best) (best_of (filter test (map at rest))) ≡ first_of (option_map at best) (best_of (filter test (map at (row ∷ rest))))
+passed at test best row rest is = ap (λ b. first_of (option_map at best) (best_of (cond b (at row ∷ filter test (map at rest)) (filter test (map at rest))))) (sym is)
 
 -- the look, made at a moment that is known to be the plan's
 pub look-at : (at m : ℕ) (p : Plan) (o : Option Row) → IsFit p → m ≡ max p.moment at
-    → option_map (seen_row m p) o ≡ first_in_order (filter (may_launch m p) (map (seen_row m p) p.rows))
-    → option_map (seen_row m p) o ≡ first_in_order (filter (λ (r : Row). is_ready (advance_plan 0 at p) r.wants.min r) (advance_plan 0 at p).rows)
+    → option_map (seen_row m p) o ≡ best_of (filter (may_launch m p) (map (seen_row m p) p.rows))
+    → option_map (seen_row m p) o ≡ best_of (filter (λ (r : Row). is_ready (advance_plan 0 at p) r.wants.min r) (advance_plan 0 at p).rows)
 look-at at m p o fit m_is look =
-    subst (λ (n : ℕ). option_map (seen_row n p) o ≡ first_in_order (filter (λ (r : Row). is_ready (advance_plan 0 at p) r.wants.min r) (advance_plan 0 at p).rows)) (sym m_is)
-    (look-is at p o fit (subst (λ (n : ℕ). option_map (seen_row n p) o ≡ first_in_order (filter (may_launch n p) (map (seen_row n p) p.rows))) m_is look))
+    subst (λ (n : ℕ). option_map (seen_row n p) o ≡ best_of (filter (λ (r : Row). is_ready (advance_plan 0 at p) r.wants.min r) (advance_plan 0 at p).rows)) (sym m_is)
+    (look-is at p o fit (subst (λ (n : ℕ). option_map (seen_row n p) o ≡ best_of (filter (may_launch n p) (map (seen_row n p) p.rows))) m_is look))
 
 -- what the look says of the move, whatever the entry's number
 pub looked : (entry at : ℕ) (p : Plan) (o : Option Next) (next : Next) → IsFit p → o ≡ Some next → IsNextIn (advance_plan 0 at p) o → Launches entry (advance_plan entry at p) next

@@ -3,6 +3,7 @@ pub mod Among
 pub mod BatchLaws
 pub mod CalendarLaws
 pub mod ControlLaws
+pub mod DemandLaws
 pub mod FactSteps
 pub mod FirstRows
 pub mod LastingLaws
@@ -14,6 +15,7 @@ pub mod PartLaws
 pub mod PhaseLaws
 pub mod PhaseSteps
 pub mod Priorities
+pub mod QueuedLaws
 pub mod ReportSteps
 pub mod RunningLaws
 pub mod Searches

@@ -12,7 +12,7 @@ use Rattle.drmaa_types.specs.declared.states.JobState.TheVariants.{Undetermined,
 use Rattle.drmaa_model.specs.declared.reservations.Accepted.{Accepted}
 use Rattle.drmaa_model.specs.declared.rows.Row.{Row}
 use Rattle.drmaa_model.specs.Events.{is_end_at, is_set_to, is_row_event}
-use Rattle.drmaa_model.specs.Order.{better, first_in_order, has_slots, is_within_bound, held, is_queued, is_reached}
+use Rattle.drmaa_model.specs.NextLaunch.{better, best_of, has_slots, is_within_bound, held, is_queued, is_reached}
 use Rattle.drmaa_model.specs.Plan.{Plan}
 use Rattle.drmaa_model.specs.Time.{called_in, lapsed, lasts}
 use Rattle.drmaa_model.specs.TimeLaws.{timed, lapsed-cases, called-cases}
@@ -62,11 +62,11 @@ over-not : (m : ℕ) (p : Plan) (row : Row) → is_over row ≡ true → may_lau
 over-not m p row over =
     let facts = over-facts row over in
     ap (may_launch m p) (timed-over m (filter (lasts m) p.reservations) row facts)
-    ∙ ap (λ (b : Bool). (b && is_reached m row.wants.start && is_within_bound p.rows row) && (nat_le (held p.rows + row.wants.min) p.total && has_slots (seen m p) row.wants.min row))
+    ∙ ap (λ (b : Bool). (b && is_reached m row.wants.start && is_within_bound p.rows row.wants) && (nat_le (held p.rows + row.wants.min) p.total && has_slots (seen m p) row.wants.min row))
     (idle-not_queued row.course.state facts.idle)
 
-turns-not : (x : ℕ) (row : Row) → is_over row ≡ true → is_row_event x row ≡ false
-turns-not x row over =
+over-no_event : (x : ℕ) (row : Row) → is_over row ≡ true → is_row_event x row ≡ false
+over-no_event x row over =
     let facts = over-facts row over in
     ap (λ (b : Bool). (b && (is_set_to x row.wants.start || is_set_to x row.wants.deadline)) || option_map_or (is_end_at x) row.course.planned false) facts.idle
     ∙ (elim row.course.planned as (λ (o : Option End). is_none o ≡ true → option_map_or (is_end_at x) o false ≡ false) [ None ↦ λ e. refl | Some end ↦ λ e. absurd (cc) ]) facts.planned
@@ -81,19 +81,19 @@ front-not m p (row ∷ front) rows over =
     ∙ front-not m p front rows over.1
 
 pub open-launches : (m : ℕ) (p : Plan) (rows : List Row) → AreOpen p.rows rows
-    → first_in_order (filter (may_launch m p) (map (seen_row m p) rows)) ≡ first_in_order (filter (may_launch m p) (map (seen_row m p) p.rows))
+    → best_of (filter (may_launch m p) (map (seen_row m p) rows)) ≡ best_of (filter (may_launch m p) (map (seen_row m p) p.rows))
 open-launches m p rows are =
-    ap first_in_order (sym (ap (λ (all : List Row). filter (may_launch m p) (map (seen_row m p) all)) are.parts ∙ front-not m p are.front rows are.over))
+    ap best_of (sym (ap (λ (all : List Row). filter (may_launch m p) (map (seen_row m p) all)) are.parts ∙ front-not m p are.front rows are.over))
 
-front-turns : (x : ℕ) (front rows : List Row) → AllByRecursion (λ (row : Row). is_over row ≡ true) front → list_any (is_row_event x) (front ++ rows) ≡ list_any (is_row_event x) rows
-front-turns x [] rows over = refl
-front-turns x (row ∷ front) rows over =
-    ap (λ (b : Bool). b || list_any (is_row_event x) (front ++ rows)) (turns-not x row over.0) ∙ front-turns x front rows over.1
+front-events : (x : ℕ) (front rows : List Row) → AllByRecursion (λ (row : Row). is_over row ≡ true) front → list_any (is_row_event x) (front ++ rows) ≡ list_any (is_row_event x) rows
+front-events x [] rows over = refl
+front-events x (row ∷ front) rows over =
+    ap (λ (b : Bool). b || list_any (is_row_event x) (front ++ rows)) (over-no_event x row over.0) ∙ front-events x front rows over.1
 
-pub open-turns : (after : ℕ) (all rows : List Row) → AreOpen all rows → first_row_event after rows ≡ first_row_event after all
-open-turns after all rows are =
+pub open-events : (after : ℕ) (all rows : List Row) → AreOpen all rows → first_row_event after rows ≡ first_row_event after all
+open-events after all rows are =
     sym (ap (first_row_event after) are.parts
-    ∙ after-same after (λ x. list_any (is_row_event x) (are.front ++ rows)) (λ x. list_any (is_row_event x) rows) (λ x. front-turns x are.front rows are.over))
+    ∙ after-same after (λ x. list_any (is_row_event x) (are.front ++ rows)) (λ x. list_any (is_row_event x) rows) (λ x. front-events x are.front rows are.over))
 
 -- ---- a job that none behind it stands before
 
@@ -119,12 +119,12 @@ stays : (best row : Row) (greatest : ℤ) → int_lt best.wants.priority greates
 stays best row greatest high low = ap (λ (b : Bool). cond b row best) (not-less best.wants.priority greatest row.wants.priority high low)
 
 last-word : (at : Row → Row) → ((r : Row) → (at r).wants ≡ r.wants) → (test : Row → Bool) (best : Row) (greatest : ℤ) → int_lt best.wants.priority greatest ≡ false
-    → (rows : List Row) → IsPriorityBound rows greatest → first_of (Some (at best)) (first_in_order (filter test (map at rows))) ≡ Some (at best)
+    → (rows : List Row) → IsPriorityBound rows greatest → first_of (Some (at best)) (best_of (filter test (map at rows))) ≡ Some (at best)
 last-word at same test best greatest high [] most = refl
 last-word at same test best greatest high (row ∷ rows) most =
-    (elim (test (at row)) as (λ (t : Bool). test (at row) ≡ t → first_of (Some (at best)) (first_in_order (filter test (map at (row ∷ rows)))) ≡ Some (at best)) [
+    (elim (test (at row)) as (λ (t : Bool). test (at row) ≡ t → first_of (Some (at best)) (best_of (filter test (map at (row ∷ rows)))) ≡ Some (at best)) [
       | true ↦ λ h. sym (chosen at same test (Some best) row rows h)
-          ∙ ap (λ (r : Row). first_of (Some (at r)) (first_in_order (filter test (map at rows)))) (stays best row greatest high most.0)
+          ∙ ap (λ (r : Row). first_of (Some (at r)) (best_of (filter test (map at rows)))) (stays best row greatest high most.0)
           ∙ last-word at same test best greatest high rows most.1
       | false ↦ λ h. sym (passed at test (Some best) row rows h) ∙ last-word at same test best greatest high rows most.1
     ]) refl
@@ -133,14 +133,14 @@ last-word at same test best greatest high (row ∷ rows) most =
 pub none-better : (at : Row → Row) → ((r : Row) → (at r).wants ≡ r.wants) → (test : Row → Bool) (best : Option Row) (greatest : ℤ)
     → option_map_or (λ (first : Row). not (int_lt first.wants.priority greatest)) best false ≡ true
     → (all rows : List Row) (i : ℕ) → IsPriorityBound all greatest → AreOpen all rows
-    → option_map at best ≡ first_of (option_map at best) (first_in_order (filter test (map at (drop i rows))))
+    → option_map at best ≡ first_of (option_map at best) (best_of (filter test (map at (drop i rows))))
 none-better at same test None greatest high all rows i most are = absurd (cc)
 none-better at same test (Some best) greatest high all rows i most are =
     sym (last-word at same test best greatest (not-true (int_lt best.wants.priority greatest) high) (drop i rows) (greatest-left greatest all rows i most are))
 
 -- none is left
 pub over-of : (at : Row → Row) (test : Row → Bool) (best : Option Row) (rows : List Row) (i : ℕ) → length rows ≤ i
-    → option_map at best ≡ first_of (option_map at best) (first_in_order (filter test (map at (drop i rows))))
+    → option_map at best ≡ first_of (option_map at best) (best_of (filter test (map at (drop i rows))))
 over-of at test best rows i past =
     (elim (option_map at best) as (λ o. o ≡ first_of o None) [ None ↦ refl | Some first ↦ refl ])
-    ∙ ap (λ (rs : List Row). first_of (option_map at best) (first_in_order (filter test (map at rs)))) (sym (drop_of_length-le rows past))
+    ∙ ap (λ (rs : List Row). first_of (option_map at best) (best_of (filter test (map at rs)))) (sym (drop_of_length-le rows past))

@@ -32,7 +32,7 @@ use Rattle.reservation_calendar.specs.declared.bookings.Booking.{Booking}
 use Rattle.reservation_calendar.specs.Schedules.{Schedule}
 use Rattle.plan_book.specs.declared.moves.Move.{Move}
 use Rattle.plan_book.specs.declared.rows.Facts.{Facts}
-use Rattle.plan_book.specs.Book.{IsMove, moved, owes, may_ask}
+use Rattle.plan_book.specs.Book.{IsMove, moved, owes, owes_kill}
 use Rattle.plan_book.specs.Facts.{facts_of}
 use Rattle.plan_book.specs.TieLaws.{tied-same, tied-cancelled}
 use Rattle.plan_book.specs.Ties.{KeepsTie, MayMake, IsBeside, counted_of}
@@ -187,8 +187,8 @@ over-grows : (before next : Course) → is_started before.state ≡ true → is_
 over-grows before next starts stops =
     (let two = owes-started before starts in let one = owes-stopped next stops in let change = changed-most (is_state before.state next.state) in omega (arith, two, one, change))
 
-over-asks : (before next : Course) → is_started next.state ≡ false → (may_ask next + 0) - may_ask before ≡ 0
-over-asks before next stops = (let none : may_ask next ≡ 0 = ap (λ b. cond {A = ℕ} (b && is_unasked next.kill) 1 0) stops in omega (arith, none))
+over-asks : (before next : Course) → is_started next.state ≡ false → (owes_kill next + 0) - owes_kill before ≡ 0
+over-asks before next stops = (let none : owes_kill next ≡ 0 = ap (λ b. cond {A = ℕ} (b && is_unasked next.kill) 1 0) stops in omega (arith, none))
 
 same-grows : (before next : Course) → next.state ≡ before.state → (owes next + cond {A = ℕ} (is_state before.state next.state) 0 1) - owes before ≡ 0
 same-grows before next same =
@@ -199,9 +199,9 @@ same-grows before next same =
 asks-same : (n : ℕ) → (n + 0) - n ≡ 0
 asks-same n = omega arith
 
-marked-asks : (k : SignalKind) (course : Course) → (may_ask (signal_failed k course) + 0) - may_ask course ≡ 0
-marked-asks Stop course = asks-same (may_ask course)
-marked-asks Cont course = asks-same (may_ask course)
+marked-asks : (k : SignalKind) (course : Course) → (owes_kill (signal_failed k course) + 0) - owes_kill course ≡ 0
+marked-asks Stop course = asks-same (owes_kill course)
+marked-asks Cont course = asks-same (owes_kill course)
 marked-asks Kill course = (let none : cond {A = ℕ} (is_started course.state && false) 1 0 ≡ 0 = elim (is_started course.state) as (λ b. cond {A = ℕ} (b && false) 1 0 ≡ 0) [ true ↦ refl | false ↦ refl ] in omega (arith, none))
 
 marked-state : (k : SignalKind) (course : Course) → (signal_failed k course).state ≡ course.state
@@ -213,7 +213,7 @@ starts-of : (job : JobId) (q : Plan) (row : Row) → IsFit q → row_of job q.ro
 starts-of job q row fit found busy = not_idle-started row.wants row.course (row-sound job q row fit found) busy
 
 frees : (r : Report) (q : Plan) (row : Row) → IsFit q → row_of row.job q.rows ≡ Some row → may_report r q.orders row.course ≡ true → IsFree (report_move r q.moment (facts_of row))
-frees (report.Started job attempt) q row fit found may = record { changes = same-grows row.course (begun row.course) refl; orders = asks-same (may_ask row.course); books = refl }
+frees (report.Started job attempt) q row fit found may = record { changes = same-grows row.course (begun row.course) refl; orders = asks-same (owes_kill row.course); books = refl }
 frees (report.StartFailed job attempt) q row fit found may =
     let next = unstarted q.moment row.wants.rerunnable row.course in
     let stops = (unstarted-stops q.moment row.wants.rerunnable row.course).over.stopped in
@@ -226,7 +226,7 @@ frees (report.ExitUnknown job attempt) q row fit found may =
     let next = lost q.moment row.wants.rerunnable row.course in
     let stops = (lost-stops q.moment row.wants.rerunnable row.course).over.stopped in
     record { changes = over-grows row.course next (starts-of row.job q row fit found (may_exit-busy attempt row.course may)) stops; orders = over-asks row.course next stops; books = refl }
-frees (report.SignalDone job attempt kind) q row fit found may = record { changes = same-grows row.course row.course refl; orders = asks-same (may_ask row.course); books = refl }
+frees (report.SignalDone job attempt kind) q row fit found may = record { changes = same-grows row.course row.course refl; orders = asks-same (owes_kill row.course); books = refl }
 frees (report.SignalFailed job attempt kind) q row fit found may =
     record { changes = same-grows row.course (signal_failed kind row.course) (marked-state kind row.course); orders = marked-asks kind row.course; books = refl }
 

@@ -10,7 +10,7 @@ use Rattle.drmaa_model.specs.declared.courses.Order.{Order}
 use Rattle.drmaa_model.specs.declared.rows.Row.{Row}
 use Rattle.drmaa_model.specs.Fit.{IsFit, IsFor, IsSound}
 use Rattle.drmaa_model.specs.FitLaws.{advance-fit, held-advance}
-use Rattle.drmaa_model.specs.Order.{held, is_ready, first_in_order, slots_for, next_launch, settled}
+use Rattle.drmaa_model.specs.NextLaunch.{held, is_ready, best_of, slots_for, next_launch, settled}
 use Rattle.drmaa_model.specs.Plan.{Plan}
 use Rattle.drmaa_model.specs.RowLaws.{row_of-all}
 use Rattle.drmaa_model.specs.Rows.{is_of, row_of}
@@ -38,7 +38,7 @@ none-kept f (Some x) = refl
 
 -- the look, where no job holds slots
 pub settled-look : (at m : ℕ) (p : Plan) (o : Option Row) → IsFit p → m ≡ max p.moment at → held p.rows ≡ 0
-    → option_map (seen_row m p) o ≡ first_in_order (filter (may_launch m p) (map (seen_row m p) p.rows)) → is_none o ≡ settled (advance_plan 0 at p)
+    → option_map (seen_row m p) o ≡ best_of (filter (may_launch m p) (map (seen_row m p) p.rows)) → is_none o ≡ settled (advance_plan 0 at p)
 settled-look at m p o fit m_is none look =
     let q = advance_plan 0 at p in
     let fit_q : IsFit q = advance-fit 0 at p fit in
@@ -46,7 +46,7 @@ settled-look at m p o fit m_is none look =
     let idle : (held q.rows == 0) ≡ true = eq-eqb (held q.rows) 0 nothing in
     let quiet : (length q.orders == 0) ≡ true = eq-eqb (length q.orders) 0 (none-asked q q.orders fit_q nothing fit_q.asked) in
     let same : is_none (next_launch q) ≡ is_none o =
-    none-kept (λ (r : Row). (r, slots_for q r)) (first_in_order (filter (λ (r : Row). is_ready q r.wants.min r) q.rows))
+    none-kept (λ (r : Row). (r, slots_for q r)) (best_of (filter (λ (r : Row). is_ready q r.wants.min r) q.rows))
     ∙ ap (λ (x : Option Row). is_none x) (sym (look-at at m p o fit m_is look)) ∙ none-kept (seen_row m p) o in
     sym (ap (λ b. (b && (length q.orders == 0)) && is_none (next_launch q)) idle ∙ ap (λ b. b && is_none (next_launch q)) quiet ∙ same)
 

@@ -26,7 +26,7 @@ use Rattle.drmaa_model.specs.RowLaws.{all-implied, rising-found, changes_with_co
 use Rattle.drmaa_model.specs.Rows.{row_of, is_of, with_course, change_of, go_on}
 use Rattle.drmaa_model.specs.Time.{kill_order, advance_plan, lasts, lapsed, called_in, is_due, come_to, let_go, rows_at}
 use Rattle.drmaa_model.specs.TimeLaws.{lapsed-cases, called-cases, lapsed-job, row_of-advance}
-use Rattle.plan_book.specs.Book.{IsMove, moved, is_order, grows, asks, owes, may_ask}
+use Rattle.plan_book.specs.Book.{IsMove, moved, is_order, grows, more_orders, owes, owes_kill}
 use Rattle.plan_book.specs.Facts.{facts_of}
 use Rattle.plan_book.specs.TieLaws.{tied-same}
 use Rattle.plan_book.specs.Ties.{KeepsTie}
@@ -210,7 +210,7 @@ pub record Takes (entry : ℕ) (q : Plan) (next : Next) : Type 0 where
   pub fits : IsFit (moved entry (take_move next) q)
   pub ties : KeepsTie (take_move next).booked (take_move next).job q (moved entry (take_move next) q)
   pub changes : grows (take_move next) ≡ 0
-  pub orders : asks (take_move next) ≡ 0
+  pub orders : more_orders (take_move next) ≡ 0
   pub comes : outcome signal entry q ≡ record { answer = Ok (Some (signal_for next)); plan = moved entry (take_move next) q }
 
 told-of : (q : Plan) (next : Next) → IsNext q next → signal_of q next.order ≡ signal_for next
@@ -245,7 +245,7 @@ takes-next entry q next fit n =
       fits = subst IsFit effect (signal-keeps.keeps entry q fit refl);
       ties = record { keeps = λ s tied. tied-same row.job row.course q row fit found (moved entry m q) refl refl refl (λ f. refl) s tied };
       changes = same-grows row.course;
-      orders = asks-same (may_ask row.course);
+      orders = asks-same (owes_kill row.course);
       comes = outcome-served signal entry q refl
           ∙ ap (λ (s : Option Signal). let o : Outcome (Option Signal) = record { answer = Ok s; plan = signal.effect entry q } in o) (told-next q next n ∙ ap (λ (x : Next). Some (signal_for x)) (sym same))
           ∙ ap (λ (x : Plan). let o : Outcome (Option Signal) = record { answer = Ok (Some (signal_for at)); plan = x } in o) effect;

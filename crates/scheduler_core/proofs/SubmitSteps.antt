@@ -1,50 +1,41 @@
 -- What a submission comes to, from what its parts answer.
-use Rattle.std.proofs.Common.{◌≡◌, ℕ, ◌+◌, ◌<◌, ◌≤◌, Bool, true, false, cond, ◌||◌, List, [], ◌∷◌, ◌++◌, map, length, Option, Some, None, refl, sym, ◌∙◌, ap, subst, arith, append_assoc}
+use Rattle.std.proofs.Common.{◌≡◌, ℕ, ◌+◌, ◌<◌, ◌≤◌, Bool, true, false, cond, List, [], ◌∷◌, ◌++◌, map, length, Option, Some, None, refl, sym, ◌∙◌, ap, subst, arith, append_assoc}
 use Rattle.std.specs.Prelude.{max, filter, nat_lt, Result, Ok, Err}
-use Rattle.std.specs.Option.{option_map_or}
-use Rattle.std.specs.Map.{lookup}
-use Rattle.std.specs.Str.{bytes_eq}
 use Rattle.std.proofs.lemmas.Bool.{lt-ltb, le-ltb}
 use Rattle.drmaa_types.specs.RefusalLaws.{passed_first, refused_first}
 use Rattle.drmaa_types.specs.Refusals.{first_refusal}
 use Rattle.drmaa_types.specs.States.{is_waiting}
-use Rattle.drmaa_types.specs.declared.queues.QueueSpec.{QueueSpec}
-use Rattle.drmaa_types.specs.declared.refusals.Attribute.{Attribute}
 use Rattle.drmaa_types.specs.declared.refusals.Refusal.{Refusal}
-use Rattle.drmaa_types.specs.declared.refusals.Refusal.TheVariants.{InvalidArgument, OutOfResource, UnsupportedAttribute}
-use Rattle.drmaa_types.specs.declared.refusals.Which.TheVariants as which
+use Rattle.drmaa_types.specs.declared.refusals.Refusal.TheVariants.{OutOfResource}
 use Rattle.drmaa_types.specs.declared.refusals.Limit.TheVariants as resource
 use Rattle.job_template.specs.declared.templates.JobTemplate.{JobTemplate}
-use Rattle.job_template.specs.declared.templates.ResourceLimit.{ResourceLimit}
-use Rattle.job_template.specs.JobTests.{command_tests, path_tests, slot_tests, limit_tests, job_tests, queue_test}
+use Rattle.job_template.specs.JobTests.{job_tests}
 use Rattle.job_template.specs.Texts.{text_length}
-use Rattle.job_template.specs.Unsupported.{other_tests, other_limits}
-use Rattle.job_template.specs.Wants.{is_wallclock}
 use Rattle.drmaa_model.specs.declared.calls.Indices.{Indices}
+use Rattle.drmaa_model.specs.declared.faults.NoEntry.{NoEntry}
 use Rattle.drmaa_model.specs.declared.replies.Submitted.{Submitted}
 use Rattle.drmaa_model.specs.declared.reservations.Accepted.{Accepted}
 use Rattle.drmaa_model.specs.declared.rows.Row.{Row}
 use Rattle.drmaa_model.specs.Courses.{submitted_course}
 use Rattle.drmaa_model.specs.Fit.{IsFit}
-use Rattle.drmaa_model.specs.Operation.{Outcome, outcome, is_answer, Meets}
-use Rattle.drmaa_model.specs.OperationLaws.{outcome-served}
 use Rattle.drmaa_model.specs.Plan.{Plan}
 use Rattle.drmaa_model.specs.Submitting.{Member, members, bulk_tests, submit_tests, most_jobs, most_kept_text, kept_text, new_text, new_rows, arrays_used, submit}
 use Rattle.drmaa_model.specs.SubmitLaws.{may-submit, submit-count, length-members, length-new, submit-keeps}
 use Rattle.drmaa_model.specs.Time.{advance_plan, lasts, lapsed, called_in}
 use Rattle.drmaa_model.specs.TimeLaws.{sum-kept, lapsed-only, called-only}
+use Rattle.plan_book.specs.declared.occasions.Occasion.{Occasion}
 use Rattle.plan_book.specs.Book.{joined}
+use Rattle.plan_book.specs.MeetLaws.{free-meets, ok-meets, err-meets}
+use Rattle.plan_book.specs.Occasions.{Meets, MeetsAt, StepsAt, plan_at}
 use Rattle.plan_book.specs.Waiting.{AreWaiting}
 use Rattle.scheduler_core.specs.Batches.{batch_of, batch_row, batch_rows, batch_members, told_of}
-use Rattle.scheduler_core.specs.Early.{asked, named_tests, jobs_tests, early_tests}
-use Rattle.plan_book.specs.MeetLaws.{ok-meets, err-meets}
-use Rattle.scheduler_core.proofs.TableLaws.{Answering, both-answer, first-answers, other-answers}
+use Rattle.scheduler_core.specs.Early.{job_count, named_tests, jobs_tests, early_tests}
 
 -- ---- the table
 
-pub length-asked : (t : JobTemplate) (indices : Option Indices) (p : Plan) → length (members t indices p) ≡ asked indices
-length-asked t None p = refl
-length-asked t (Some i) p = length-members t i p
+pub length-job_count : (t : JobTemplate) (indices : Option Indices) (p : Plan) → length (members t indices p) ≡ job_count indices
+length-job_count t None p = refl
+length-job_count t (Some i) p = length-members t i p
 
 -- the last of the tests
 abbrev pub text_test : JobTemplate → Option Indices → Plan → Bool × Refusal
@@ -56,7 +47,7 @@ early-then t indices p =
     let named = named_tests t p in
     let text = text_test t indices p in
     let jobs : ℕ → Bool × Refusal = λ n. (nat_lt most_jobs (length p.rows + n), OutOfResource resource.Jobs) in
-    ap (λ (n : ℕ). front ++ (named ++ jobs n ∷ text ∷ [])) (length-asked t indices p)
+    ap (λ (n : ℕ). front ++ (named ++ jobs n ∷ text ∷ [])) (length-job_count t indices p)
     ∙ sym (append_assoc (front ++ named) (jobs_tests indices p) (text ∷ []) ∙ append_assoc front named (jobs_tests indices p ++ text ∷ []))
 
 pub early-refuses : (home : ℕ) (t : JobTemplate) (indices : Option Indices) (p : Plan) (why : Refusal) → first_refusal (early_tests t indices p) ≡ Some why
@@ -79,43 +70,6 @@ none-refuses home t indices p free within =
     late home t indices p free
     ∙ ap (λ (b : Bool). cond b (Some (OutOfResource resource.KeptText)) None) (le-ltb most_kept_text (kept_text p.rows + new_text (members t indices p)) within)
 
--- ---- each of its refusals is an answer
-
-bulk-answers : (indices : Option Indices) → Answering (bulk_tests indices)
-bulk-answers None = tt
-bulk-answers (Some i) = (refl, (refl, (refl, tt)))
-
-limit-answers : (stands : Bool) (ls : List ResourceLimit) → Answering (limit_tests stands ls)
-limit-answers stands [] = tt
-limit-answers stands (l ∷ ls) = (
-  (elim (lookup (bytes_eq l.name) other_limits) as (λ (o : Option Attribute). is_answer (option_map_or UnsupportedAttribute o (InvalidArgument which.ResourceLimits)) ≡ true) [
-    | None ↦ refl
-    | Some a ↦ refl
-  ]),
-  (refl, limit-answers (stands || is_wallclock l) ls),
-)
-
-queue-answers : (queues : List QueueSpec) (t : JobTemplate) → is_answer (queue_test queues t).1 ≡ true
-queue-answers [] t = refl
-queue-answers (first ∷ others) t = refl
-
-job-answers : (slots : ℕ) (queues : List QueueSpec) (now : ℕ) (t : JobTemplate) → Answering (job_tests slots queues now t)
-job-answers slots queues now t =
-    both-answer (command_tests t ++ path_tests queues t ++ slot_tests slots queues now t ++ limit_tests false t.resource_limits) (other_tests t.others)
-    (both-answer (command_tests t ++ path_tests queues t ++ slot_tests slots queues now t) (limit_tests false t.resource_limits)
-    (refl, (refl, (refl, (refl, (refl, (refl, (refl, (refl, (refl, (queue-answers queues t, (refl, (refl, (refl, tt)))))))))))))
-    (limit-answers false t.resource_limits))
-    (other-answers t.others)
-
-pub early-answers : (t : JobTemplate) (indices : Option Indices) (p : Plan) (why : Refusal) → first_refusal (early_tests t indices p) ≡ Some why → is_answer why ≡ true
-early-answers t indices p why is =
-    first-answers (early_tests t indices p) why
-    (both-answer (bulk_tests indices ++ job_tests p.total p.queues p.moment t ++ named_tests t p) (jobs_tests indices p)
-    (both-answer (bulk_tests indices ++ job_tests p.total p.queues p.moment t) (named_tests t p)
-    (both-answer (bulk_tests indices) (job_tests p.total p.queues p.moment t) (bulk-answers indices) (job-answers p.total p.queues p.moment t))
-    (refl, (refl, tt)))
-    (refl, tt)) is
-
 -- ---- the rows
 
 batch-members : (home : ℕ) (p : Plan) (t : JobTemplate) (indices : Option Indices) → batch_members (batch_of home p) t indices ≡ members t indices p
@@ -127,13 +81,13 @@ batch-rows home p number [] = refl
 batch-rows home p number (m ∷ ms) = ap (λ (rows : List Row). batch_row p.queues (batch_of home p) number m ∷ rows) (batch-rows home p (number + 1) ms)
 
 -- the rows of the jobs that are asked for
-pub asked-rows : (home : ℕ) (p : Plan) (t : JobTemplate) (indices : Option Indices)
+pub submitted-rows : (home : ℕ) (p : Plan) (t : JobTemplate) (indices : Option Indices)
     → batch_rows p.queues (batch_of home p) p.next_job (batch_members (batch_of home p) t indices) ≡ new_rows home p p.next_job (members t indices p)
-asked-rows home p t indices =
+submitted-rows home p t indices =
     ap (batch_rows p.queues (batch_of home p) p.next_job) (batch-members home p t indices) ∙ batch-rows home p p.next_job (members t indices p)
 
-pub asked-text : (home : ℕ) (p : Plan) (t : JobTemplate) (indices : Option Indices) → new_text (batch_members (batch_of home p) t indices) ≡ new_text (members t indices p)
-asked-text home p t indices = ap new_text (batch-members home p t indices)
+pub submitted-text : (home : ℕ) (p : Plan) (t : JobTemplate) (indices : Option Indices) → new_text (batch_members (batch_of home p) t indices) ≡ new_text (members t indices p)
+submitted-text home p t indices = ap new_text (batch-members home p t indices)
 
 submitted-waits : (on_hold : Bool) → is_waiting (submitted_course on_hold).state ≡ true
 submitted-waits true = refl
@@ -157,8 +111,8 @@ text-then entry at p =
 pub record MayJoin (home : ℕ) (t : JobTemplate) (indices : Option Indices) (entry : ℕ) (q : Plan) (rows : List Row) : Type 0 where
   pub free : (submit home t indices).refusal q ≡ None
   pub rows_are : rows ≡ new_rows home q q.next_job (members t indices q)
-  pub count : length rows ≡ asked indices
-  pub few : asked indices ≤ 10_000
+  pub count : length rows ≡ job_count indices
+  pub few : job_count indices ≤ 10_000
   pub waits : AreWaiting rows
   pub fit : IsFit (joined rows (arrays_used indices) q)
   pub leads : (submit home t indices).effect entry q ≡ joined rows (arrays_used indices) q
@@ -171,7 +125,7 @@ may-join home t indices entry q rows fit free within is =
     let ms = members t indices q in
     let new = new_rows home q q.next_job ms in
     let few = (submit-count t indices q (may-submit t indices q none)).1 in
-    let length_is = length-asked t indices q in
+    let length_is = length-job_count t indices q in
     record {
       free = none;
       rows_are = is;
@@ -184,30 +138,32 @@ may-join home t indices entry q rows fit free within is =
 
 told-is : (home : ℕ) (t : JobTemplate) (indices : Option Indices) (q : Plan) → (submit home t indices).told q ≡ told_of (batch_of home q) indices
 told-is home t None q = refl
-told-is home t (Some i) q = ap (λ (n : ℕ). record { array = Some (record { 0 = q.next_array }); first = record { 0 = q.next_job }; count = n }) (length-asked t (Some i) q)
+told-is home t (Some i) q = ap (λ (n : ℕ). record { array = Some (record { 0 = q.next_array }); first = record { 0 = q.next_job }; count = n }) (length-job_count t (Some i) q)
 
-joined-outcome : (home : ℕ) (t : JobTemplate) (indices : Option Indices) (entry : ℕ) (q : Plan) (rows : List Row) → MayJoin home t indices entry q rows
-    → outcome (submit home t indices) entry q ≡ record { answer = Ok (told_of (batch_of home q) indices); plan = joined rows (arrays_used indices) q }
-joined-outcome home t indices entry q rows may =
-    outcome-served (submit home t indices) entry q may.free
-    ∙ ap (λ (n : Plan). let o : Outcome Submitted = record { answer = Ok ((submit home t indices).told q); plan = n } in o) may.leads
-    ∙ ap (λ (s : Submitted). let o : Outcome Submitted = record { answer = Ok s; plan = joined rows (arrays_used indices) q } in o) (told-is home t indices q)
+-- what is told of them and what they lead to is what the submission comes to
+joined-meets : (home : ℕ) (t : JobTemplate) (indices : Option Indices) (o : Occasion) (arrays : ℕ) (p new : Plan) (rows : List Row) (result : Result (Result Submitted Refusal) NoEntry)
+    → MayJoin home t indices o.entry (plan_at o p) rows → arrays ≡ arrays_used indices
+    → (let told : Result Submitted Refusal = Ok (told_of (batch_of home (plan_at o p)) indices) in Meets o told (joined rows arrays (plan_at o p)) p result new)
+    → MeetsAt o (submit home t indices) p result new
+joined-meets home t indices o arrays p new rows result may used met =
+    let q = plan_at o p in
+    free-meets (submit home t indices) o p new result may.free
+    (subst (λ (n : Plan). let told : Result Submitted Refusal = Ok ((submit home t indices).told q) in Meets o told n p result new) (sym may.leads)
+    (subst (λ (s : Submitted). let told : Result Submitted Refusal = Ok s in Meets o told (joined rows (arrays_used indices) q) p result new) (sym (told-is home t indices q))
+    (subst (λ (n : ℕ). let told : Result Submitted Refusal = Ok (told_of (batch_of home q) indices) in Meets o told (joined rows n q) p result new) used met)))
 
-pub joined-ok : (home : ℕ) (t : JobTemplate) (indices : Option Indices) (entry limit arrays : ℕ) (p q new : Plan) (rows : List Row) (told : Submitted) (value : Unit {0}) (result : Result (Unit {0}) Refusal)
-    → MayJoin home t indices entry q rows → told ≡ told_of (batch_of home q) indices → arrays ≡ arrays_used indices → result ≡ Ok value
-    → Meets (record { answer = Ok tt; plan = joined rows arrays q }) p entry limit result new
-    → Meets (outcome (submit home t indices) entry q) p entry limit (Ok told) new
-joined-ok home t indices entry limit arrays p q new rows told value result may told_as used is met =
-    subst (λ (o : Outcome Submitted). Meets o p entry limit (Ok told) new) (sym (joined-outcome home t indices entry q rows may))
-    (subst (λ (s : Submitted). Meets (let o : Outcome Submitted = record { answer = Ok s; plan = joined rows (arrays_used indices) q } in o) p entry limit (Ok told) new) told_as
-    (subst (λ (n : ℕ). Meets (let o : Outcome Submitted = record { answer = Ok told; plan = joined rows n q } in o) p entry limit (Ok told) new) used
-    (ok-meets tt value told entry limit p (joined rows arrays q) new result is met)))
+module _ (home : ℕ) (t : JobTemplate) (indices : Option Indices) (o : Occasion) (arrays : ℕ) (p new : Plan) (rows : List Row) (made : Result (Unit {0}) NoEntry)
+    (may : MayJoin home t indices o.entry (plan_at o p) rows) (used : arrays ≡ arrays_used indices) (met : StepsAt o (joined rows arrays) p made new) where
+  pub joined-ok : (told : Submitted) (x : Unit {0}) → told ≡ told_of (batch_of home (plan_at o p)) indices → made ≡ Ok x
+      → (let r : Result (Result Submitted Refusal) NoEntry = Ok (Ok told) in MeetsAt o (submit home t indices) p r new)
+  joined-ok told x told_as is =
+      let answer : Result Submitted Refusal = Ok told in
+      let result : Result (Result Submitted Refusal) NoEntry = Ok answer in
+      joined-meets home t indices o arrays p new rows result may used
+      (subst (λ (s : Submitted). let told : Result Submitted Refusal = Ok s in Meets o told (joined rows arrays (plan_at o p)) p result new) told_as
+      (ok-meets o tt x answer (joined rows arrays (plan_at o p)) p new made is met))
 
-pub joined-err : (home : ℕ) (t : JobTemplate) (indices : Option Indices) (entry limit arrays : ℕ) (p q new : Plan) (rows : List Row) (why : Refusal) (result : Result (Unit {0}) Refusal)
-    → MayJoin home t indices entry q rows → arrays ≡ arrays_used indices → result ≡ Err why
-    → Meets (record { answer = Ok tt; plan = joined rows arrays q }) p entry limit result new
-    → Meets (outcome (submit home t indices) entry q) p entry limit (Err why) new
-joined-err home t indices entry limit arrays p q new rows why result may used is met =
-    subst (λ (o : Outcome Submitted). Meets o p entry limit (Err why) new) (sym (joined-outcome home t indices entry q rows may))
-    (subst (λ (n : ℕ). Meets (let o : Outcome Submitted = record { answer = Ok (told_of (batch_of home q) indices); plan = joined rows n q } in o) p entry limit (Err why) new) used
-    (err-meets tt (told_of (batch_of home q) indices) why entry limit p (joined rows arrays q) new result is met))
+  pub joined-err : (why : NoEntry) → made ≡ Err why → (let r : Result (Result Submitted Refusal) NoEntry = Err why in MeetsAt o (submit home t indices) p r new)
+  joined-err why is =
+      let answer : Result Submitted Refusal = Ok (told_of (batch_of home (plan_at o p)) indices) in
+      joined-meets home t indices o arrays p new rows (Err why) may used (err-meets o tt answer why (joined rows arrays (plan_at o p)) p new made is met)

@@ -1,56 +1,23 @@
--- Tables of refusals: each is an answer, the first that refuses decides, and what a call without a refusal answers.
-use Rattle.std.proofs.Common.{◌≡◌, ℕ, ◌+◌, Bool, true, false, cond, List, [], ◌∷◌, ◌++◌, map, length, Option, Some, None, refl, sym, ◌∙◌, ap, subst}
+-- Tables of refusals: the first that refuses decides, and what a call without a refusal answers.
+use Rattle.std.proofs.Common.{◌≡◌, ℕ, ◌+◌, Bool, List, [], ◌∷◌, ◌++◌, map, length, Option, Some, None, refl, sym, ◌∙◌, ap, subst}
 use Rattle.std.specs.Prelude.{max, filter, nat_lt, Ok, Err}
-use Rattle.std.specs.List.{AllByRecursion}
 use Rattle.std.proofs.lemmas.List.{length-map}
 use Rattle.drmaa_types.specs.Refusals.{first_refusal, refused_or}
 use Rattle.drmaa_types.specs.RefusalLaws.{refused_first, passed_first}
-use Rattle.drmaa_types.specs.declared.refusals.Attribute.{Attribute}
 use Rattle.drmaa_types.specs.declared.refusals.Limit.TheVariants.{Jobs}
 use Rattle.drmaa_types.specs.declared.refusals.Refusal.{Refusal}
 use Rattle.drmaa_types.specs.declared.refusals.Refusal.TheVariants.{OutOfResource}
 use Rattle.job_template.specs.declared.templates.Frame.{Frame}
 use Rattle.job_template.specs.declared.templates.ReservationTemplate.{ReservationTemplate}
-use Rattle.job_template.specs.Frames.{frame_of, frame_tests, name_tests, start_tests, length_tests, slot_tests}
-use Rattle.job_template.specs.Unsupported.{other_tests}
+use Rattle.job_template.specs.Frames.{frame_of, frame_tests}
 use Rattle.drmaa_model.specs.declared.calls.Indices.{Indices}
 use Rattle.drmaa_model.specs.declared.reservations.Accepted.{Accepted}
-use Rattle.drmaa_model.specs.FitLaws.{all-append}
-use Rattle.drmaa_model.specs.Operation.{is_answer}
 use Rattle.drmaa_model.specs.Plan.{Plan}
 use Rattle.drmaa_model.specs.Requests.{request_tests}
 use Rattle.drmaa_model.specs.Submitting.{most_jobs}
 use Rattle.drmaa_model.specs.Time.{advance_plan, lasts, lapsed, called_in}
-use Rattle.scheduler_core.specs.Early.{asked, jobs_tests}
+use Rattle.scheduler_core.specs.Early.{job_count, jobs_tests}
 use Rattle.scheduler_core.specs.Requesting.{room_tests, offered}
-
--- ---- each refusal is an answer
-
-abbrev pub Answering : List (Bool × Refusal) → Type 0
-Answering ts = AllByRecursion (λ (t : Bool × Refusal). is_answer t.1 ≡ true) ts
-
-pub both-answer : (ts us : List (Bool × Refusal)) → Answering ts → Answering us → Answering (ts ++ us)
-both-answer ts us front back = all-append (λ (t : Bool × Refusal). is_answer t.1 ≡ true) ts us front back
-
-pub first-answers : (ts : List (Bool × Refusal)) (why : Refusal) → Answering ts → first_refusal ts ≡ Some why → is_answer why ≡ true
-first-answers [] why all is = absurd (cc)
-first-answers (t ∷ ts) why all is =
-    (elim t.0 as (λ b. cond b (Some t.1) (first_refusal ts) ≡ Some why → is_answer why ≡ true) [
-      | true ↦ λ e. (let same : t.1 ≡ why = cc in subst (λ (r : Refusal). is_answer r ≡ true) same all.0)
-      | false ↦ λ e. first-answers ts why all.1 e
-    ]) is
-
-pub other-answers : (others : List Attribute) → Answering (other_tests others)
-other-answers [] = tt
-other-answers (a ∷ others) = (refl, other-answers others)
-
-pub request-answers : (t : ReservationTemplate) (p : Plan) (why : Refusal) → first_refusal (request_tests t p) ≡ Some why → is_answer why ≡ true
-request-answers t p why is =
-    let f = frame_of p.moment t in
-    let own : Answering (name_tests t ++ start_tests p.moment t f ++ length_tests t f ++ slot_tests f.min f.max) = (refl, (refl, (refl, (refl, (refl, (refl, (refl, (refl, (refl, (refl, tt)))))))))) in
-    first-answers (request_tests t p) why
-    (both-answer (frame_tests p.moment t) (room_tests t p)
-    (both-answer (name_tests t ++ start_tests p.moment t f ++ length_tests t f ++ slot_tests f.min f.max) (other_tests t.others) own (other-answers t.others)) (refl, (refl, tt))) is
 
 -- ---- tables of four parts
 
@@ -78,7 +45,7 @@ jobs-then indices entry at p =
     let m = max p.moment at in
     let rs : List Accepted = filter (lasts m) p.reservations in
     let same : length p.rows ≡ length (advance_plan entry at p).rows = sym (length-map (map (lapsed m rs) p.rows) (called_in m rs) ∙ length-map p.rows (lapsed m rs)) in
-    ap (λ (n : ℕ). first_refusal ((nat_lt most_jobs (n + asked indices), OutOfResource Jobs) ∷ [])) same
+    ap (λ (n : ℕ). first_refusal ((nat_lt most_jobs (n + job_count indices), OutOfResource Jobs) ∷ [])) same
 
 -- ---- what a table without a refusal answers
 

@@ -11,7 +11,7 @@ use Rattle.drmaa_model.specs.Courses.{Membership}
 use Rattle.drmaa_model.specs.Plan.{Plan, opening_plan}
 use Rattle.drmaa_model.specs.Submitting.{Member, array_number, indices_from, members, membership, new_row, new_rows}
 use Rattle.scheduler_core.specs.declared.batches.Batch.{Batch}
-use Rattle.scheduler_core.specs.Early.{asked}
+use Rattle.scheduler_core.specs.Early.{job_count}
 
 -- the jobs that are submitted to this plan share this
 abbrev pub batch_of : ℕ → Plan → Batch
@@ -50,4 +50,4 @@ batch_rows queues b number ms = new_rows b.home (plan_in queues b) number ms
 
 -- what is answered
 abbrev pub told_of : Batch → Option Indices → Submitted
-told_of b indices = record { array = array_number indices (plan_in [] b); first = record { 0 = b.first }; count = asked indices }
+told_of b indices = record { array = array_number indices (plan_in [] b); first = record { 0 = b.first }; count = job_count indices }

@@ -15,13 +15,13 @@ use Rattle.drmaa_model.specs.Submitting.{bulk_tests, index_count, most_jobs, nam
 -- the indices go from one to the next, up to the end
 pub record AreSteps (i : Indices) : Type 0 where
   pub begin : 1 ≤ i.begin
-  pub order : i.begin ≤ i.end
+  pub range : i.begin ≤ i.end
   pub step : 1 ≤ i.step
 
 -- how many jobs are asked for
-abbrev pub asked : Option Indices → ℕ
-asked None = 1
-asked (Some i) = index_count i
+abbrev pub job_count : Option Indices → ℕ
+job_count None = 1
+job_count (Some i) = index_count i
 
 -- the reservation that a template names: its slots, and how many the job needs
 abbrev pub slots_tests : Option ℕ → ℕ → List (Bool × Refusal)
@@ -37,7 +37,7 @@ named_tests t p =
 
 -- how many jobs would be kept
 abbrev pub jobs_tests : Option Indices → Plan → List (Bool × Refusal)
-jobs_tests indices p = (nat_lt most_jobs (length p.rows + asked indices), OutOfResource resource.Jobs) ∷ []
+jobs_tests indices p = (nat_lt most_jobs (length p.rows + job_count indices), OutOfResource resource.Jobs) ∷ []
 
 -- all that is asked before the rows are made
 abbrev pub early_tests : JobTemplate → Option Indices → Plan → List (Bool × Refusal)

@@ -1,13 +1,12 @@
 -- What is made ready of a launch before anything changes.
-use Rattle.std.specs.Prelude.{◌≡◌, ℕ, ◌+◌, ◌-◌, ◌<◌, ◌≤◌, Bool, true, false, ◌&&◌, min, nat_lt, List, filter, Option, Some, None, MatchOption}
+use Rattle.std.specs.Prelude.{◌≡◌, ℕ, ◌+◌, ◌-◌, ◌<◌, ◌≤◌, Bool, true, false, ◌&&◌, min, List, filter, Option, Some, None, MatchOption}
 use Rattle.std.specs.Option.{option_and_then, option_map, option_map_or}
 use Rattle.drmaa_types.specs.Queues.{queue_at}
 use Rattle.drmaa_types.specs.declared.queues.QueueSpec.{QueueSpec}
-use Rattle.drmaa_types.specs.declared.identifiers.ArrayId.{ArrayId}
 use Rattle.drmaa_types.specs.declared.identifiers.ReservationId.{ReservationId}
 use Rattle.drmaa_types.specs.declared.moments.End.{End}
 use Rattle.drmaa_model.specs.declared.rows.Wants.{Wants}
-use Rattle.drmaa_model.specs.Load.{in_array, in_queue, fits}
+use Rattle.drmaa_model.specs.Load.{in_queue, fits}
 use Rattle.drmaa_model.specs.Time.{lasts}
 use Rattle.drmaa_model.specs.TimeLaws.{timed}
 use Rattle.reservation_calendar.specs.declared.bookings.Key.TheVariants.{Job}
@@ -18,7 +17,7 @@ use Rattle.plan_book.specs.Ties.{MayMake}
 use Rattle.drmaa_model.specs.declared.rows.Row.{Row}
 use Rattle.drmaa_model.specs.Courses.{launched, planned_end}
 use Rattle.drmaa_model.specs.Launching.{launch_of}
-use Rattle.drmaa_model.specs.Order.{held, is_ready, has_room_in, has_slots_in, next_launch}
+use Rattle.drmaa_model.specs.NextLaunch.{held, is_ready, has_room_in, has_slots_in, next_launch}
 use Rattle.drmaa_model.specs.Plan.{Plan}
 use Rattle.scheduler_core.specs.declared.launches.Next.{Next}
 use Rattle.plan_book.specs.declared.moves.Move.{Move}
@@ -35,10 +34,6 @@ seen_row moment p row = timed moment (filter (lasts moment) p.reservations) row
 -- a job, as it will be, is ready for its minSlots
 abbrev pub may_launch : ℕ → Plan → Row → Bool
 may_launch moment p row = is_ready (seen moment p) row.wants.min row
-
--- a job that asks for this is within the bound of its array
-abbrev pub within_bound : List Row → Wants → Bool
-within_bound rows wants = option_map_or (λ (bound : ℕ). option_map_or (λ (array : ArrayId). nat_lt (in_array array rows) bound) wants.array true) wants.bound true
 
 -- there are slots within the limit of the queue that a job asks for, where it asks for one
 abbrev pub room_of : Plan → ℕ → Wants → Bool

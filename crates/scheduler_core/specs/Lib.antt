@@ -1,5 +1,6 @@
 pub mod Afters
 pub mod Batches
+pub mod Demands
 pub mod Early
 pub mod Facts
 pub mod Launches

@@ -12,7 +12,7 @@ use Rattle.drmaa_model.specs.Plan.{Plan}
 use Rattle.drmaa_model.specs.Targets.{kept_test, permit_test}
 use Rattle.drmaa_model.specs.Time.{lasts}
 use Rattle.drmaa_model.specs.TimeLaws.{timed}
-use Rattle.plan_book.specs.Sweeps.{is_asking}
+use Rattle.plan_book.specs.Sweeps.{may_add_order}
 use Rattle.scheduler_core.specs.declared.targets.Act.{Act}
 use Rattle.scheduler_core.specs.declared.targets.Act.TheVariants as act
 
@@ -31,5 +31,5 @@ refusal_of a t rows = first_refusal (kept_test t rows ∷ permit_test (λ (row :
 
 -- the call is for one job, and asks for no signal: a hold or a release of it
 abbrev pub is_one_quiet : Target → Control → Bool
-is_one_quiet (target.Job job) what = not (is_asking what)
+is_one_quiet (target.Job job) what = not (may_add_order what)
 is_one_quiet (target.Array array) what = false

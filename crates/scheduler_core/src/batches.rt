@@ -6,8 +6,8 @@ ghost use Rattle.drmaa_types.specs.Refusals.{first_refusal};
 ghost use Rattle.drmaa_model.specs.Courses.{wants_of};
 ghost use Rattle.drmaa_model.specs.Submitting.{bulk_tests, index_count, kept_text, new_text, most_kept_text};
 ghost use Rattle.drmaa_model.specs.Time.{advance_plan};
-ghost use Rattle.plan_book.specs.Book.{IsKept, plan_of};
-ghost use Rattle.scheduler_core.specs.Early.{AreSteps, asked};
+ghost use Rattle.plan_book.specs.Book.{IsBook, plan_of};
+ghost use Rattle.scheduler_core.specs.Early.{AreSteps, job_count};
 ghost use Rattle.scheduler_core.specs.Batches.{place, placed, batch_of, batch_row, batch_rows, batch_member, batch_members};
 
 use crate::bulks::{index_at, index_count};
@@ -218,8 +218,8 @@ pub fn rows_of(
     indices: Option<Indices>,
 ) -> Result<Vec<Row>, Unmade>
     requires bulk { first_refusal (bulk_tests indices) ≡ None }
-    requires numbers { b.now.first + asked indices < 2 ^ 64 }
-    requires kept { IsKept book.now }
+    requires numbers { b.now.first + job_count indices < 2 ^ 64 }
+    requires book { IsBook book.now }
     ensures rows { IfOk result (λ rows. rows.items ≡ batch_rows (plan_of book.now).queues b.now b.now.first (batch_members b.now template indices)) }
     ensures fits { IfOk result (λ rows. kept_text (plan_of book.now).rows + new_text (batch_members b.now template indices) ≤ most_kept_text) }
     ensures err { IfErr result (λ why. why ≡ Unmade.TooMuchText → most_kept_text < kept_text (plan_of book.now).rows + new_text (batch_members b.now template indices)) }

@@ -2,7 +2,7 @@
 ghost use Rattle.std.specs.Prelude.{◌≡◌, ◌<◌, ◌+◌, ◌*◌, None, Some};
 ghost use Rattle.drmaa_types.specs.Refusals.{first_refusal};
 ghost use Rattle.drmaa_model.specs.Submitting.{bulk_tests, index_count};
-ghost use Rattle.scheduler_core.specs.Early.{AreSteps, asked};
+ghost use Rattle.scheduler_core.specs.Early.{AreSteps, job_count};
 
 use drmaa_model::Indices;
 use drmaa_types::{Limit, Refusal, Which};
@@ -52,9 +52,9 @@ pub fn index_at(i: &Indices, place: u32) -> u32
 }
 
 /// How many jobs are asked for.
-pub fn asked(indices: Option<Indices>) -> u32
+pub fn job_count(indices: Option<Indices>) -> u32
     requires { first_refusal (bulk_tests indices) ≡ None }
-    ensures { result ≡ asked indices }
+    ensures { result ≡ job_count indices }
 {
     match indices {
         None => 1,

@@ -3,7 +3,7 @@ ghost use Rattle.std.specs.Prelude.{◌≡◌, ◌≤◌, IfOk, IfErr, OnOk, tru
 ghost use Rattle.std.specs.Option.{option_map, option_and_then, option_copied};
 ghost use Rattle.drmaa_types.specs.Queues.{are_queues};
 ghost use Rattle.drmaa_model.specs.declared.rows.Row.{Row};
-ghost use Rattle.drmaa_model.specs.Order.{held};
+ghost use Rattle.drmaa_model.specs.NextLaunch.{held};
 ghost use Rattle.drmaa_model.specs.Fit.{IsFit};
 ghost use Rattle.drmaa_model.specs.Plan.{opening_plan};
 ghost use Rattle.drmaa_model.specs.Effects.{forget_home};
@@ -40,11 +40,11 @@ impl Model for Core {
 
     ghost Value = { View };
 
-    ghost use Rattle.plan_book.specs.Book.{plan_of, spare, IsKept};
+    ghost use Rattle.plan_book.specs.Book.{plan_of, spare, IsBook};
 
     ghost view = { λ c. record { plan = plan_of c.book; spare = spare c.book } };
 
-    ghost invariant = { λ c. IsKept c.book };
+    ghost invariant = { λ c. IsBook c.book };
 }
 
 impl Core {

@@ -1,20 +1,20 @@
 //! The next launch.
-ghost use Rattle.std.specs.Prelude.{true, false, IfSome, ◌≡◌, ◌+◌, ◌^◌, ◌<◌, ◌≤◌, IfErr, IfOk, OnErr, IsSome, None, Ok};
+ghost use Rattle.std.specs.Prelude.{true, false, IfSome, ◌≡◌, ◌+◌, ◌^◌, ◌<◌, ◌≤◌, ◌⊎◌, IfOk, OnErr, IsSome, None, Ok};
 ghost use Rattle.job_template.specs.Launch.{launch_words};
 ghost use Rattle.drmaa_model.specs.Launching.{launch};
-ghost use Rattle.drmaa_model.specs.Order.{held, is_ready, slots_for, next_launch};
+ghost use Rattle.drmaa_model.specs.NextLaunch.{held, is_ready, slots_for, next_launch};
 ghost use Rattle.drmaa_model.specs.Time.{advance_plan};
-ghost use Rattle.plan_book.specs.Book.{plan_of, calendar_of, IsKept};
+ghost use Rattle.plan_book.specs.Book.{plan_of, calendar_of, IsBook};
 ghost use Rattle.reservation_calendar.specs.Schedules.{is_booked};
-ghost use Rattle.plan_book.specs.Occasions.{plan_at, MeetsAt};
+ghost use Rattle.plan_book.specs.Occasions.{plan_at, TakesAt, IsUnsized};
 ghost use Rattle.plan_book.specs.Ties.{MayMake};
 ghost use Rattle.scheduler_core.specs.Launches.{IsLaunchOf, IsNextIn, MayMakeNext, launch_booking, seen, seen_row};
 
 use crate::cores::Core;
 use crate::ready::{first_ready_at, slots_at};
 use crate::times::course_then;
-use drmaa_model::{Launch, Row};
-use drmaa_types::{End, Moment, Refusal, Shared, TextList};
+use drmaa_model::{Launch, NoEntry, Row};
+use drmaa_types::{End, Moment, Shared, TextList};
 use job_template::launch_words;
 use plan_book::courses::{launched, planned_end};
 use plan_book::{Book, Booked, Edit, Move, Occasion};
@@ -34,15 +34,14 @@ impl Core {
     /// # Errors
     ///
     /// Want of memory.
-    pub fn next_launch(&self, at: Moment) -> Result<Option<Launch>, Refusal>
+    pub fn next_launch(&self, at: Moment) -> Result<Option<Launch>, AllocError>
         ensures next { IfOk result (λ o. o ≡ launch.told (advance_plan 0 at self.now.plan)) }
         ensures nothing { next_launch (advance_plan 0 at self.now.plan) ≡ None → result ≡ Ok None }
-        ensures err { IfErr result (λ why. why ≡ Refusal.OutOfMemory) }
     {
         match next_launch(&self.book, self.alloc, at) {
             Ok(Some(next)) => Ok(Some(next.launch)),
             Ok(None) => Ok(None),
-            Err(_) => Err(Refusal::OutOfMemory),
+            Err(fault) => Err(fault),
         }
     }
 
@@ -50,21 +49,22 @@ impl Core {
     ///
     /// # Errors
     ///
-    /// A journal that would be too large, and want of memory.
-    pub fn take_launch(&mut self, occasion: Occasion) -> Result<Option<Launch>, Refusal>
+    /// Want of memory for the words of the launch; else a journal that would be too large; else want of memory, for the entry or for
+    /// what the launch changes.
+    pub fn take_launch(&mut self, occasion: Occasion) -> Result<Option<Launch>, NoEntry>
         ensures nothing { next_launch (plan_at occasion self.old.plan) ≡ None → (result ≡ Ok None) × (self.new.plan ≡ self.old.plan) }
         ensures left { next_launch (plan_at occasion self.old.plan) ≡ None → self.new.spare ≡ self.old.spare }
         ensures meets { IsSome (next_launch (plan_at occasion self.old.plan)) →
-            MeetsAt occasion launch self.old.plan result self.new.plan }
+            TakesAt occasion launch self.old.plan result self.new.plan ⊎ IsUnsized self.old.plan result self.new.plan }
         ensures spare { self.old.spare ≤ self.new.spare + 2 }
         ensures err { OnErr result (self.old.spare ≤ self.new.spare) }
     {
         match next_launch(&self.book, self.alloc, occasion.at) {
-            Err(_) => Err(Refusal::OutOfMemory),
+            Err(_) => Err(NoEntry::OutOfMemory),
             Ok(None) => Ok(None),
             Ok(Some(next)) => {
-                if let Err(why) = self.book.make(occasion, &next.m) {
-                    return Err(why);
+                if let Err(fault) = self.book.make(occasion, &next.m) {
+                    return Err(fault);
                 }
                 Ok(Some(next.launch))
             }
@@ -74,7 +74,7 @@ impl Core {
 
 /// The job that would be launched at this moment.
 fn next_launch(book: &Book, alloc: Global, at: Moment) -> Result<Option<Next>, AllocError>
-    requires kept { IsKept book.now }
+    requires book { IsBook book.now }
     ensures next { IfOk result (IsNextIn (advance_plan 0 at (plan_of book.now))) }
     ensures may { IfOk result (MayMakeNext (calendar_of book.now)) }
     ensures some { next_launch (advance_plan 0 at (plan_of book.now)) ≡ None → result ≡ Ok None }
@@ -94,11 +94,11 @@ fn next_of(
     moment: Moment,
     used: u32,
 ) -> Result<Next, AllocError>
-    requires kept { IsKept book.now }
+    requires book { IsBook book.now }
     requires later { (plan_of book.now).moment ≤ moment }
     requires used { used ≡ held (plan_of book.now).rows }
     requires ready { is_ready (seen moment (plan_of book.now)) row.now.wants.min (seen_row moment (plan_of book.now) row.now) ≡ true }
-    requires order { row.now.wants.min ≤ row.now.wants.max }
+    requires range { row.now.wants.min ≤ row.now.wants.max }
     requires least { 1 ≤ row.now.wants.min }
     requires limit { IfSome row.now.wants.limit (λ seconds. 1 ≤ seconds) }
     requires fresh { is_booked (calendar_of book.now).bookings (Key.Job row.now.job) ≡ false }

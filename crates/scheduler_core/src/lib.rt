@@ -5,6 +5,7 @@ mod batches;
 mod bulks;
 mod controls;
 mod cores;
+mod demands;
 mod events;
 mod facts;
 mod launches;

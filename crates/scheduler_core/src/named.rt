@@ -5,7 +5,7 @@ ghost use Rattle.drmaa_types.specs.Refusals.{first_refusal};
 ghost use Rattle.drmaa_model.specs.declared.reservations.Accepted.{Accepted};
 ghost use Rattle.drmaa_model.specs.Load.{reservation_of};
 ghost use Rattle.drmaa_model.specs.Time.{advance_plan};
-ghost use Rattle.plan_book.specs.Book.{plan_of, IsKept};
+ghost use Rattle.plan_book.specs.Book.{plan_of, IsBook};
 ghost use Rattle.scheduler_core.specs.Early.{named_tests, slots_tests};
 
 use drmaa_types::{Moment, Refusal, ReservationId, Which};
@@ -15,7 +15,7 @@ use plan_book::Book;
 /// What is wrong with the reservation that a template names, once time has come to this moment: it isn't accepted, or has fewer
 /// slots than the job needs.
 pub fn named_refusal(book: &Book, at: Moment, t: &JobTemplate) -> Option<Refusal>
-    requires kept { IsKept book.now }
+    requires book { IsBook book.now }
     ensures { result ≡ first_refusal (named_tests t.now (advance_plan 0 at (plan_of book.now))) }
 {
     match t.reservation_id {
@@ -39,7 +39,7 @@ fn slots_refusal(slots: Option<u32>, min: u32) -> Option<Refusal>
 
 /// The slots of the reservation of this number, where it is accepted once time has come to this moment.
 fn slots_at(book: &Book, at: Moment, number: ReservationId) -> Option<u32>
-    requires kept { IsKept book.now }
+    requires book { IsBook book.now }
     ensures { result ≡ option_map (λ (a : Accepted). a.slots) (reservation_of number (advance_plan 0 at (plan_of book.now)).reservations) }
 {
     if !book.is_accepted_at(at, number) {

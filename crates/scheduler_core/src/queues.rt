@@ -1,7 +1,7 @@
 //! The slots that the limit of a queue leaves to its ordinary jobs. None of it takes memory.
 ghost use Rattle.std.specs.Prelude.{◌≡◌, ◌^◌, ◌<◌};
 ghost use Rattle.drmaa_model.specs.Load.{held_in_queue, in_queue};
-ghost use Rattle.plan_book.specs.Book.{plan_of, IsKept};
+ghost use Rattle.plan_book.specs.Book.{plan_of, IsBook};
 ghost use Rattle.scheduler_core.specs.Launches.{capped, queue_left, room_of};
 ghost use Rattle.scheduler_core.specs.Sums.{IsKnown};
 
@@ -12,7 +12,7 @@ use plan_book::Book;
 
 /// Whether so many slots are within the limit of the queue that an ordinary job is of, where it is of one.
 pub fn has_room(book: &Book, wants: &Wants, slots: u32, known: &mut Known) -> bool
-    requires kept { IsKept book.now }
+    requires book { IsBook book.now }
     requires few { (plan_of book.now).total < 2 ^ 32 }
     requires known { IsKnown (plan_of book.now).rows known.old }
     ensures value { result ≡ room_of (plan_of book.now) slots wants.now }
@@ -26,7 +26,7 @@ pub fn has_room(book: &Book, wants: &Wants, slots: u32, known: &mut Known) -> bo
 
 /// The slots that the limit of the job's queue leaves, where it is of one.
 pub fn left_in_queue(book: &Book, wants: &Wants, known: &mut Known) -> Option<u32>
-    requires kept { IsKept book.now }
+    requires book { IsBook book.now }
     requires few { (plan_of book.now).total < 2 ^ 32 }
     requires known { IsKnown (plan_of book.now).rows known.old }
     ensures value { result ≡ queue_left (plan_of book.now) wants.now }

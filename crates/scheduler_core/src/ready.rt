@@ -4,13 +4,15 @@ ghost use Rattle.std.specs.Option.{option_copied, option_map, option_map_or};
 ghost use Rattle.drmaa_model.specs.declared.reservations.Accepted.{Accepted};
 ghost use Rattle.drmaa_model.specs.declared.rows.Row.{Row};
 ghost use Rattle.drmaa_model.specs.Load.{covers, in_reservation, in_array, holds_in, held_inside, reservation_of};
-ghost use Rattle.drmaa_model.specs.Order.{held, is_queued, is_reached, has_slots_in, better, first_in_order, settled};
+ghost use Rattle.drmaa_model.specs.NextLaunch.{held, is_queued, is_reached, has_slots_in, better, best_of, settled, is_within_bound};
 ghost use Rattle.drmaa_model.specs.Time.{lasts, advance_plan};
-ghost use Rattle.plan_book.specs.Book.{plan_of, IsKept};
-ghost use Rattle.scheduler_core.specs.Launches.{seen, seen_row, may_launch, within_bound, free_of, slots_of, IsMost};
+ghost use Rattle.plan_book.specs.Book.{plan_of, IsBook};
+ghost use Rattle.scheduler_core.specs.Demands.{IsUnmet};
+ghost use Rattle.scheduler_core.specs.Launches.{seen, seen_row, may_launch, free_of, slots_of, IsMost};
 ghost use Rattle.scheduler_core.specs.Sums.{IsKnown};
 
 use crate::cores::Core;
+use crate::demands::{Demand, is_met};
 use crate::queues::{capped, has_room, left_in_queue};
 use crate::reservations::lasting_of;
 use crate::rows::{has_priority, is_beaten, is_reached};
@@ -40,11 +42,11 @@ impl Core {
 /// ascending. It goes over the jobs behind those at the front that are over, up to the first that it finds of a priority
 /// that no job's passes.
 pub fn first_ready_at<'a>(book: &'a Book, moment: Moment, used: u32) -> Option<&'a Row>
-    requires kept { IsKept book.now }
+    requires book { IsBook book.now }
     requires later { (plan_of book.now).moment ≤ moment }
     requires used { used ≡ held (plan_of book.now).rows }
     ensures { option_map (seen_row moment (plan_of book.now)) (option_copied result)
-        ≡ first_in_order (filter (may_launch moment (plan_of book.now)) (map (seen_row moment (plan_of book.now)) (plan_of book.now).rows)) }
+        ≡ best_of (filter (may_launch moment (plan_of book.now)) (map (seen_row moment (plan_of book.now)) (plan_of book.now).rows)) }
 {
     if used >= book.total() {
         return None;
@@ -52,11 +54,12 @@ pub fn first_ready_at<'a>(book: &'a Book, moment: Moment, used: u32) -> Option<&
     let greatest = book.priority_bound();
     let mut best: Option<&Row> = None;
     let mut known = Known::new();
+    let mut unmet = None;
     for row in book.open_rows() {
         if has_priority(best, greatest) {
             return best; // a later job of the same priority comes after it
         }
-        best = best_with(book, best, row, moment, used, &mut known);
+        best = best_with(book, best, row, moment, used, &mut known, &mut unmet);
     }
     best
 }
@@ -69,51 +72,66 @@ fn best_with<'a>(
     moment: Moment,
     used: u32,
     known: &mut Known,
+    unmet: &mut Option<Demand>,
 ) -> Option<&'a Row>
-    requires kept { IsKept book.now }
+    requires book { IsBook book.now }
     requires later { (plan_of book.now).moment ≤ moment }
     requires used { used ≡ held (plan_of book.now).rows }
     requires known { IsKnown (plan_of book.now).rows known.old }
+    requires unmet { IsUnmet moment (plan_of book.now) unmet.old }
     ensures may { may_launch moment (plan_of book.now) (seen_row moment (plan_of book.now) row.now) ≡ true →
         option_copied result ≡ Some (option_map_or (λ (first : Row). better first row.now) (option_copied best.entry) row.now) }
     ensures not { may_launch moment (plan_of book.now) (seen_row moment (plan_of book.now) row.now) ≡ false → option_copied result ≡ option_copied best.entry }
     ensures known { IsKnown (plan_of book.now).rows known.new }
+    ensures unmet { IsUnmet moment (plan_of book.now) unmet.new }
 {
+    if !is_queued(row.course.state) {
+        return best; // time makes no job queued
+    }
     if is_beaten(best, row) {
         return best;
     }
-    if may_launch_at(book, row, moment, used, known) {
+    if may_launch_at(book, row, moment, used, known, unmet) {
         Some(row)
     } else {
         best
     }
 }
 
-fn may_launch_at(book: &Book, row: &Row, moment: Moment, used: u32, known: &mut Known) -> bool
-    requires kept { IsKept book.now }
+fn may_launch_at(
+    book: &Book,
+    row: &Row,
+    moment: Moment,
+    used: u32,
+    known: &mut Known,
+    unmet: &mut Option<Demand>,
+) -> bool
+    requires book { IsBook book.now }
     requires later { (plan_of book.now).moment ≤ moment }
     requires used { used ≡ held (plan_of book.now).rows }
     requires known { IsKnown (plan_of book.now).rows known.old }
+    requires unmet { IsUnmet moment (plan_of book.now) unmet.old }
     ensures value { result ≡ may_launch moment (plan_of book.now) (seen_row moment (plan_of book.now) row.now) }
     ensures known { IsKnown (plan_of book.now).rows known.new }
+    ensures unmet { IsUnmet moment (plan_of book.now) unmet.new }
 {
     if !is_free(used, row.wants.min, book.total()) {
         return false;
     }
-    if !comes_at(book, row, moment, known) {
+    if !has_slots(book, &row.wants, moment, row.wants.min, known, unmet) {
         return false;
     }
-    has_slots(book, &row.wants, moment, row.wants.min, known)
+    comes_at(book, row, moment, known)
 }
 
 /// Whether a job may be launched as far as its state, its start and its array go.
 fn comes_at(book: &Book, row: &Row, moment: Moment, known: &mut Known) -> bool
-    requires kept { IsKept book.now }
+    requires book { IsBook book.now }
     requires few { (plan_of book.now).total < 2 ^ 32 }
     requires later { (plan_of book.now).moment ≤ moment }
     requires known { IsKnown (plan_of book.now).rows known.old }
     ensures value { result ≡ (is_queued (seen_row moment (plan_of book.now) row.now).course.state
-        && is_reached moment row.now.wants.start && within_bound (plan_of book.now).rows row.now.wants) }
+        && is_reached moment row.now.wants.start && is_within_bound (plan_of book.now).rows row.now.wants) }
     ensures known { IsKnown (plan_of book.now).rows known.new }
 {
     if !is_queued(row.course.state) {
@@ -135,10 +153,10 @@ fn is_free(used: u32, least: u32, total: u32) -> bool
 }
 
 fn may_come(book: &Book, wants: &Wants, state: JobState, moment: Moment, known: &mut Known) -> bool
-    requires kept { IsKept book.now }
+    requires book { IsBook book.now }
     requires few { (plan_of book.now).total < 2 ^ 32 }
     requires known { IsKnown (plan_of book.now).rows known.old }
-    ensures value { result ≡ (is_queued state && is_reached moment wants.now.start && within_bound (plan_of book.now).rows wants.now) }
+    ensures value { result ≡ (is_queued state && is_reached moment wants.now.start && is_within_bound (plan_of book.now).rows wants.now) }
     ensures known { IsKnown (plan_of book.now).rows known.new }
 {
     if !is_queued(state) {
@@ -151,10 +169,10 @@ fn may_come(book: &Book, wants: &Wants, state: JobState, moment: Moment, known: 
 }
 
 fn is_within_bound(book: &Book, wants: &Wants, known: &mut Known) -> bool
-    requires kept { IsKept book.now }
+    requires book { IsBook book.now }
     requires few { (plan_of book.now).total < 2 ^ 32 }
     requires known { IsKnown (plan_of book.now).rows known.old }
-    ensures value { result ≡ within_bound (plan_of book.now).rows wants.now }
+    ensures value { result ≡ is_within_bound (plan_of book.now).rows wants.now }
     ensures known { IsKnown (plan_of book.now).rows known.new }
 {
     let Some(bound) = wants.bound else {
@@ -217,34 +235,52 @@ fn held_inside(row: &Row, number: ReservationId) -> u32
 }
 
 /// The slots that a job may have more: those of its reservation, or else those that are free.
-fn has_slots(book: &Book, wants: &Wants, moment: Moment, slots: u32, known: &mut Known) -> bool
-    requires kept { IsKept book.now }
+fn has_slots(
+    book: &Book,
+    wants: &Wants,
+    moment: Moment,
+    slots: u32,
+    known: &mut Known,
+    unmet: &mut Option<Demand>,
+) -> bool
+    requires book { IsBook book.now }
     requires few { (plan_of book.now).total < 2 ^ 32 }
     requires later { (plan_of book.now).moment ≤ moment }
     requires known { IsKnown (plan_of book.now).rows known.old }
+    requires unmet { IsUnmet moment (plan_of book.now) unmet.old }
     ensures value { result ≡ slots_of (seen moment (plan_of book.now)) slots wants.now }
     ensures known { IsKnown (plan_of book.now).rows known.new }
+    ensures unmet { IsUnmet moment (plan_of book.now) unmet.new }
 {
     match wants.reservation {
         Some(number) => has_slots_in(book, number, moment, slots, known),
-        None => has_slots_free(book, wants, moment, slots, known),
+        None => has_slots_free(book, wants, moment, slots, known, unmet),
     }
 }
 
 /// The slots that an ordinary job may have more, of the calendar and within the limit of its queue.
-fn has_slots_free(book: &Book, wants: &Wants, moment: Moment, slots: u32, known: &mut Known) -> bool
-    requires kept { IsKept book.now }
+fn has_slots_free(
+    book: &Book,
+    wants: &Wants,
+    moment: Moment,
+    slots: u32,
+    known: &mut Known,
+    unmet: &mut Option<Demand>,
+) -> bool
+    requires book { IsBook book.now }
     requires few { (plan_of book.now).total < 2 ^ 32 }
     requires later { (plan_of book.now).moment ≤ moment }
     requires known { IsKnown (plan_of book.now).rows known.old }
+    requires unmet { IsUnmet moment (plan_of book.now) unmet.old }
     ensures value { result ≡ free_of (seen moment (plan_of book.now)) slots wants.now }
     ensures known { IsKnown (plan_of book.now).rows known.new }
+    ensures unmet { IsUnmet moment (plan_of book.now) unmet.new }
 {
     if !has_room(book, wants, slots, known) {
         return false;
     }
-    book.calendar()
-        .fits(slots, moment, planned_end(wants, moment))
+    let until = planned_end(wants, moment);
+    is_met(book, moment, Demand { slots, until }, unmet)
 }
 
 fn has_slots_in(
@@ -254,7 +290,7 @@ fn has_slots_in(
     slots: u32,
     known: &mut Known,
 ) -> bool
-    requires kept { IsKept book.now }
+    requires book { IsBook book.now }
     requires few { (plan_of book.now).total < 2 ^ 32 }
     requires known { IsKnown (plan_of book.now).rows known.old }
     ensures value { result ≡ has_slots_in (seen moment (plan_of book.now)) slots number }
@@ -277,7 +313,7 @@ fn covers(r: &Accepted, moment: Moment) -> bool
 
 /// The slots of a reservation that are left. Jobs at the front that are over hold none.
 fn left_in(book: &Book, number: ReservationId, moment: Moment) -> u32
-    requires kept { IsKept book.now }
+    requires book { IsBook book.now }
     requires few { (plan_of book.now).total < 2 ^ 32 }
     ensures { result ≡ option_map_or (λ (r : Accepted). r.slots - in_reservation number (plan_of book.now).rows) (reservation_of number (filter (lasts moment) (plan_of book.now).reservations)) 0 }
 {
@@ -291,15 +327,18 @@ fn left_in(book: &Book, number: ReservationId, moment: Moment) -> u32
 
 /// The slots that a job gets which is ready for its least number.
 pub fn slots_at(book: &Book, row: &Row, moment: Moment, used: u32) -> u32
-    requires kept { IsKept book.now }
+    requires book { IsBook book.now }
     requires later { (plan_of book.now).moment ≤ moment }
     requires used { used ≡ held (plan_of book.now).rows }
     requires least { 1 ≤ row.now.wants.min }
-    requires order { row.now.wants.min ≤ row.now.wants.max }
+    requires range { row.now.wants.min ≤ row.now.wants.max }
     requires free { used + row.now.wants.min ≤ (plan_of book.now).total }
     requires has { slots_of (seen moment (plan_of book.now)) row.now.wants.min row.now.wants ≡ true }
     ensures { IsMost (seen moment (plan_of book.now)) row.now.wants result }
 {
+    if row.wants.max == row.wants.min {
+        return row.wants.min; // nothing else is asked for
+    }
     let most = row.wants.max.min(book.total() - used);
     match row.wants.reservation {
         Some(number) => most.min(left_in(book, number, moment)),

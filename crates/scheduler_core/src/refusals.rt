@@ -3,10 +3,10 @@ ghost use Rattle.std.specs.Prelude.{◌≡◌, None};
 ghost use Rattle.drmaa_types.specs.Refusals.{first_refusal};
 ghost use Rattle.drmaa_model.specs.Submitting.{bulk_tests};
 ghost use Rattle.drmaa_model.specs.Time.{advance_plan};
-ghost use Rattle.plan_book.specs.Book.{plan_of, IsKept};
+ghost use Rattle.plan_book.specs.Book.{plan_of, IsBook};
 ghost use Rattle.scheduler_core.specs.Early.{early_tests, jobs_tests};
 
-use crate::bulks::{asked, bulk_refusal};
+use crate::bulks::{bulk_refusal, job_count};
 use crate::named::named_refusal;
 use drmaa_model::Indices;
 use drmaa_types::{Limit, Moment, Refusal};
@@ -23,7 +23,7 @@ pub fn refusal_of(
     template: &JobTemplate,
     indices: Option<Indices>,
 ) -> Option<Refusal>
-    requires kept { IsKept book.now }
+    requires book { IsBook book.now }
     ensures first { result ≡ first_refusal (early_tests template.now indices (advance_plan 0 at (plan_of book.now))) }
 {
     if let Some(why) = bulk_refusal(indices) {
@@ -43,7 +43,7 @@ fn jobs_refusal(book: &Book, indices: Option<Indices>) -> Option<Refusal>
     requires bulk { first_refusal (bulk_tests indices) ≡ None }
     ensures first { result ≡ first_refusal (jobs_tests indices (plan_of book.now)) }
 {
-    if book.rows().len() as u64 + u64::from(asked(indices)) > MOST_JOBS {
+    if book.rows().len() as u64 + u64::from(job_count(indices)) > MOST_JOBS {
         Some(Refusal::OutOfResource(Limit::Jobs))
     } else {
         None

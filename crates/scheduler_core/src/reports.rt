@@ -1,5 +1,5 @@
 //! What launcher and reaper report of the processes of jobs. No report takes memory.
-ghost use Rattle.std.specs.Prelude.{◌≡◌, ◌≢◌, ◌≤◌, Err};
+ghost use Rattle.std.specs.Prelude.{◌≡◌, ◌≢◌, ◌≤◌, true, Err};
 ghost use Rattle.std.specs.List.{list_any};
 ghost use Rattle.drmaa_model.specs.Reporting.{report_of, is_launching, is_idle, may_begin, may_exit, is_taken, signal_number};
 ghost use Rattle.drmaa_model.specs.Size.{promised, weight};
@@ -8,7 +8,7 @@ ghost use Rattle.scheduler_core.specs.Facts.{reports_to_come};
 ghost use Rattle.scheduler_core.specs.Reports.{job_of, may_report, after_report, edit_after, booked_after, report_move};
 
 use crate::cores::Core;
-use drmaa_model::{Course, Order, Phase, Report};
+use drmaa_model::{Course, NoEntry, Order, Phase, Report};
 use drmaa_types::{JobId, Moment, Refusal, SignalKind, Which};
 use plan_book::courses::{begun, exited, lost, signal_failed, unstarted};
 use plan_book::{Booked, Edit, Facts, Move, Occasion};
@@ -18,24 +18,32 @@ impl Core {
     ///
     /// # Errors
     ///
-    /// `InvalidArgument(Job)` where the job is not kept, `InvalidState` where no such report may come of it, and a journal
-    /// that would be too large.
-    pub fn report(&mut self, occasion: Occasion, report: Report) -> Result<(), Refusal>
+    /// No entry: a journal that would be too large, and else want of memory for the entry.
+    ///
+    /// A refusal: `InvalidArgument(Job)` where the job is not kept, `InvalidState` where no such report may come of it.
+    pub fn report(
+        &mut self,
+        occasion: Occasion,
+        report: Report,
+    ) -> Result<Result<(), Refusal>, NoEntry>
         ensures meets { MeetsAt occasion (report_of report) self.old.plan result self.new.plan }
         ensures spare { self.old.spare ≤ self.new.spare }
-        ensures memory { result ≢ Err Refusal.OutOfMemory }
+        ensures memory { occasion.has_memory ≡ true → result ≢ Err NoEntry.OutOfMemory }
     {
         let moment = self.book.moment_at(occasion.at);
         let Some(facts) = self.book.facts_at(occasion.at, job_of(report)) else {
-            let why = Refusal::InvalidArgument(Which::Job);
-            return Err(self.book.refuse(occasion, &why));
+            return self
+                .book
+                .refuse(occasion, Refusal::InvalidArgument(Which::Job));
         };
         if !may_report(self.book.orders(), report, &facts.course) {
-            let why = Refusal::InvalidState(facts.course.state);
-            return Err(self.book.refuse(occasion, &why));
+            return self
+                .book
+                .refuse(occasion, Refusal::InvalidState(facts.course.state));
         }
         let m = report_move(report, &facts, moment);
-        self.book.make(occasion, &m)
+        self.book.make(occasion, &m)?;
+        Ok(Ok(()))
     }
 
     /// The reports of starts and ends that the processes of all jobs may still bring: two for a job that is handed out to be

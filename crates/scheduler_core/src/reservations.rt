@@ -1,5 +1,5 @@
 //! The accepted reservations, and how one is ended. None of it takes memory.
-ghost use Rattle.std.specs.Prelude.{◌≡◌, ◌≢◌, Err, filter};
+ghost use Rattle.std.specs.Prelude.{◌≡◌, ◌≢◌, true, Err, filter};
 ghost use Rattle.std.specs.Option.{option_copied};
 ghost use Rattle.drmaa_model.specs.Load.{reservation_of};
 ghost use Rattle.drmaa_model.specs.Requests.{end_reservation};
@@ -8,7 +8,7 @@ ghost use Rattle.plan_book.specs.Occasions.{MeetsAt};
 ghost use Rattle.scheduler_core.specs.Reservations.{reservation_from};
 
 use crate::cores::Core;
-use drmaa_model::Accepted;
+use drmaa_model::{Accepted, NoEntry};
 use drmaa_types::{Moment, Refusal, ReservationId, Which};
 use plan_book::Occasion;
 
@@ -36,22 +36,26 @@ impl Core {
     ///
     /// # Errors
     ///
-    /// `InvalidArgument(Reservation)` where it is not accepted, and a journal that would be too large.
+    /// No entry: a journal that would be too large, and else want of memory for the entry.
+    ///
+    /// A refusal: `InvalidArgument(Reservation)` where it is not accepted.
     pub fn end_reservation(
         &mut self,
         occasion: Occasion,
         reservation: ReservationId,
-    ) -> Result<(), Refusal>
+    ) -> Result<Result<(), Refusal>, NoEntry>
         ensures meets { MeetsAt occasion (end_reservation reservation) self.old.plan result self.new.plan }
         ensures spare { self.new.spare ≡ self.old.spare }
-        ensures memory { result ≢ Err Refusal.OutOfMemory }
+        ensures memory { occasion.has_memory ≡ true → result ≢ Err NoEntry.OutOfMemory }
     {
         let moment = self.book.moment_at(occasion.at);
         if !is_lasting(self.book.reservations(), reservation, moment) {
-            let why = Refusal::InvalidArgument(Which::Reservation);
-            return Err(self.book.refuse(occasion, &why));
+            return self
+                .book
+                .refuse(occasion, Refusal::InvalidArgument(Which::Reservation));
         }
-        self.book.end_reservation(occasion, reservation)
+        self.book.end_reservation(occasion, reservation)?;
+        Ok(Ok(()))
     }
 }
 

@@ -2,7 +2,7 @@
 ghost use Rattle.std.specs.Prelude.{◌≡◌, IsTrue, IsFalse, Some, false, int_lt, not};
 ghost use Rattle.std.specs.Option.{option_copied, option_map_or};
 ghost use Rattle.drmaa_model.specs.declared.rows.Row.{Row};
-ghost use Rattle.drmaa_model.specs.Order.{is_reached, better};
+ghost use Rattle.drmaa_model.specs.NextLaunch.{is_reached, better};
 
 use drmaa_model::Row;
 use drmaa_types::Moment;

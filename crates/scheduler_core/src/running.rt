@@ -7,7 +7,7 @@ ghost use Rattle.drmaa_model.specs.Courses.{is_asked};
 ghost use Rattle.drmaa_model.specs.Events.{started_from, started_of};
 ghost use Rattle.drmaa_model.specs.Fit.{IsRising, number_of};
 ghost use Rattle.drmaa_model.specs.Time.{rows_at};
-ghost use Rattle.plan_book.specs.Book.{plan_of, IsKept};
+ghost use Rattle.plan_book.specs.Book.{plan_of, IsBook};
 ghost use Rattle.scheduler_core.specs.Targets.{row_then};
 
 use crate::cores::Core;
@@ -39,7 +39,7 @@ fn is_asked(kill: Kill) -> bool
 
 // What is told of a started job once time has come to this moment.
 fn started_then(book: &Book, at: Moment, row: &Row) -> Started
-    requires kept { IsKept book.now }
+    requires book { IsBook book.now }
     ensures { result ≡ started_of (row_then at (plan_of book.now) row.now) }
 {
     let course = book.course_at(at, row);

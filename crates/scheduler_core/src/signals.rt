@@ -1,15 +1,15 @@
 //! The signal that is delivered next. It takes no memory.
-ghost use Rattle.std.specs.Prelude.{◌≡◌, ◌≢◌, ◌≤◌, find, Ok, Err, None, IsSome};
+ghost use Rattle.std.specs.Prelude.{◌≡◌, ◌≢◌, ◌≤◌, find, true, Ok, Err, None, IsSome};
 ghost use Rattle.std.specs.Option.{option_map};
 ghost use Rattle.drmaa_model.specs.Launching.{is_alive, is_due_now, next_signal, signal};
 ghost use Rattle.drmaa_model.specs.Time.{advance_plan, rows_at, kill_order};
-ghost use Rattle.plan_book.specs.Book.{plan_of, IsKept};
-ghost use Rattle.plan_book.specs.Occasions.{plan_at, MeetsAt};
+ghost use Rattle.plan_book.specs.Book.{plan_of, IsBook};
+ghost use Rattle.plan_book.specs.Occasions.{plan_at, TakesAt};
 ghost use Rattle.scheduler_core.specs.Signals.{IsNextIn, is_killed, signal_for, take_move};
 
 use crate::cores::Core;
-use drmaa_model::{Order, Phase, Row, Signal};
-use drmaa_types::{Moment, Refusal, SignalKind};
+use drmaa_model::{NoEntry, Order, Phase, Row, Signal};
+use drmaa_types::{Moment, SignalKind};
 use plan_book::courses::is_unasked;
 use plan_book::{Book, Booked, Edit, Facts, Move, Occasion};
 
@@ -36,20 +36,20 @@ impl Core {
     ///
     /// # Errors
     ///
-    /// A journal that would be too large.
-    pub fn take_signal(&mut self, occasion: Occasion) -> Result<Option<Signal>, Refusal>
+    /// A journal that would be too large, and else want of memory for the entry.
+    pub fn take_signal(&mut self, occasion: Occasion) -> Result<Option<Signal>, NoEntry>
         ensures nothing { next_signal (plan_at occasion self.old.plan) ≡ None → (result ≡ Ok None) × (self.new.plan ≡ self.old.plan) × (self.new.spare ≡ self.old.spare) }
         ensures meets { IsSome (next_signal (plan_at occasion self.old.plan)) →
-            MeetsAt occasion signal self.old.plan result self.new.plan }
+            TakesAt occasion signal self.old.plan result self.new.plan }
         ensures spare { self.old.spare ≤ self.new.spare }
-        ensures memory { result ≢ Err Refusal.OutOfMemory }
+        ensures memory { occasion.has_memory ≡ true → result ≢ Err NoEntry.OutOfMemory }
     {
         let Some(next) = next_of(&self.book, occasion.at) else {
             return Ok(None);
         };
         let m = take_move(&next);
-        if let Err(why) = self.book.make(occasion, &m) {
-            return Err(why);
+        if let Err(fault) = self.book.make(occasion, &m) {
+            return Err(fault);
         }
         Ok(Some(signal_for(&next)))
     }
@@ -57,7 +57,7 @@ impl Core {
 
 /// The order that is next once time has come to this moment, with what is known of its job then.
 fn next_of(book: &Book, at: Moment) -> Option<Next>
-    requires kept { IsKept book.now }
+    requires book { IsBook book.now }
     ensures { IsNextIn (advance_plan 0 at (plan_of book.now)) result }
 {
     let Some(order) = next_order(book, at) else {
@@ -72,7 +72,7 @@ fn next_of(book: &Book, at: Moment) -> Option<Next>
 /// The first order that can be delivered: the orders that are asked stand before those that time asks on its way to this
 /// moment.
 fn next_order(book: &Book, at: Moment) -> Option<Order>
-    requires kept { IsKept book.now }
+    requires book { IsBook book.now }
     ensures { result ≡ next_signal (advance_plan 0 at (plan_of book.now)) }
 {
     match asked_order(book, at) {
@@ -83,7 +83,7 @@ fn next_order(book: &Book, at: Moment) -> Option<Order>
 
 /// The first of the orders that are asked that can be delivered.
 fn asked_order(book: &Book, at: Moment) -> Option<Order>
-    requires kept { IsKept book.now }
+    requires book { IsBook book.now }
     ensures { result ≡ find (is_due_now (rows_at at (plan_of book.now))) book.now.orders.items }
 {
     for order in &book.orders {
@@ -96,7 +96,7 @@ fn asked_order(book: &Book, at: Moment) -> Option<Order>
 
 /// Whether the order was not handed out, and its job will have a process.
 fn is_due_now(book: &Book, at: Moment, order: &Order) -> bool
-    requires kept { IsKept book.now }
+    requires book { IsBook book.now }
     ensures { result ≡ is_due_now (rows_at at (plan_of book.now)) order.now }
 {
     if order.taken {
@@ -120,7 +120,7 @@ fn is_alive(phase: Phase) -> bool
 
 /// The first of the kills that time asks on its way to this moment that can be delivered.
 fn kill_due(book: &Book, at: Moment) -> Option<Order>
-    requires kept { IsKept book.now }
+    requires book { IsBook book.now }
     ensures { result ≡ option_map kill_order (find (is_killed at (plan_of book.now)) book.now.rows.items) }
 {
     if book.is_quiet_at(at) {
@@ -131,7 +131,7 @@ fn kill_due(book: &Book, at: Moment) -> Option<Order>
 
 /// The same where time may have something to do. It asks for no kill of the jobs at the front that are over.
 fn first_kill(book: &Book, at: Moment) -> Option<Order>
-    requires kept { IsKept book.now }
+    requires book { IsBook book.now }
     ensures { result ≡ option_map kill_order (find (is_killed at (plan_of book.now)) book.now.rows.items) }
 {
     for row in book.open_rows() {
@@ -144,7 +144,7 @@ fn first_kill(book: &Book, at: Moment) -> Option<Order>
 
 /// Whether time asks for a kill of the job, which has a process.
 fn is_killed(book: &Book, at: Moment, row: &Row) -> bool
-    requires kept { IsKept book.now }
+    requires book { IsBook book.now }
     ensures { result ≡ is_killed at (plan_of book.now) row.now }
 {
     if !is_alive(row.course.phase) {

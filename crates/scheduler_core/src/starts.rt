@@ -4,7 +4,7 @@ ghost use Rattle.job_template.specs.Frames.{is_loose};
 ghost use Rattle.drmaa_model.specs.Load.{first_overfull};
 ghost use Rattle.drmaa_model.specs.Requests.{most_reservations, slots_in, start_in};
 ghost use Rattle.drmaa_model.specs.Time.{lasts};
-ghost use Rattle.plan_book.specs.Book.{plan_of, IsKept};
+ghost use Rattle.plan_book.specs.Book.{plan_of, IsBook};
 
 use drmaa_model::Accepted;
 use drmaa_types::{End, Moment};
@@ -32,7 +32,7 @@ fn count_lasting(rs: &Vec<Accepted>, moment: Moment) -> usize
 
 /// The least start in a frame from which its least number of slots fits.
 pub fn start_in(book: &Book, frame: &Frame) -> Option<Moment>
-    requires kept { IsKept book.now }
+    requires book { IsBook book.now }
     requires since { (plan_of book.now).moment ≤ frame.now.from }
     requires lasting { 0 < frame.now.span }
     ensures { result ≡ start_in frame.now (plan_of book.now) }
@@ -43,10 +43,10 @@ pub fn start_in(book: &Book, frame: &Frame) -> Option<Moment>
 
 /// The greatest number of slots of a frame that fits from such a start.
 pub fn slots_in(book: &Book, frame: &Frame, from: Moment, until: Moment) -> u32
-    requires kept { IsKept book.now }
+    requires book { IsBook book.now }
     requires since { (plan_of book.now).moment ≤ frame.now.from }
     requires least { 1 ≤ frame.now.min }
-    requires order { frame.now.min ≤ frame.now.max }
+    requires range { frame.now.min ≤ frame.now.max }
     requires start { start_in frame.now (plan_of book.now) ≡ Some from }
     requires until { until ≡ from + frame.now.span }
     ensures { result ≡ slots_in frame.now (plan_of book.now) from }
@@ -62,7 +62,7 @@ pub fn slots_in(book: &Book, frame: &Frame, from: Moment, until: Moment) -> u32
 
 /// Where the interval that a template gives exactly is overfull first. None where it gives no such interval.
 pub fn denied_at(book: &Book, t: &ReservationTemplate, frame: &Frame) -> Option<Moment>
-    requires kept { IsKept book.now }
+    requires book { IsBook book.now }
     requires since { (plan_of book.now).moment ≤ frame.now.from }
     ensures { result ≡ (if is_loose t.now then None else first_overfull (plan_of book.now) frame.now.min frame.now.from (End.At frame.now.until)) }
 {
@@ -74,7 +74,7 @@ pub fn denied_at(book: &Book, t: &ReservationTemplate, frame: &Frame) -> Option<
 
 /// The first moment of an interval at which so many slots more would be too many. None exactly where they fit.
 pub fn overfull_from(book: &Book, slots: u32, from: Moment, until: End) -> Option<Moment>
-    requires kept { IsKept book.now }
+    requires book { IsBook book.now }
     requires since { (plan_of book.now).moment ≤ from }
     ensures { result ≡ first_overfull (plan_of book.now) slots from until }
 {

@@ -2,7 +2,7 @@
 ghost use Rattle.std.specs.Prelude.{◌≡◌, ℕ, ◌^◌, ◌<◌, List, IfSome};
 ghost use Rattle.drmaa_model.specs.declared.rows.Row.{Row};
 ghost use Rattle.drmaa_model.specs.Load.{in_array, in_queue, in_reservation};
-ghost use Rattle.plan_book.specs.Book.{plan_of, IsKept};
+ghost use Rattle.plan_book.specs.Book.{plan_of, IsBook};
 ghost use Rattle.scheduler_core.specs.Sums.{IsMade, IsKnown};
 
 use crate::queues::in_queue;
@@ -87,7 +87,7 @@ impl Known {
 
     /// How many members of an array hold slots. They are looked for between its first and its last member.
     pub fn in_array(&mut self, book: &Book, array: ArrayId) -> u32
-        requires kept { IsKept book.now }
+        requires book { IsBook book.now }
         requires few { (plan_of book.now).total < 2 ^ 32 }
         requires known { IsKnown (plan_of book.now).rows self.old }
         ensures value { result ≡ in_array array (plan_of book.now).rows }
@@ -103,7 +103,7 @@ impl Known {
 
     /// The slots held by the ordinary jobs of the queue at this place. Jobs at the front that are over hold none.
     pub fn in_queue(&mut self, book: &Book, place: u32) -> u32
-        requires kept { IsKept book.now }
+        requires book { IsBook book.now }
         requires few { (plan_of book.now).total < 2 ^ 32 }
         requires known { IsKnown (plan_of book.now).rows self.old }
         ensures value { result ≡ in_queue place (plan_of book.now).rows }
@@ -120,7 +120,7 @@ impl Known {
 
     /// The slots held by the jobs that name a reservation. Jobs at the front that are over hold none.
     pub fn in_reservation(&mut self, book: &Book, number: ReservationId) -> u32
-        requires kept { IsKept book.now }
+        requires book { IsBook book.now }
         requires few { (plan_of book.now).total < 2 ^ 32 }
         requires known { IsKnown (plan_of book.now).rows self.old }
         ensures value { result ≡ in_reservation number (plan_of book.now).rows }

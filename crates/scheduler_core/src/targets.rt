@@ -1,12 +1,11 @@
 //! When a call on one job, or on the members of an array, is refused.
-ghost use Rattle.std.specs.Prelude.{◌≡◌, ◌&&◌, IfSome, find, true};
+ghost use Rattle.std.specs.Prelude.{◌≡◌, ◌&&◌, find};
 ghost use Rattle.std.specs.List.{list_any};
 ghost use Rattle.std.specs.Option.{option_copied, option_map};
 ghost use Rattle.drmaa_model.specs.declared.rows.Row.{Row};
-ghost use Rattle.drmaa_model.specs.Operation.{is_answer};
 ghost use Rattle.drmaa_model.specs.Targets.{is_meant, argument_of};
 ghost use Rattle.drmaa_model.specs.Time.{rows_at};
-ghost use Rattle.plan_book.specs.Book.{plan_of, IsKept};
+ghost use Rattle.plan_book.specs.Book.{plan_of, IsBook};
 ghost use Rattle.scheduler_core.specs.Targets.{may_act, refusal_of, row_then};
 
 use drmaa_model::{Row, Target};
@@ -25,9 +24,8 @@ pub enum Act {
 
 /// Why the call is refused once time has come to this moment, or none where it is not.
 pub fn refusal_at(book: &Book, at: Moment, target: &Target, act: Act) -> Option<Refusal>
-    requires kept { IsKept book.now }
-    ensures value { result ≡ refusal_of act target.now (rows_at at (plan_of book.now)) }
-    ensures answer { IfSome result (λ why. is_answer why ≡ true) }
+    requires book { IsBook book.now }
+    ensures { result ≡ refusal_of act target.now (rows_at at (plan_of book.now)) }
 {
     let Some(state) = first_state(book, at, target) else {
         return Some(Refusal::InvalidArgument(argument_of(target)));
@@ -51,7 +49,7 @@ fn argument_of(target: &Target) -> Which
 
 /// The state of the job, or of the array's kept member of least number, once time has come to this moment.
 fn first_state(book: &Book, at: Moment, target: &Target) -> Option<JobState>
-    requires kept { IsKept book.now }
+    requires book { IsBook book.now }
     ensures { result ≡ option_map (λ (row : Row). row.course.state) (find (is_meant target.now) (rows_at at (plan_of book.now))) }
 {
     match first_meant(book, target) {
@@ -62,7 +60,7 @@ fn first_state(book: &Book, at: Moment, target: &Target) -> Option<JobState>
 
 /// The row of the job, which is found by halves, or of the array's kept member of least number, as it is now.
 fn first_meant<'a>(book: &'a Book, target: &Target) -> Option<&'a Row>
-    requires kept { IsKept book.now }
+    requires book { IsBook book.now }
     ensures { option_copied result ≡ find (is_meant target.now) book.now.rows.items }
 {
     first_in(book.meant_rows(*target), target)
@@ -77,7 +75,7 @@ fn first_in<'a>(rows: &'a [Row], target: &Target) -> Option<&'a Row>
 
 /// Whether the state of one of the jobs that are meant permits the call once time has come to this moment.
 fn is_any_permitted(book: &Book, at: Moment, target: &Target, act: Act) -> bool
-    requires kept { IsKept book.now }
+    requires book { IsBook book.now }
     ensures { result ≡ list_any (λ (row : Row). is_meant target.now row && may_act act row.course.state) (rows_at at (plan_of book.now)) }
 {
     is_any_among(book, at, book.meant_rows(*target), target, act)
@@ -85,7 +83,7 @@ fn is_any_permitted(book: &Book, at: Moment, target: &Target, act: Act) -> bool
 
 /// The same of these jobs.
 fn is_any_among(book: &Book, at: Moment, rows: &[Row], target: &Target, act: Act) -> bool
-    requires kept { IsKept book.now }
+    requires book { IsBook book.now }
     ensures { result ≡ list_any (λ (row : Row). is_meant target.now row && may_act act (row_then at (plan_of book.now) row).course.state) rows.now }
 {
     for row in rows {
@@ -97,7 +95,7 @@ fn is_any_among(book: &Book, at: Moment, rows: &[Row], target: &Target, act: Act
 }
 
 fn is_permitted(book: &Book, at: Moment, row: &Row, target: &Target, act: Act) -> bool
-    requires kept { IsKept book.now }
+    requires book { IsBook book.now }
     ensures { result ≡ (is_meant target.now row.now && may_act act (row_then at (plan_of book.now) row.now).course.state) }
 {
     is_meant(target, row) && may_act(act, book.course_at(at, row).state)

@@ -8,7 +8,7 @@ use Rattle.drmaa_model.specs.declared.calls.Call.{Call}
 use Rattle.drmaa_model.specs.declared.entries.Entry.{Entry}
 use Rattle.drmaa_model.specs.declared.replies.Reply.{Reply}
 use Rattle.drmaa_model.specs.Effects.{StepAnswer, gives, nothing, not_yet}
-use Rattle.drmaa_model.specs.KeptCalls.{kept}
+use Rattle.drmaa_model.specs.RecordedCalls.{recorded}
 use Rattle.drmaa_model.specs.Size.{size}
 use Rattle.drmaa_model.specs.Steps.{answer}
 use Rattle.drmaa_model.specs.World.{World, opening_world}
@@ -34,7 +34,7 @@ pub record IsAsked (s : Script) (names : List (List ℕ × Given)) (before : ℕ
   pub begun : ℕ
   pub call : Call
   pub asked : asks s names no_attempt begun l ≡ Some call
-  pub same : e.call ≡ kept call
+  pub same : e.call ≡ recorded call
   pub in_time : is_wait l ≡ true → (before ≤ begun) × (begun ≤ e.at)
 
 -- The entries are what these lines ask, in order: each line asks nothing, or its call is that of the next entry, whose reply
@@ -161,7 +161,7 @@ entered p caller l c r next =
     then record p {
       world = next;
       names = names_after l r p.names;
-      entries = p.entries ++ record { caller = caller; at = p.moment; call = kept c; reply = r } ∷ [];
+      entries = p.entries ++ record { caller = caller; at = p.moment; call = recorded c; reply = r } ∷ [];
     }
     else record p { full = Some (size next) }
 
@@ -172,7 +172,7 @@ after_answer p caller l c nothing second = p
 after_answer p caller l c not_yet second = second
 
 abbrev pub after_look : Playing → CallerId → Line → Call → Playing → Playing
-after_look p caller l c second = after_answer p caller l c (answer p.world p.moment (kept c)) second
+after_look p caller l c second = after_answer p caller l c (answer p.world p.moment (recorded c)) second
 
 -- the moment of a wait's second look becomes the play's
 abbrev pub come_later : Playing → ℕ → Playing

@@ -31,17 +31,16 @@ impl Attempts {
         }
     }
 
-    /// The attempts after a reply. After an `Err` memory ran out, and the attempts are lost.
-    pub fn with(self, reply: &Reply) -> Result<Attempts, AllocError>
-        ensures { IfOk result (λ more. shown.Notes self reply.now more) }
+    /// Notes a reply. After an `Err` memory ran out, and the attempts may be anything.
+    pub fn note(&mut self, reply: &Reply) -> Result<(), AllocError>
+        ensures { IfOk result (λ _. shown.Notes self.old reply.now self.new) }
     {
-        let mut attempts = self.attempts;
         match reply {
-            Reply::Launch(launch) => match attempts.insert(launch.job.0, launch.attempt) {
-                Ok(_) => Ok(Attempts { attempts }),
+            Reply::Launch(launch) => match self.attempts.insert(launch.job.0, launch.attempt) {
+                Ok(_) => Ok(()),
                 Err(failed) => Err(failed.into()),
             },
-            _ => Ok(Attempts { attempts }),
+            _ => Ok(()),
         }
     }
 

@@ -74,37 +74,28 @@ fn given_in(kind: Kind, reply: &Reply) -> Option<Given>
     }
 }
 
-/// The names with what one was given, where it has nothing yet.
+/// Gives a name what it was given, where it has nothing yet. After an `Err` memory ran out.
 #[tactic(auto, using(script_text::specs::NameLaws::not_there))]
-fn with_given(
-    names: Keyed<Given>,
-    name: Name,
-    given: Option<Given>,
-) -> Result<Keyed<Given>, AllocError>
-    ensures { IfOk result (λ more. more ≡ replies.bind_to name given names) }
+fn give(names: &mut Keyed<Given>, name: Name, given: Option<Given>) -> Result<(), AllocError>
+    ensures { IfOk result (λ _. names.new ≡ replies.bind_to name given names.old) }
 {
-    let mut names = names;
     match given {
         Some(given) => {
             if names.find(&name).is_none() {
                 names.add(name, given)?;
             }
-            Ok(names)
+            Ok(())
         }
-        None => Ok(names),
+        None => Ok(()),
     }
 }
 
-/// The names after the reply to a line. After an `Err` memory ran out, and the names are lost.
-pub fn with_reply(
-    names: Keyed<Given>,
-    line: &Line,
-    reply: &Reply,
-) -> Result<Keyed<Given>, AllocError>
-    ensures { IfOk result (λ more. more ≡ replies.names_after line.now reply.now names) }
+/// The names become those after the reply to a line. After an `Err` memory ran out, and the names may be anything.
+pub fn learn_reply(names: &mut Keyed<Given>, line: &Line, reply: &Reply) -> Result<(), AllocError>
+    ensures { IfOk result (λ _. names.new ≡ replies.names_after line.now reply.now names.old) }
 {
     match binding(line)? {
-        Some((name, kind)) => with_given(names, name, given_in(kind, reply)),
-        None => Ok(names),
+        Some((name, kind)) => give(names, name, given_in(kind, reply)),
+        None => Ok(()),
     }
 }

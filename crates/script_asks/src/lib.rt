@@ -11,5 +11,5 @@ mod templates;
 
 pub use asking::ask;
 pub use attempts::Attempts;
-pub use given::{Given, with_reply};
+pub use given::{Given, learn_reply};
 pub use numbers::{number_of, numbers_of};

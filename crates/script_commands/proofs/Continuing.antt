@@ -9,10 +9,10 @@ use Rattle.drmaa_model.specs.declared.configs.Config.{Config}
 use Rattle.drmaa_model.specs.declared.entries.Entry.{Entry}
 use Rattle.drmaa_model.specs.declared.rows.Row.{Row}
 use Rattle.drmaa_model.specs.History.{IsLegal, now_of, replay}
-use Rattle.drmaa_model.specs.KeptCalls.{kept}
 use Rattle.text_codec.specs.Formats.{pair, checked}
 use Rattle.text_codec.specs.Sums.{sum_of}
 use Rattle.text_forms.specs.Templates.{template, frame}
+use Rattle.journal_commands.specs.Replays.{AreRecorded}
 use Rattle.journal_forms.specs.Calls.{running, bulk, requested, calls, calls_with, has_others}
 use Rattle.journal_text.specs.Journals.{IsEntry, IsWritable}
 use Rattle.journal_text.specs.Printing.{MayStand, IsPrintable}
@@ -70,11 +70,7 @@ others_of call.TakeSignal v = refl
 others_of (call.SignalDone job attempt kind) v = refl
 others_of (call.SignalFailed job attempt kind) v = refl
 
--- each call of these entries is its own kept call
-abbrev pub KeepTheirs : List Entry → Type 0
-KeepTheirs es = AllByRecursion (λ (e : Entry). kept e.call ≡ e.call) es
-
-calls_stand : (es rest : List Entry) → AllByRecursion IsEntry es → KeepTheirs (es ++ rest) → (KeepTheirs rest → AllByRecursion CallMayStand rest) → AllByRecursion CallMayStand (es ++ rest)
+calls_stand : (es rest : List Entry) → AllByRecursion IsEntry es → AreRecorded (es ++ rest) → (AreRecorded rest → AllByRecursion CallMayStand rest) → AllByRecursion CallMayStand (es ++ rest)
 calls_stand [] rest v k behind = behind k
 calls_stand (e ∷ es) rest v k behind = (record { call = k.0; others = others_of e.call v.0.call }, calls_stand es rest v.1 k.1 behind)
 
@@ -85,7 +81,7 @@ stop_others row =
       | false ↦ refl
     ]
 
-stops_stand : (moment : ℕ) (rows : List Row) → KeepTheirs (map (stop moment) rows) → AllByRecursion CallMayStand (map (stop moment) rows)
+stops_stand : (moment : ℕ) (rows : List Row) → AreRecorded (map (stop moment) rows) → AllByRecursion CallMayStand (map (stop moment) rows)
 stops_stand moment [] k = tt
 stops_stand moment (row ∷ rows) k = (record { call = k.0; others = stop_others row }, stops_stand moment rows k.1)
 
@@ -95,7 +91,7 @@ both (x ∷ xs) ys v w = (v.0, both xs ys v.1 w)
 
 -- The journal of a machine that goes on from a journal, and has played a script of the same machine, may be printed and read again.
 pub continued_printable : (j : Journal) (s : Script) (lines : List (List ℕ)) → scripts.Spells mode.Serial lines s → s.config ≡ j.config → IsWritable j.config j.entries
-    → IsLegal (revived j).config (revived j).history → KeepTheirs (revived j).history → IsPrintable j.config (served_behind (revived j) s).history
+    → IsLegal (revived j).config (revived j).history → AreRecorded (revived j).history → IsPrintable j.config (served_behind (revived j) s).history
 continued_printable j s lines spelled same writable legal keep =
     let before = revived j in
     let w = replay j.config j.entries in

@@ -1,4 +1,4 @@
 pub mod Continuing
-pub mod Kept
+pub mod Returned
 pub mod Played
 pub mod Went

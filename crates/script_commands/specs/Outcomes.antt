@@ -8,7 +8,7 @@ use Rattle.script_text.specs.declared.scripts.Mode.{Mode}
 use Rattle.script_text.specs.declared.scripts.Mode.TheVariants as mode
 use Rattle.script_text.specs.declared.scripts.Script.{Script}
 use Rattle.text_lines.specs.Lines.{IsTextOf, IsFirstBad}
-use Rattle.text_lines.specs.Skipping.{SpellsKept}
+use Rattle.text_lines.specs.Skipping.{SpellsUnskipped}
 use Rattle.script_commands.specs.declared.plays.Output.{Output}
 use Rattle.script_commands.specs.declared.plays.Output.TheVariants.{Journal as JournalOutput, Listing}
 use Rattle.journal_commands.specs.declared.status.Status.{Status}
@@ -21,7 +21,7 @@ use Rattle.journal_commands.specs.Statuses.{IsRefused}
 
 -- the lines of scripts of this grammar, some of which are skipped
 abbrev pub SpellsScript : Mode → List (List ℕ) → Script → Type 0
-SpellsScript grammar = SpellsKept (scripts.Spells grammar)
+SpellsScript grammar = SpellsUnskipped (scripts.Spells grammar)
 
 -- the bytes are the whole text of this script
 abbrev pub IsScriptText : Mode → List ℕ → Script → Type 0

@@ -45,6 +45,6 @@ pub record HeardSome {B : Type 0} (counted : B → ℕ) (told : B → Option (Li
 
 -- There are as many callbacks as before. What `counted` and `told` say of the one at each place is as where the one that was
 -- there before heard some notifications, or none: that it is the same one is not said.
-pub record AreKept {B : Type 0} (counted : B → ℕ) (told : B → Option (List Notification)) (before after : List B) : Type 0 where
+pub record AreReturned {B : Type 0} (counted : B → ℕ) (told : B → Option (List Notification)) (before after : List B) : Type 0 where
   pub as_many : length after ≡ length before
   pub each : (i : ℕ) (d : B) → i < length before → HeardSome counted told (slice_index_or before i d) (slice_index_or after i d)

@@ -14,7 +14,7 @@ ghost use Rattle.script_commands.specs.Continuing as continuing;
 ghost use Rattle.script_commands.specs.Continuing.{ContinueEnds, ContinueIsWhole, Continues, ReadEnds, revived};
 ghost use Rattle.script_commands.specs.Outcomes.{IsSpelled};
 ghost use Rattle.script_commands.specs.Plays.{served_behind};
-ghost use Rattle.script_commands.specs.Registers.{AreKept};
+ghost use Rattle.script_commands.specs.Registers.{AreReturned};
 
 use crate::ended::Ended;
 use crate::inputs::read_continuation;
@@ -83,7 +83,7 @@ fn go_on<B: Callback, W: Sink>(
     ensures fault { result.status ≡ Status.WriteFault → Rose (W.faults sink.old) (W.faults sink.new) }
     ensures untouched { IsQuiet result.status → sink.new ≡ sink.old }
     ensures whole { (Rose (W.faults sink.old) (W.faults sink.new) → ⊥) → (result.status ≡ Status.Memory) ⊎ Continues (length callbacks) read result.status }
-    ensures kept { AreKept B.counted B.told callbacks result.callbacks }
+    ensures returned { AreReturned B.counted B.told callbacks result.callbacks }
     ensures unheard { IsUnstarted result.status → result.callbacks ≡ callbacks }
 {
     let Continued { journal, script } = read;
@@ -121,7 +121,7 @@ pub fn run_continue<B: Callback, R: Source, W: Sink>(
     ensures untouched { IsQuiet result.status → sink.new ≡ sink.old }
     ensures whole { (Rose (R.faults source.old) (R.faults source.new) → ⊥) → (Rose (W.faults sink.old) (W.faults sink.new) → ⊥)
         → IfSome (R.left source.old) (λ bytes. ContinueIsWhole (length callbacks) bytes result.status) }
-    ensures kept { AreKept B.counted B.told callbacks result.callbacks }
+    ensures returned { AreReturned B.counted B.told callbacks result.callbacks }
     ensures unheard { IsUnstarted result.status → result.callbacks ≡ callbacks }
 {
     match read_continuation(alloc, source) {

@@ -18,7 +18,7 @@ ghost use Rattle.journal_commands.specs.Statuses.{IsQuiet, IsUnstarted, HasRead,
 ghost use Rattle.journal_commands.specs.Texts.{IsReadOut};
 ghost use Rattle.script_commands.specs.Outcomes.{IsSpelled, IsScriptText, IsWritten, HasJournal, WritesPlay, IsOfScript, PlayEnds, PlayIsWhole, PlayedEnds, own_of};
 ghost use Rattle.script_commands.specs.Plays.{new_machine, play_behind, served_behind, ledger_text, own_text, own_behind, text_behind, IsWrittenBy};
-ghost use Rattle.script_commands.specs.Registers.{registers_of, end_behind, HasPlayed, AreKept};
+ghost use Rattle.script_commands.specs.Registers.{registers_of, end_behind, HasPlayed, AreReturned};
 
 use crate::ended::Ended;
 use crate::inputs::read_script;
@@ -198,7 +198,7 @@ pub(crate) fn play_to<B: Callback, W: Sink>(
         → HearHistoryAfter B.counted B.told (registrations_of machine.ledger.config machine.ledger.history) machine.ledger.config (served_behind machine.ledger script.now).history callbacks result.callbacks }
     ensures heard_front { result.status ≡ Status.Memory → (result.callbacks ≡ callbacks)
         ⊎ HearFrontAfter B.counted B.told machine.ledger.config (start_of machine.ledger) (play_behind machine.ledger script.now).entries callbacks result.callbacks }
-    ensures kept { AreKept B.counted B.told callbacks result.callbacks }
+    ensures returned { AreReturned B.counted B.told callbacks result.callbacks }
 {
     let mut ears = match Ears::new(alloc, callbacks) {
         Ok(ears) => ears,
@@ -247,7 +247,7 @@ fn play_new<B: Callback, W: Sink>(
     ensures writable { WritesPlay output result.status → IsWritten script.now }
     ensures heard { HasPlayed result.status → HearHistory B.counted B.told script.now.config (serial_play script.now).entries callbacks result.callbacks }
     ensures heard_front { result.status ≡ Status.Memory → HearFront B.counted B.told script.now.config (serial_play script.now).entries callbacks result.callbacks }
-    ensures kept { AreKept B.counted B.told callbacks result.callbacks }
+    ensures returned { AreReturned B.counted B.told callbacks result.callbacks }
     ensures unheard { IsUnstarted result.status → result.callbacks ≡ callbacks }
 {
     if !are_enough(script, callbacks.as_slice().len()) {
@@ -289,7 +289,7 @@ pub fn run_play<B: Callback, R: Source, W: Sink>(
         → HearHistory B.counted B.told script.config (serial_play script).entries callbacks result.callbacks) }
     ensures heard_front { result.status ≡ Status.Memory → IfSome (R.left source.old) (λ bytes. (script : Script) → IsScriptText mode.Serial bytes script
         → HearFront B.counted B.told script.config (serial_play script).entries callbacks result.callbacks) }
-    ensures kept { AreKept B.counted B.told callbacks result.callbacks }
+    ensures returned { AreReturned B.counted B.told callbacks result.callbacks }
     ensures unheard { IsUnstarted result.status → result.callbacks ≡ callbacks }
 {
     match read_script(alloc, Mode::Serial, source) {

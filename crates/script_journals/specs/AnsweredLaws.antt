@@ -31,14 +31,13 @@ use Rattle.drmaa_model.specs.declared.calls.Target.{Target}
 use Rattle.drmaa_model.specs.declared.calls.Target.TheVariants as target
 use Rattle.drmaa_model.specs.declared.replies.Reply.{Reply}
 use Rattle.drmaa_model.specs.declared.replies.Reply.TheVariants as reply
-use Rattle.drmaa_model.specs.AnswerLaws.{answer-cases}
-use Rattle.drmaa_model.specs.Effects.{StepAnswer, gives, nothing, not_yet, makes, effect, through_some, info_reply, reservation_reply, wait_answer}
+use Rattle.drmaa_model.specs.AnswerLaws.{answer-cases, some-cases}
+use Rattle.drmaa_model.specs.Effects.{StepAnswer, gives, nothing, not_yet, effect, info_reply, reservation_reply, wait_answer}
 use Rattle.drmaa_model.specs.Homes.{session_test, own_test, seen_test, reap_test, reapers, reservation_test, own_rows}
 use Rattle.drmaa_model.specs.Controlling.{control_tests, reap_tests}
 use Rattle.drmaa_model.specs.Infos.{info, reservation_info}
 use Rattle.drmaa_model.specs.Launching.{launch, signal}
 use Rattle.drmaa_model.specs.Load.{reservation_of}
-use Rattle.drmaa_model.specs.Operation.{Operation}
 use Rattle.drmaa_model.specs.Plan.{Plan}
 use Rattle.drmaa_model.specs.Refusals.{refusal, is_pausing, most_callbacks, lists_other}
 use Rattle.drmaa_model.specs.Requests.{request_tests, most_reservations, start_in, denied_at}
@@ -207,14 +206,6 @@ Stands (gives r next) = may_answer r ≡ true
 Stands nothing = Unit {0}
 Stands not_yet = Unit {0}
 
-some-stands : {A : Type 0} (tell : A → Reply) (op : Operation (Option A)) (w : World) → ((told : A) → may_answer (tell told) ≡ true) → Stands (through_some tell op w)
-unfolding Stands
-some-stands tell op w each =
-    elim (op.told w.plan) as (λ o. Stands (option_map_or (λ told. makes (tell told) (record w { plan = op.effect (w.entries + 1) w.plan })) o nothing)) [
-      | None ↦ tt
-      | Some told ↦ each told
-    ]
-
 wait-stands : (first : Option ℕ) (over : Bool) (w : World) → Stands (wait_answer first over w)
 unfolding Stands
 wait-stands None true w = refl
@@ -240,8 +231,8 @@ unfolding Stands
 effect-stands at w (call.GetInfo session job) = info-stands w job
 effect-stands at w (call.Wait session listed kind begun timeout) = wait-stands (first_reached kind w.plan.rows listed) (is_timed_out at begun timeout) w
 effect-stands at w (call.GetReservation session number) = reservation-stands w number
-effect-stands at w call.TakeLaunch = some-stands reply.Launch launch w (λ told. refl)
-effect-stands at w call.TakeSignal = some-stands reply.Signal signal w (λ told. refl)
+effect-stands at w call.TakeLaunch = some-cases Stands reply.Launch launch w tt (λ told. refl)
+effect-stands at w call.TakeSignal = some-cases Stands reply.Signal signal w tt (λ told. refl)
 effect-stands at w _ = refl
 
 -- The reply of a step may stand in a journal.

@@ -4,17 +4,17 @@ use Rattle.std.specs.List.{slice_get}
 use Rattle.drmaa_model.specs.declared.calls.Call.{Call}
 use Rattle.drmaa_model.specs.declared.calls.Call.TheVariants as call
 use Rattle.drmaa_model.specs.declared.entries.Entry.{Entry}
-use Rattle.drmaa_model.specs.KeptCalls.{kept}
+use Rattle.drmaa_model.specs.RecordedCalls.{recorded}
 use Rattle.drmaa_model.specs.ReplyKinds.{ReplyKind, a_callback, a_reached_job, kind_of_call}
 use Rattle.journal_forms.specs.Calls.{has_others}
 use Rattle.script_lines.specs.declared.lines.Line.{Line}
 use Rattle.script_text.specs.declared.scripts.Script.{Script}
 use Rattle.script_text.specs.Follows.{lines_of}
 
--- The entry's call is one that a journal may have: it is its own kept call, and no template has queueName or a limit under
+-- The entry's call is one that a journal may have: it is its own recorded call, and no template has queueName or a limit under
 -- `other`.
 pub record CallMayStand (e : Entry) : Type 0 where
-  pub call : kept e.call ≡ e.call
+  pub call : recorded e.call ≡ e.call
   pub others : has_others e.call ≡ true
 
 -- a call of the launcher or of the reaper

@@ -6,7 +6,7 @@ use Rattle.drmaa_types.specs.declared.queues.QueueSpec.{QueueSpec}
 use Rattle.drmaa_model.specs.declared.calls.Call.{Call}
 use Rattle.drmaa_model.specs.declared.calls.Call.TheVariants as call
 use Rattle.drmaa_model.specs.declared.entries.Entry.{Entry}
-use Rattle.drmaa_model.specs.KeptCalls.{kept}
+use Rattle.drmaa_model.specs.RecordedCalls.{recorded}
 use Rattle.drmaa_model.specs.RowLaws.{all-push}
 use Rattle.text_codec.specs.StepLaws.{both}
 use Rattle.script_lines.specs.declared.lines.Line.{Line}
@@ -101,12 +101,12 @@ plays-each Q P s each names before (l ∷ ls) es all (inr (e, rest, same, asked,
     subst (AllByRecursion P) (sym same) (each names before l e all.0 asked, plays-each Q P s each (names_after l e.reply names) e.at ls rest all.1 more)
 
 -- what is asked is kept as such
-kept-attendants : (c : Call) → is_attendants (kept c) ≡ is_attendants c
-kept-attendants call.Register = refl
-kept-attendants _ = refl
+recorded-attendants : (c : Call) → is_attendants (recorded c) ≡ is_attendants c
+recorded-attendants call.Register = refl
+recorded-attendants _ = refl
 
 asked-clients : (s : Script) (names : List (List ℕ × Given)) (before : ℕ) (l : Line) (e : Entry) → IsPlain l → IsAsked s names before l e → IsClientsEntry e
-asked-clients s names before l e plain is = ap is_attendants is.same ∙ kept-attendants is.call ∙ (asks-own s names no_attempt is.begun l is.call is.asked).0 ∙ plain
+asked-clients s names before l e plain is = ap is_attendants is.same ∙ recorded-attendants is.call ∙ (asks-own s names no_attempt is.begun l is.call is.asked).0 ∙ plain
 
 pub block-clients : (lines : List (List ℕ)) (s : Script) (names : List (List ℕ × Given)) (before : ℕ) (block : List Line) (es : List Entry)
     → Spells mode.Threads lines s → IsBlockOf s block → Plays s names before block es → AllByRecursion IsClientsEntry es

@@ -6,7 +6,7 @@ use Rattle.drmaa_model.specs.declared.calls.Call.{Call}
 use Rattle.drmaa_model.specs.declared.calls.Call.TheVariants as call
 use Rattle.drmaa_model.specs.declared.entries.Entry.{Entry}
 use Rattle.drmaa_model.specs.History.{after_entry, IsLegalFrom, IsLegal}
-use Rattle.drmaa_model.specs.KeptCalls.{kept}
+use Rattle.drmaa_model.specs.RecordedCalls.{recorded}
 use Rattle.drmaa_model.specs.World.{World, opening_world}
 use Rattle.journal_forms.specs.Calls.{has_others}
 use Rattle.journal_text.specs.Printing.{MayStand, IsPrintable}
@@ -20,15 +20,15 @@ use Rattle.script_asks.specs.Replies.{names_after}
 use Rattle.script_journals.specs.AnsweredLaws.{answer-stands}
 use Rattle.script_journals.specs.AskedLaws.{HasOthers, asks-holds}
 use Rattle.script_journals.specs.Calls.{CallMayStand, is_attendants}
-use Rattle.script_journals.specs.KeptLaws.{kept-twice, kept-others}
+use Rattle.script_journals.specs.RecordedLaws.{recorded-twice, recorded-others}
 use Rattle.script_journals.specs.PlayedLaws.{spelled-printable, spelled-others}
 
 -- ---- what blocks ask
 
 asked-stands : (s : Script) (names : List (List ℕ × Given)) (before : ℕ) (l : Line) (e : Entry) → HasOthers s → IsAsked s names before l e → CallMayStand e
 asked-stands s names before l e has is = record {
-  call = ap kept is.same ∙ kept-twice is.call ∙ sym is.same;
-  others = ap has_others is.same ∙ kept-others is.call ∙ asks-holds s names no_attempt is.begun l has is.call is.asked;
+  call = ap recorded is.same ∙ recorded-twice is.call ∙ sym is.same;
+  others = ap has_others is.same ∙ recorded-others is.call ∙ asks-holds s names no_attempt is.begun l has is.call is.asked;
 }
 
 plays-stands : (s : Script) (names : List (List ℕ × Given)) (before : ℕ) (ls : List Line) (es : List Entry) → HasOthers s → Plays s names before ls es → AllByRecursion CallMayStand es
@@ -47,10 +47,10 @@ part-stands mode lines s names before block es is (n, plays) = block-stands mode
 
 -- ---- what the launcher and the reaper ask
 
-same-kept : (c : Call) → is_attendants c ≡ true → kept c ≡ c
-same-kept (call.RunJob session t) is = absurd (cc)
-same-kept (call.RunBulk session t indices) is = absurd (cc)
-same-kept _ is = refl
+same-recorded : (c : Call) → is_attendants c ≡ true → recorded c ≡ c
+same-recorded (call.RunJob session t) is = absurd (cc)
+same-recorded (call.RunBulk session t indices) is = absurd (cc)
+same-recorded _ is = refl
 
 no-others : (c : Call) → is_attendants c ≡ true → has_others c ≡ true
 no-others (call.RunJob session t) is = absurd (cc)
@@ -59,7 +59,7 @@ no-others (call.RequestReservation session t) is = absurd (cc)
 no-others _ is = refl
 
 pub attendants-stand : (e : Entry) → is_attendants e.call ≡ true → CallMayStand e
-attendants-stand e is = record { call = same-kept e.call is; others = no-others e.call is }
+attendants-stand e is = record { call = same-recorded e.call is; others = no-others e.call is }
 
 -- ---- all callers
 

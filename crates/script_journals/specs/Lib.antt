@@ -1,7 +1,7 @@
 pub mod AnsweredLaws
 pub mod AskedLaws
 pub mod Calls
-pub mod KeptLaws
+pub mod RecordedLaws
 pub mod PlayedLaws
 pub mod HistoryLaws
 pub mod ClientLaws

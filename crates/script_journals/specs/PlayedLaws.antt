@@ -9,7 +9,7 @@ use Rattle.drmaa_model.specs.declared.configs.Config.{Config}
 use Rattle.drmaa_model.specs.declared.entries.Entry.{Entry}
 use Rattle.drmaa_model.specs.declared.replies.Reply.{Reply}
 use Rattle.drmaa_model.specs.Effects.{StepAnswer, gives, nothing, not_yet}
-use Rattle.drmaa_model.specs.KeptCalls.{kept}
+use Rattle.drmaa_model.specs.RecordedCalls.{recorded}
 use Rattle.drmaa_model.specs.RowLaws.{all-push}
 use Rattle.drmaa_model.specs.Size.{size}
 use Rattle.drmaa_model.specs.Steps.{answer}
@@ -31,36 +31,36 @@ use Rattle.script_asks.specs.Plays.Performer.{sets, waits, a_client, the_launche
 use Rattle.script_asks.specs.Replies.{names_after, last_attempt}
 use Rattle.script_journals.specs.AnsweredLaws.{answer-stands}
 use Rattle.script_journals.specs.AskedLaws.{HasOthers, makes-others, Asks, asks-holds}
-use Rattle.script_journals.specs.KeptLaws.{kept-twice, kept-others}
+use Rattle.script_journals.specs.RecordedLaws.{recorded-twice, recorded-others}
 
 -- ---- the play
 
 AllStand : Playing → Type 0
 AllStand p = AllByRecursion MayStand p.entries
 
-entered-stands : (p : Playing) (caller : CallerId) (l : Line) (c : Call) (r : Reply) (next : World) → has_others c ≡ true → AllStand p → answer p.world p.moment (kept c) ≡ gives r next → AllStand (entered p caller l c r next)
+entered-stands : (p : Playing) (caller : CallerId) (l : Line) (c : Call) (r : Reply) (next : World) → has_others c ≡ true → AllStand p → answer p.world p.moment (recorded c) ≡ gives r next → AllStand (entered p caller l c r next)
 unfolding AllStand
 entered-stands p caller l c r next has all is =
     elim (nat_le (size next) p.world.config.journal) as (λ b. AllStand (cond b (record p {
       world = next;
       names = names_after l r p.names;
-      entries = p.entries ++ record { caller = caller; at = p.moment; call = kept c; reply = r } ∷ [];
+      entries = p.entries ++ record { caller = caller; at = p.moment; call = recorded c; reply = r } ∷ [];
     }) (record p { full = Some (size next) }))) [
-      | true ↦ all-push MayStand p.entries (record { caller = caller; at = p.moment; call = kept c; reply = r }) all (record {
-        call = kept-twice c;
-        others = kept-others c ∙ has;
-        reply = answer-stands p.world p.moment (kept c) r next is;
+      | true ↦ all-push MayStand p.entries (record { caller = caller; at = p.moment; call = recorded c; reply = r }) all (record {
+        call = recorded-twice c;
+        others = recorded-others c ∙ has;
+        reply = answer-stands p.world p.moment (recorded c) r next is;
       })
       | false ↦ all
     ]
 
-answered-stands : (p : Playing) (caller : CallerId) (l : Line) (c : Call) (a : StepAnswer) (second : Playing) → has_others c ≡ true → AllStand p → AllStand second → answer p.world p.moment (kept c) ≡ a → AllStand (after_answer p caller l c a second)
+answered-stands : (p : Playing) (caller : CallerId) (l : Line) (c : Call) (a : StepAnswer) (second : Playing) → has_others c ≡ true → AllStand p → AllStand second → answer p.world p.moment (recorded c) ≡ a → AllStand (after_answer p caller l c a second)
 answered-stands p caller l c (gives r next) second has all then is = entered-stands p caller l c r next has all is
 answered-stands p caller l c nothing second has all then is = all
 answered-stands p caller l c not_yet second has all then is = then
 
 look-stands : (p : Playing) (caller : CallerId) (l : Line) (c : Call) (second : Playing) → has_others c ≡ true → AllStand p → AllStand second → AllStand (after_look p caller l c second)
-look-stands p caller l c second has all then = answered-stands p caller l c (answer p.world p.moment (kept c)) second has all then refl
+look-stands p caller l c second has all then = answered-stands p caller l c (answer p.world p.moment (recorded c)) second has all then refl
 
 later-stands : (p : Playing) (timeout : ℕ) → AllStand p → AllStand (come_later p timeout)
 unfolding AllStand

@@ -4,7 +4,7 @@ use Rattle.std.specs.List.{AllByRecursion, slice_get}
 use Rattle.drmaa_model.specs.declared.calls.Call.{Call}
 use Rattle.drmaa_model.specs.declared.calls.Call.TheVariants as call
 use Rattle.drmaa_model.specs.declared.entries.Entry.{Entry}
-use Rattle.drmaa_model.specs.KeptCalls.{kept}
+use Rattle.drmaa_model.specs.RecordedCalls.{recorded}
 use Rattle.text_codec.specs.StepLaws.{both}
 use Rattle.script_lines.specs.declared.lines.Line.{Line}
 use Rattle.script_text.specs.declared.scripts.Mode.TheVariants as mode
@@ -31,13 +31,13 @@ block-aside : (lines : List (List ℕ)) (s : Script) (n : ℕ) (block : List Lin
 block-aside lines s n block is of = none-registers block (item-all (AllBelong mode.Threads false) s.clients n block (spelled-belongs mode.Threads lines s is).clients of)
 
 -- what is asked is kept as such
-kept-registers : (c : Call) → is_registers (kept c) ≡ is_registers c
-kept-registers call.Register = refl
-kept-registers _ = refl
+recorded-registers : (c : Call) → is_registers (recorded c) ≡ is_registers c
+recorded-registers call.Register = refl
+recorded-registers _ = refl
 
 -- what a line asks that registers no callback
 pub asked-no-register : (s : Script) (names : List (List ℕ × Given)) (before : ℕ) (l : Line) (e : Entry) → is_register l ≡ false → IsAsked s names before l e → IsNoRegister e
-asked-no-register s names before l e other is = ap is_registers is.same ∙ kept-registers is.call ∙ (asks-own s names no_attempt is.begun l is.call is.asked).1 ∙ other
+asked-no-register s names before l e other is = ap is_registers is.same ∙ recorded-registers is.call ∙ (asks-own s names no_attempt is.begun l is.call is.asked).1 ∙ other
 
 pub block-none : (lines : List (List ℕ)) (s : Script) (names : List (List ℕ × Given)) (before n : ℕ) (block : List Line) (es : List Entry)
     → Spells mode.Threads lines s → slice_get s.clients n ≡ Some block → Plays s names before block es → AllByRecursion IsNoRegister es

@@ -12,7 +12,7 @@ use Rattle.drmaa_model.specs.declared.replies.Reply.{Reply}
 use Rattle.drmaa_model.specs.Effects.{StepAnswer, gives, nothing, not_yet}
 use Rattle.drmaa_model.specs.History.{IsLegal, Ledger, now_of, replay}
 use Rattle.drmaa_model.specs.HistoryLaws.{legal-last, legal-prefix}
-use Rattle.drmaa_model.specs.KeptCalls.{kept}
+use Rattle.drmaa_model.specs.RecordedCalls.{recorded}
 use Rattle.drmaa_model.specs.Size.{size}
 use Rattle.drmaa_model.specs.StepLaws.{legal-consistent, step-edges}
 use Rattle.drmaa_model.specs.Steps.{answer}
@@ -41,7 +41,7 @@ Grows before after = (after ≡ before) ⊎ ((e : Entry) × (after ≡ before ++
 entered-grows : (p : Playing) (caller : CallerId) (l : Line) (c : Call) (r : Reply) (next : World) → Grows p.entries (entered p caller l c r next).entries
 unfolding Grows
 entered-grows p caller l c r next =
-    let e : Entry = record { caller = caller; at = p.moment; call = kept c; reply = r } in
+    let e : Entry = record { caller = caller; at = p.moment; call = recorded c; reply = r } in
     elim (nat_le (size next) p.world.config.journal) as (λ b. Grows p.entries (if b then record p { world = next; names = names_after l r p.names; entries = p.entries ++ e ∷ [] } else record p { full = Some (size next) }).entries) [
       | true ↦ inr (e, refl)
       | false ↦ inl refl
@@ -54,7 +54,7 @@ answered-grows p caller l c nothing second g = inl refl
 answered-grows p caller l c not_yet second g = g
 
 looked-grows : (p : Playing) (caller : CallerId) (l : Line) (c : Call) (second : Playing) → Grows p.entries second.entries → Grows p.entries (after_look p caller l c second).entries
-looked-grows p caller l c second g = answered-grows p caller l c (answer p.world p.moment (kept c)) second g
+looked-grows p caller l c second g = answered-grows p caller l c (answer p.world p.moment (recorded c)) second g
 
 chosen-grows : (p : Playing) (o : Option Call) (f : Call → Playing) → ((c : Call) → Grows p.entries (f c).entries) → Grows p.entries (choose o f p).entries
 unfolding Grows

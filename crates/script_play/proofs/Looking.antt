@@ -10,7 +10,7 @@ use Rattle.drmaa_model.specs.declared.entries.Entry.{Entry}
 use Rattle.drmaa_model.specs.declared.replies.Reply.{Reply}
 use Rattle.drmaa_model.specs.Effects.{nothing, not_yet}
 use Rattle.drmaa_model.specs.History.{Ledger, now_of}
-use Rattle.drmaa_model.specs.KeptCalls.{kept}
+use Rattle.drmaa_model.specs.RecordedCalls.{recorded}
 use Rattle.drmaa_model.specs.Size.{size}
 use Rattle.drmaa_model.specs.Steps.{IsStep, answer}
 use Rattle.drmaa_model.specs.World.{World}
@@ -37,7 +37,7 @@ within : (p : Playing) (caller : CallerId) (l : Line) (c : Call) (r : Reply) (ne
     → entered p caller l c r next ≡ record p {
       world = next;
       names = names_after l r p.names;
-      entries = p.entries ++ record { caller = caller; at = p.moment; call = kept c; reply = r } ∷ [];
+      entries = p.entries ++ record { caller = caller; at = p.moment; call = recorded c; reply = r } ∷ [];
     }
 within p caller l c r next h =
     let test : nat_le (size next) p.world.config.journal ≡ true = grind (arith, nat_tests) in
@@ -74,11 +74,11 @@ notes-more start old new before after e noted notes more =
     }
 
 made-of : (v next : View) (caller : CallerId) (l : Line) (c : Call) (reply : Reply)
-    → IsStep (now_of v.ledger) (record { caller = caller; at = v.moment; call = kept c; reply = reply }) (now_of next.ledger)
-    → next.ledger ≡ served v.ledger (record { caller = caller; at = v.moment; call = kept c; reply = reply })
+    → IsStep (now_of v.ledger) (record { caller = caller; at = v.moment; call = recorded c; reply = reply }) (now_of next.ledger)
+    → next.ledger ≡ served v.ledger (record { caller = caller; at = v.moment; call = recorded c; reply = reply })
     → next.start ≡ v.start → next.moment ≡ v.moment → next.names ≡ names_after l reply v.names → next.full ≡ v.full → Notes v.attempts reply next.attempts → IsNoted v → IsLook v caller l c Done next
 made-of v next caller l c reply step entry start moment names full notes noted =
-    let e : Entry = record { caller = caller; at = v.moment; call = kept c; reply = reply } in
+    let e : Entry = record { caller = caller; at = v.moment; call = recorded c; reply = reply } in
     let added : added_to next.start next.ledger.history ≡ added_to v.start v.ledger.history ++ e ∷ [] =
     ap (λ (st : Start). added_to st next.ledger.history) start ∙ added-more v.start v.ledger.history next.ledger.history e noted.whole (ap (λ (k : Ledger). k.history) entry) in
     record {
@@ -96,11 +96,11 @@ made-of v next caller l c reply step entry start moment names full notes noted =
 
 -- A step, and then what its reply tells.
 pub look_made : (v mid next : View) (caller : CallerId) (l : Line) (c : Call) (reply : Reply)
-    → IsStep (now_of v.ledger) (record { caller = caller; at = v.moment; call = kept c; reply = reply }) (now_of mid.ledger)
-    → mid.ledger ≡ served v.ledger (record { caller = caller; at = v.moment; call = kept c; reply = reply })
+    → IsStep (now_of v.ledger) (record { caller = caller; at = v.moment; call = recorded c; reply = reply }) (now_of mid.ledger)
+    → mid.ledger ≡ served v.ledger (record { caller = caller; at = v.moment; call = recorded c; reply = reply })
     → mid ≡ record v { ledger = mid.ledger } → Learns mid l reply next → IsNoted v → IsLook v caller l c Done next
 look_made v mid next caller l c reply step entry same learns noted =
-    let e : Entry = record { caller = caller; at = v.moment; call = kept c; reply = reply } in
+    let e : Entry = record { caller = caller; at = v.moment; call = recorded c; reply = reply } in
     let ledger : next.ledger ≡ mid.ledger = ap (λ (u : View). u.ledger) learns.same in
     let start : next.start ≡ v.start = ap (λ (u : View). u.start) learns.same ∙ ap (λ (u : View). u.start) same in
     let moment : next.moment ≡ v.moment = ap (λ (u : View). u.moment) learns.same ∙ ap (λ (u : View). u.moment) same in
@@ -110,7 +110,7 @@ look_made v mid next caller l c reply step entry same learns noted =
     (subst (λ (u : View). Notes u.attempts reply next.attempts) same learns.attempts) noted
 
 -- A step that would be too large stops the play.
-pub look_full : (v next : View) (caller : CallerId) (l : Line) (c : Call) (n : ℕ) → IsTooLarge (now_of v.ledger) v.moment (kept c) n → next ≡ record v { full = Some n } → IsNoted v
+pub look_full : (v next : View) (caller : CallerId) (l : Line) (c : Call) (n : ℕ) → IsTooLarge (now_of v.ledger) v.moment (recorded c) n → next ≡ record v { full = Some n } → IsNoted v
     → IsLook v caller l c Done next
 look_full v next caller l c n large same noted = record {
   comes = λ second.
@@ -123,7 +123,7 @@ look_full v next caller l c n large same noted = record {
   noted = subst (λ (u : View). IsNoted u) (sym same) noted;
 }
 
-pub look_nothing : (v next : View) (caller : CallerId) (l : Line) (c : Call) → answer (now_of v.ledger) v.moment (kept c) ≡ nothing → next ≡ v → IsNoted v → IsLook v caller l c Done next
+pub look_nothing : (v next : View) (caller : CallerId) (l : Line) (c : Call) → answer (now_of v.ledger) v.moment (recorded c) ≡ nothing → next ≡ v → IsNoted v → IsLook v caller l c Done next
 look_nothing v next caller l c e same noted = record {
   comes = λ second. ap (λ a. after_answer (playing v) caller l c a second) e ∙ ap (λ (u : View). playing u) (sym same);
   config = ap (λ (u : View). u.ledger.config) same;
@@ -131,7 +131,7 @@ look_nothing v next caller l c e same noted = record {
   noted = subst (λ (u : View). IsNoted u) (sym same) noted;
 }
 
-pub look_waits : (v next : View) (caller : CallerId) (l : Line) (c : Call) → answer (now_of v.ledger) v.moment (kept c) ≡ not_yet → next ≡ v → IsNoted v → IsLook v caller l c NotYet next
+pub look_waits : (v next : View) (caller : CallerId) (l : Line) (c : Call) → answer (now_of v.ledger) v.moment (recorded c) ≡ not_yet → next ≡ v → IsNoted v → IsLook v caller l c NotYet next
 look_waits v next caller l c e same noted = record {
   comes = (ap (λ (u : View). playing u) same, λ second. ap (λ a. after_answer (playing v) caller l c a second) e);
   config = ap (λ (u : View). u.ledger.config) same;

@@ -1,5 +1,5 @@
 -- A line's one look at the machine, and a wait's two.
-use Rattle.std.proofs.Common.{◌≡◌, ℕ, ◌+◌, min, Option, Some, None, Result, Ok, Err, IfOk, refl, sym, ap, subst, ◌∙◌}
+use Rattle.std.proofs.Common.{◌≡◌, ℕ, ◌+◌, min, Option, Some, None, refl, sym, ap, subst, ◌∙◌}
 use Rattle.drmaa_types.specs.Moments.{greatest}
 use Rattle.drmaa_types.specs.declared.identifiers.CallerId.{CallerId}
 use Rattle.drmaa_model.specs.declared.calls.Call.{Call}
@@ -12,11 +12,6 @@ use Rattle.script_play.specs.View.{View, IsNoted, playing}
 use Rattle.script_play.specs.declared.players.Looked.{Looked}
 use Rattle.script_play.specs.declared.players.Looked.TheVariants.{Done, NotYet}
 use Rattle.script_play.proofs.Looking.{chosen_none, chosen_some}
-
--- what holds once a call was well
-pub ok_so : {A E : Type 0} (r : Result A E) (P Q : Type 0) → IfOk r (λ _. P) → (P → Q) → IfOk r (λ _. Q)
-ok_so (Ok a) P Q p f = f p
-ok_so (Err e) P Q p f = tt
 
 -- a look that is the only one
 once : (v w : View) (caller : CallerId) (l : Line) (c : Call) (looked : Looked) → IsLook v caller l c looked w → playing w ≡ plays.after_look (playing v) caller l c (playing v)

@@ -70,14 +70,6 @@ pub made_err : {A E V : Type 0} (done : Result A E) (r : Result V E) (v : V) (P 
 made_err {E = E} {V = V} (Ok a) r v P is p = subst (λ (x : Result V E). OnErr x P) (sym is) tt
 made_err {E = E} {V = V} (Err why) r v P is p = subst (λ (x : Result V E). OnErr x P) (sym is) p
 
-pub err_so : {A E : Type 0} (r : Result A E) (P Q : Type 0) → OnErr r P → (P → Q) → OnErr r Q
-err_so (Ok a) P Q p f = tt
-err_so (Err why) P Q p f = f p
-
-pub ok_so : {A E : Type 0} (r : Result A E) (P Q : Type 0) → IfOk r (λ _. P) → (P → Q) → IfOk r (λ _. Q)
-ok_so (Ok a) P Q p f = f p
-ok_so (Err why) P Q p f = tt
-
 -- two things that hold once a call was well
 pub both_ok : {A E : Type 0} (r : Result A E) (P Q : Type 0) → IfOk r (λ _. P) → IfOk r (λ _. Q) → IfOk r (λ _. P × Q)
 both_ok (Ok a) P Q p q = (p, q)

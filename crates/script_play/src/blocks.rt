@@ -32,8 +32,14 @@ fn play_at(
     ensures { IfOk result (λ _. (line : Line) (rest : List Line) → drop place block.now ≡ line ∷ rest
         → GoesTo player.old (plays.play_line script.now (crew_meant crew) (playing player.old) line) player.new) }
 {
-    let line = block.line(place)?;
-    play_line(script, crew, player, &line)
+    match block.line(place) {
+        Ok(line) => {
+            let played = play_line(script, crew, player, &line);
+            drop(line);
+            played
+        }
+        Err(_) => Err(AllocError),
+    }
 }
 
 /// Plays the lines of a block, in order. After each line the callbacks hear what it changed.

@@ -25,12 +25,13 @@ fn play_call(
         (λ c. plays.after_look (playing player.old) caller line.now c (playing player.old)) (playing player.old)) player.new) }
 {
     let begun = player.moment();
-    match player.ask(script, begun, line)? {
-        Some(call) => {
+    match player.ask(script, begun, line) {
+        Ok(Some(call)) => {
             player.look(caller, line, call)?;
             Ok(())
         }
-        None => Ok(()),
+        Ok(None) => Ok(()),
+        Err(why) => Err(why),
     }
 }
 

@@ -3,12 +3,11 @@ ghost use Rattle.std.specs.Prelude.{◌≡◌, [], IfOk};
 ghost use Rattle.script_asks.specs.Replies.{names_after};
 
 use drmaa_model::Reply;
-use script_asks::{Given, with_reply};
+use script_asks::{Given, learn_reply};
 use script_lines::Line;
 use script_text::Keyed;
 use std::alloc::{AllocError, Global};
 use std::marker::Model;
-use std::mem;
 
 /// The names of a block and what they were given. Contracts see the list of these pairs, in order.
 #[derive(Drop)]
@@ -46,23 +45,16 @@ impl Names {
     pub fn with(self, line: &Line, reply: &Reply) -> Result<Names, AllocError>
         ensures { IfOk result (λ more. more ≡ names_after line.now reply.now self) }
     {
-        Ok(Names {
-            given: with_reply(self.given, line, reply)?,
-        })
+        let mut names = self;
+        names.learn(line, reply)?;
+        Ok(names)
     }
 
-    /// Becomes the names after the reply to a line. After an `Err` memory ran out, and the names are lost.
-    pub(crate) fn learn(
-        &mut self,
-        alloc: Global,
-        line: &Line,
-        reply: &Reply,
-    ) -> Result<(), AllocError>
+    /// Becomes the names after the reply to a line. After an `Err` memory ran out, and the names may be anything.
+    pub(crate) fn learn(&mut self, line: &Line, reply: &Reply) -> Result<(), AllocError>
         ensures { IfOk result (λ _. self.new ≡ names_after line.now reply.now self.old) }
     {
-        let names = mem::replace(self, Names::new(alloc));
-        *self = names.with(line, reply)?;
-        Ok(())
+        learn_reply(&mut self.given, line, reply)
     }
 
     /// The same names once more.

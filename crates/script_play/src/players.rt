@@ -1,7 +1,6 @@
 //! A play that is under way.
-ghost use Rattle.std.specs.Prelude.{◌≡◌, ◌+◌, ◌≤◌, min, length, take, IfOk};
+ghost use Rattle.std.specs.Prelude.{◌≡◌, ◌+◌, ◌≤◌, min, length, take};
 ghost use Rattle.drmaa_types.specs.Moments.{greatest};
-ghost use Rattle.script_asks.specs.Attempts.{Notes};
 ghost use Rattle.script_play.specs.Callbacks.{number_in};
 
 use crate::names::Names;
@@ -13,7 +12,6 @@ use script_lines::Line;
 use script_text::Script;
 use std::alloc::{AllocError, Global};
 use std::marker::Model;
-use std::mem;
 use std::snapshot::Snapshot;
 
 /// A play that is under way. Contracts see what its machine was made with and has served, what there was before the play, the
@@ -97,15 +95,6 @@ fn first_64(changes: &[Change]) -> &[Change]
     ensures few { length result.now ≤ 64 }
 {
     &changes[..changes.len().min(64)]
-}
-
-/// Notes the attempt of a launch. After an `Err` memory ran out, and the attempts are lost.
-fn note(alloc: Global, attempts: &mut Attempts, reply: &Reply) -> Result<(), AllocError>
-    ensures { IfOk result (λ _. Notes attempts.old reply.now attempts.new) }
-{
-    let known = mem::replace(attempts, Attempts::new(alloc));
-    *attempts = known.with(reply)?;
-    Ok(())
 }
 
 impl Player {
@@ -245,8 +234,8 @@ impl Player {
     fn learn(&mut self, line: &Line, reply: &Reply) -> Result<(), AllocError>
         ensures { IfOk result (λ _. Learns self.old line.now reply.now self.new) }
     {
-        self.names.learn(self.alloc, line, reply)?;
-        note(self.alloc, &mut self.attempts, reply)
+        self.names.learn(line, reply)?;
+        self.attempts.note(reply)
     }
 
     /// The machine, and the size that stopped the play.

@@ -13,7 +13,7 @@ use Rattle.text_codec.specs.Fields.{always, no_more}
 use Rattle.text_codec.specs.Sums.{sum_of}
 use Rattle.text_codec.specs.StepLaws.{by_test}
 use Rattle.text_codec.specs.Queues.{queue}
-use Rattle.text_lines.specs.Lines.{kept, GoesOn}
+use Rattle.text_lines.specs.Lines.{unskipped_lines, GoesOn}
 use Rattle.text_lines.specs.Automata.{Runs, Reads, GoesBy, from, runs-append}
 use Rattle.script_lines.specs.declared.lines.Line.{Line}
 use Rattle.script_lines.specs.declared.fields.JobField.{JobField}
@@ -171,9 +171,9 @@ some_valid = ((lit< tt, (is_utf8_m, refl)), refl)
     is_utf8_m : IsUtf8 (109 ∷ [])
     is_utf8_m = (109 ∷ [], (refl, refl))
 
-some_kept : kept (header.spell some_machine ∷ []) ≡ header.spell some_machine ∷ []
+some_unskipped : unskipped_lines (header.spell some_machine ∷ []) ≡ header.spell some_machine ∷ []
 unfolding header checked behind
-some_kept = refl
+some_unskipped = refl
 
 goes_by : (mode : Mode) (ls : List (List ℕ)) (l : List ℕ) (s : Reader) (q : Script) → Behind mode ls s → next s l ≡ Some (Top mode q) → Spells mode (ls ++ l ∷ []) q
 goes_by mode ls l s q b g = (behind_more mode ls l s (Top mode q) b g).0
@@ -189,7 +189,7 @@ going_on mode ls (Start m) b = record {
   are_lines = ((header_laws.clean some_machine some_valid).one_line, tt);
   text = begun some_machine [];
   spelled = queueing_spelled mode _ (begun some_machine []) (machine_read mode ls m b);
-  unskipped = some_kept;
+  unskipped = some_unskipped;
 }
 going_on mode ls (Queueing m s) b = record { more = []; are_lines = tt; text = s; spelled = subst (λ ks. Spells mode ks s) (sym (append-nil ls)) (queueing_spelled mode ls s b.0); unskipped = refl }
 going_on mode ls (Top m s) b = record { more = []; are_lines = tt; text = s; spelled = subst (λ ks. Spells mode ks s) (sym (append-nil ls)) b.0; unskipped = refl }

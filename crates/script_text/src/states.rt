@@ -556,7 +556,11 @@ fn after_asking(
         Ok(Reader::Top { mode, script })
     } else {
         match read_line(alloc, line) {
-            Ok(said) => asked(mode, script, block, in_setup, line, &said),
+            Ok(said) => {
+                let next = asked(mode, script, block, in_setup, line, &said);
+                drop(said);
+                next
+            }
             Err(fault) => {
                 drop(block);
                 drop(script);

@@ -7,7 +7,7 @@ use Rattle.drmaa_types.specs.declared.states.JobState.TheVariants.{Done, Failed}
 use Rattle.drmaa_model.specs.declared.entries.Entry.{Entry}
 use Rattle.drmaa_model.specs.declared.replies.Reply.{Reply}
 use Rattle.drmaa_model.specs.declared.replies.Reply.TheVariants as reply
-use Rattle.drmaa_model.specs.Order.{held}
+use Rattle.drmaa_model.specs.NextLaunch.{held}
 use Rattle.drmaa_model.specs.Size.{size}
 use Rattle.drmaa_model.specs.World.{World}
 use Rattle.text_lines.specs.Lines.{ended}

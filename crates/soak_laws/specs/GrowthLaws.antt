@@ -20,7 +20,7 @@ use Rattle.drmaa_model.specs.Fit.{IsFit}
 use Rattle.drmaa_model.specs.Growth.{is_growing}
 use Rattle.drmaa_model.specs.Homes.{home_number}
 use Rattle.drmaa_model.specs.Launching.{launch_of, launch_row}
-use Rattle.drmaa_model.specs.Order.{next_launch}
+use Rattle.drmaa_model.specs.NextLaunch.{next_launch}
 use Rattle.drmaa_model.specs.Refusals.{refusal}
 use Rattle.drmaa_model.specs.Size.{size}
 use Rattle.drmaa_model.specs.Steps.{answer_now}

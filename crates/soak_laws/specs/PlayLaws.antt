@@ -14,7 +14,7 @@ use Rattle.drmaa_model.specs.declared.entries.Entry.{Entry}
 use Rattle.drmaa_model.specs.Consistent.{IsConsistent}
 use Rattle.drmaa_model.specs.Effects.{StepAnswer, gives, nothing, not_yet}
 use Rattle.drmaa_model.specs.FitLaws.{advance-fit}
-use Rattle.drmaa_model.specs.KeptCalls.{kept, kept_template}
+use Rattle.drmaa_model.specs.RecordedCalls.{recorded, recorded_template}
 use Rattle.drmaa_model.specs.Size.{size}
 use Rattle.drmaa_model.specs.SizeLaws.{advance-size}
 use Rattle.drmaa_model.specs.Steps.{IsStep, answer}
@@ -44,11 +44,11 @@ record HasRoom (room : ℕ) (p : Playing) : Type 0 where
 less_room : (more room : ℕ) (p : Playing) → room ≤ more → HasRoom more p → HasRoom room p
 less_room more room p l h = record { consistent = h.consistent; journal = h.journal; full = h.full; left = omega (arith, l, h.left) }
 
-answered : (p : Playing) (caller : CallerId) (l : Line) (c : Call) (a : StepAnswer) (room : ℕ) → answer p.world p.moment (kept c) ≡ a → IsSlight (kept c) → HasRoom (room + 5) p
+answered : (p : Playing) (caller : CallerId) (l : Line) (c : Call) (a : StepAnswer) (room : ℕ) → answer p.world p.moment (recorded c) ≡ a → IsSlight (recorded c) → HasRoom (room + 5) p
     → HasRoom room (after_answer p caller l c a p)
 answered p caller l c (gives r next) room is slight h =
     let w = p.world in
-    let entry : Entry = record { caller = caller; at = p.moment; call = kept c; reply = r } in
+    let entry : Entry = record { caller = caller; at = p.moment; call = recorded c; reply = r } in
     let more : size next ≤ size (advance w p.moment) + 5 = subst (Grows (advance w p.moment)) is (slight (advance w p.moment) p.moment (advance-fit (w.entries + 1) p.moment w.plan h.consistent.fit)) in
     let within : size next + room ≤ 4_000_000 = omega (arith, more, advance-size w p.moment, h.left) in
     let small : size next ≤ w.config.journal = omega (arith, within, h.journal) in
@@ -63,18 +63,18 @@ answered p caller l c (gives r next) room is slight h =
 answered p caller l c nothing room is slight h = less_room (room + 5) room p (omega arith) h
 answered p caller l c not_yet room is slight h = less_room (room + 5) room p (omega arith) h
 
-asked : (p : Playing) (caller : CallerId) (l : Line) (o : Option Call) (room : ℕ) → ((c : Call) → o ≡ Some c → IsSlight (kept c)) → HasRoom (room + 5) p
+asked : (p : Playing) (caller : CallerId) (l : Line) (o : Option Call) (room : ℕ) → ((c : Call) → o ≡ Some c → IsSlight (recorded c)) → HasRoom (room + 5) p
     → HasRoom room (choose o (λ c. after_look p caller l c p) p)
 asked p caller l None room slight h = less_room (room + 5) room p (omega arith) h
-asked p caller l (Some c) room slight h = answered p caller l c (answer p.world p.moment (kept c)) room refl (slight c refl) h
+asked p caller l (Some c) room slight h = answered p caller l c (answer p.world p.moment (recorded c)) room refl (slight c refl) h
 
 -- a line of which this is so wherever it is played
 abbrev IsLight : Script → Line → Type 0
 IsLight s l = (crew : Crew) (p : Playing) (room : ℕ) → HasRoom (room + 5) p → HasRoom room (play_by s crew p l (performer_of l))
 
 -- what is asked is this call
-this_call : (c d : Call) → IsSlight (kept c) → ◌≡◌ {A = Option Call} (Some c) (Some d) → IsSlight (kept d)
-this_call c d slight is = subst (λ k. IsSlight (kept k)) (same_Some c d is) slight
+this_call : (c d : Call) → IsSlight (recorded c) → ◌≡◌ {A = Option Call} (Some c) (Some d) → IsSlight (recorded d)
+this_call c d slight is = subst (λ k. IsSlight (recorded k)) (same_Some c d is) slight
 
 create_jobs_light : (s : Script) (name : List ℕ) (session : Option (List ℕ)) → IsLight s (line.CreateJobs name session)
 create_jobs_light s name session = λ crew p room h.
@@ -94,7 +94,7 @@ asked_light : (s : Script) (step : ℕ) (run : Option (List ℕ)) → IsLight s 
 asked_light s step None = λ crew p room h. asked p crew.client (reserve_of step) (asks_now s p (reserve_of step)) room
     (λ c is. bind (number_of p.names reservations) _ c is (λ n a b. bind (lookup (bytes_eq (template_name step)) s.reservations) _ c b (λ t d e. this_call (call.RequestReservation (record { 0 = n }) t) c (request_slight (record { 0 = n }) t) e))) h
 asked_light s step (Some template) = λ crew p room h. asked p crew.client (run_of step template) (asks_now s p (run_of step template)) room
-    (λ c is. bind (number_of p.names jobs) _ c is (λ n a b. bind (template_of s p.names template None) _ c b (λ t d e. this_call (call.RunJob (record { 0 = n }) t) c (run_slight (record { 0 = n }) (kept_template t)) e))) h
+    (λ c is. bind (number_of p.names jobs) _ c is (λ n a b. bind (template_of s p.names template None) _ c b (λ t d e. this_call (call.RunJob (record { 0 = n }) t) c (run_slight (record { 0 = n }) (recorded_template t)) e))) h
 
 exit_light : (s : Script) (step : ℕ) → IsLight s (line.Exit (job step) 0)
 exit_light s step = λ crew p room h. asked p crew.reaper (line.Exit (job step) 0) (asks_now s p (line.Exit (job step) 0)) room

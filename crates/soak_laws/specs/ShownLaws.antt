@@ -7,7 +7,7 @@ use Rattle.text_codec.specs.CleanLaws.{plain_clean}
 use Rattle.text_codec.specs.Formats.{choose}
 use Rattle.text_codec.specs.Lexical.{is_letter, is_plain}
 use Rattle.text_codec.specs.StepLaws.{both, by_test}
-use Rattle.text_lines.specs.Lines.{is_skipped, kept, AreLines}
+use Rattle.text_lines.specs.Lines.{is_skipped, unskipped_lines, AreLines}
 use Rattle.text_lines.specs.Skipping.{IsReadable}
 use Rattle.soak_script.specs.Draws.{draw, template_by, template_of}
 use Rattle.soak_script.specs.Lines as lines
@@ -36,11 +36,11 @@ shown_readable (l ∷ ls) h =
     let t = both (is_shown l) (list_all is_shown ls) h in
     ((λ skipped. (plain_clean l (shown_line l t.0).0).utf8), shown_readable ls t.1)
 
-pub shown_kept : (ls : List (List ℕ)) → list_all is_shown ls ≡ true → kept ls ≡ ls
-shown_kept [] h = refl
-shown_kept (l ∷ ls) h =
+pub shown_unskipped : (ls : List (List ℕ)) → list_all is_shown ls ≡ true → unskipped_lines ls ≡ ls
+shown_unskipped [] h = refl
+shown_unskipped (l ∷ ls) h =
     let t = both (is_shown l) (list_all is_shown ls) h in
-    rw ((shown_line l t.0).1, shown_kept ls t.1) refl
+    rw ((shown_line l t.0).1, shown_unskipped ls t.1) refl
 
 -- ---- numbers
 

@@ -16,7 +16,7 @@ use Rattle.text_codec.specs.Words.{capitals, name}
 use Rattle.text_dates.specs.Said.{said}
 use Rattle.text_lines.specs.LineLaws.{ended_text}
 use Rattle.text_lines.specs.Lines.{IsTextOf}
-use Rattle.text_lines.specs.Skipping.{SpellsKept}
+use Rattle.text_lines.specs.Skipping.{SpellsUnskipped}
 use Rattle.text_codec.specs.TemplateParts.{resource_limit}
 use Rattle.script_lines.specs.Shapes.{said_fields, text_fields}
 use Rattle.script_lines.specs.TemplateFields.{beginning, beginning_fields, count_fields, duration_fields, integer_fields, limit_fields}
@@ -32,7 +32,7 @@ use Rattle.soak_laws.specs.FollowLaws.{standing, IsFrame, client_follows}
 use Rattle.soak_laws.specs.LineTexts.{short_fields, wide_fields, long_fields, first_parts, frame_fields, frame_parts, parts_at, parts_of, script_spelled}
 use Rattle.soak_laws.specs.NameLaws.{apart, is_numbered, itself}
 use Rattle.soak_laws.specs.Scripts.{template_name, frame_of, frames_by, frames_at, for_steps, client_of, soak_of}
-use Rattle.soak_laws.specs.ShownLaws.{shown_lines, shown_readable, shown_kept, script_shown}
+use Rattle.soak_laws.specs.ShownLaws.{shown_lines, shown_readable, shown_unskipped, script_shown}
 use Rattle.soak_laws.specs.SizeLaws.{script_size}
 
 -- ---- the templates of reservations: each has a name of its own, and each step that is no run has one
@@ -149,10 +149,10 @@ soak_spelled steps seed h = record {
   text = script_spelled steps seed;
 }
 
-pub soak_is_text : (steps seed : ℕ) → steps ≤ 100_000 → IsTextOf (SpellsKept (Spells Serial)) 16_777_216 (soak_text steps seed) (soak_of steps seed)
+pub soak_is_text : (steps seed : ℕ) → steps ≤ 100_000 → IsTextOf (SpellsUnskipped (Spells Serial)) 16_777_216 (soak_text steps seed) (soak_of steps seed)
 soak_is_text steps seed h =
     let ls = soak_script steps seed in
     let shown = script_shown steps seed h in
-    ended_text (SpellsKept (Spells Serial)) ls (soak_of steps seed) 16_777_216 (shown_lines ls shown)
-    (record { readable = shown_readable ls shown; spelled = subst (λ ks. Spells Serial ks (soak_of steps seed)) (sym (shown_kept ls shown)) (soak_spelled steps seed h) })
+    ended_text (SpellsUnskipped (Spells Serial)) ls (soak_of steps seed) 16_777_216 (shown_lines ls shown)
+    (record { readable = shown_readable ls shown; spelled = subst (λ ks. Spells Serial ks (soak_of steps seed)) (sym (shown_unskipped ls shown)) (soak_spelled steps seed h) })
     (script_size steps seed h)

@@ -1,7 +1,7 @@
 //! The script of a soak, and its play.
 ghost use Rattle.std.specs.Prelude.{◌≡◌, ◌≤◌, ℕ, None};
 ghost use Rattle.text_lines.specs.Lines.{IsTextOf};
-ghost use Rattle.text_lines.specs.Skipping.{SpellsKept};
+ghost use Rattle.text_lines.specs.Skipping.{SpellsUnskipped};
 ghost use Rattle.script_text.specs.declared.scripts.Mode.TheVariants.{Serial};
 ghost use Rattle.script_text.specs.declared.scripts.Script.{Script};
 ghost use Rattle.script_text.specs.Scripts.{Spells};
@@ -13,8 +13,8 @@ ghost use Rattle.soak_laws.specs.Scripts.{soak_of};
 /// through the steps; its text, each line with its line feed, is that script's, and no other's.
 pub fn each_soak_is_one_script()
     ensures lines { (steps seed : ℕ) → steps ≤ 100_000 → Spells Serial (soak_script steps seed) (soak_of steps seed) }
-    ensures text { (steps seed : ℕ) → steps ≤ 100_000 → IsTextOf (SpellsKept (Spells Serial)) 16_777_216 (soak_text steps seed) (soak_of steps seed) }
-    ensures one { (steps seed : ℕ) (script : Script) → steps ≤ 100_000 → IsTextOf (SpellsKept (Spells Serial)) 16_777_216 (soak_text steps seed) script
+    ensures text { (steps seed : ℕ) → steps ≤ 100_000 → IsTextOf (SpellsUnskipped (Spells Serial)) 16_777_216 (soak_text steps seed) (soak_of steps seed) }
+    ensures one { (steps seed : ℕ) (script : Script) → steps ≤ 100_000 → IsTextOf (SpellsUnskipped (Spells Serial)) 16_777_216 (soak_text steps seed) script
         → script ≡ soak_of steps seed }
 {}
 

@@ -2,7 +2,7 @@
 //! as `OTHER`.
 ghost use Rattle.std.specs.Prelude.{◌≡◌, ◌++◌, List, ℕ, map, OnOk};
 ghost use Rattle.std.specs.List.{AllByRecursion};
-ghost use Rattle.drmaa_model.specs.KeptCalls.{kept_limit, kept_template, is_word};
+ghost use Rattle.drmaa_model.specs.RecordedCalls.{recorded_limit, recorded_template, is_word};
 ghost use Rattle.text_codec.specs.Formats.{spell_each};
 ghost use Rattle.text_codec.specs.Words.{capitals};
 ghost use Rattle.text_forms.specs.Templates as templates;
@@ -18,8 +18,8 @@ use text_codec::{
 /// Prints a limit's name, or `OTHER`.
 #[tactic(auto, unfolding(text_codec::specs::Words::capitals))]
 fn push_limit_name(out: &mut Vec<u8>, limit: &ResourceLimit) -> Result<(), AllocError>
-    ensures text { OnOk result (out.new.items ≡ out.old.items ++ capitals.spell (kept_limit limit.now).name) }
-    ensures valid { OnOk result (capitals.valid (kept_limit limit.now).name) }
+    ensures text { OnOk result (out.new.items ≡ out.old.items ++ capitals.spell (recorded_limit limit.now).name) }
+    ensures valid { OnOk result (capitals.valid (recorded_limit limit.now).name) }
 {
     if is_capitals(limit.name.as_str().as_bytes()) {
         push_word(out, &limit.name)
@@ -31,8 +31,8 @@ fn push_limit_name(out: &mut Vec<u8>, limit: &ResourceLimit) -> Result<(), Alloc
 /// Prints a limit.
 #[tactic(auto, unfolding(text_codec::specs::TemplateParts::resource_limit, text_codec::specs::Formats::mapped, text_codec::specs::Formats::pair, text_codec::specs::Formats::number))]
 fn push_limit(out: &mut Vec<u8>, limit: &ResourceLimit) -> Result<(), AllocError>
-    ensures text { OnOk result (out.new.items ≡ out.old.items ++ resource_limit.spell (kept_limit limit.now)) }
-    ensures valid { OnOk result (resource_limit.valid (kept_limit limit.now)) }
+    ensures text { OnOk result (out.new.items ≡ out.old.items ++ resource_limit.spell (recorded_limit limit.now)) }
+    ensures valid { OnOk result (resource_limit.valid (recorded_limit limit.now)) }
 {
     push_limit_name(out, limit)?;
     out.extend_from_slice(b" ")?;
@@ -41,8 +41,8 @@ fn push_limit(out: &mut Vec<u8>, limit: &ResourceLimit) -> Result<(), AllocError
 
 /// Prints limits, each behind a key.
 fn push_limits(out: &mut Vec<u8>, key: &[u8], limits: &[ResourceLimit]) -> Result<(), AllocError>
-    ensures text { OnOk result (out.new.items ≡ out.old.items ++ spell_each key.now resource_limit.spell (map kept_limit limits.now)) }
-    ensures valid { OnOk result (AllByRecursion resource_limit.valid (map kept_limit limits.now)) }
+    ensures text { OnOk result (out.new.items ≡ out.old.items ++ spell_each key.now resource_limit.spell (map recorded_limit limits.now)) }
+    ensures valid { OnOk result (AllByRecursion resource_limit.valid (map recorded_limit limits.now)) }
 {
     for limit in limits {
         out.extend_from_slice(key)?;
@@ -53,8 +53,8 @@ fn push_limits(out: &mut Vec<u8>, key: &[u8], limits: &[ResourceLimit]) -> Resul
 
 #[tactic(auto, unfolding(crate::specs::Templates::late_parts, crate::specs::Templates::late_fields, text_codec::specs::Fields::repeated, text_codec::specs::Fields::field, text_codec::specs::Fields::no_more))]
 fn push_late(out: &mut Vec<u8>, template: &JobTemplate) -> Result<(), AllocError>
-    ensures text { OnOk result (out.new.items ≡ out.old.items ++ templates.late_fields.body.spell (templates.late_parts (kept_template template.now))) }
-    ensures valid { OnOk result (templates.late_fields.body.valid (templates.late_parts (kept_template template.now))) }
+    ensures text { OnOk result (out.new.items ≡ out.old.items ++ templates.late_fields.body.spell (templates.late_parts (recorded_template template.now))) }
+    ensures valid { OnOk result (templates.late_fields.body.valid (templates.late_parts (recorded_template template.now))) }
 {
     push_set(out, b" priority ", &template.priority)?;
     push_set(out, b" start ", &template.start_time)?;
@@ -65,8 +65,8 @@ fn push_late(out: &mut Vec<u8>, template: &JobTemplate) -> Result<(), AllocError
 
 #[tactic(auto, unfolding(crate::specs::Templates::placed_parts, crate::specs::Templates::placed_fields, text_codec::specs::Fields::flag, text_codec::specs::Fields::field))]
 fn push_placed(out: &mut Vec<u8>, template: &JobTemplate) -> Result<(), AllocError>
-    ensures text { OnOk result (out.new.items ≡ out.old.items ++ templates.placed_fields.body.spell (templates.placed_parts (kept_template template.now))) }
-    ensures valid { OnOk result (templates.placed_fields.body.valid (templates.placed_parts (kept_template template.now))) }
+    ensures text { OnOk result (out.new.items ≡ out.old.items ++ templates.placed_fields.body.spell (templates.placed_parts (recorded_template template.now))) }
+    ensures valid { OnOk result (templates.placed_fields.body.valid (templates.placed_parts (recorded_template template.now))) }
 {
     push_mark(out, b" join", template.join_files)?;
     push_set(out, b" reservation ", &template.reservation_id)?;
@@ -78,8 +78,8 @@ fn push_placed(out: &mut Vec<u8>, template: &JobTemplate) -> Result<(), AllocErr
 
 #[tactic(auto, unfolding(crate::specs::Templates::path_parts, crate::specs::Templates::path_fields, text_codec::specs::Fields::field))]
 fn push_paths(out: &mut Vec<u8>, template: &JobTemplate) -> Result<(), AllocError>
-    ensures text { OnOk result (out.new.items ≡ out.old.items ++ templates.path_fields.body.spell (templates.path_parts (kept_template template.now))) }
-    ensures valid { OnOk result (templates.path_fields.body.valid (templates.path_parts (kept_template template.now))) }
+    ensures text { OnOk result (out.new.items ≡ out.old.items ++ templates.path_fields.body.spell (templates.path_parts (recorded_template template.now))) }
+    ensures valid { OnOk result (templates.path_fields.body.valid (templates.path_parts (recorded_template template.now))) }
 {
     push_set(out, b" directory ", &template.working_directory)?;
     push_set(out, b" name ", &template.job_name)?;
@@ -91,8 +91,8 @@ fn push_paths(out: &mut Vec<u8>, template: &JobTemplate) -> Result<(), AllocErro
 
 #[tactic(auto, unfolding(crate::specs::Templates::early_parts, crate::specs::Templates::early_fields, text_codec::specs::Fields::flag, text_codec::specs::Fields::repeated))]
 fn push_early(out: &mut Vec<u8>, template: &JobTemplate) -> Result<(), AllocError>
-    ensures text { OnOk result (out.new.items ≡ out.old.items ++ templates.early_fields.body.spell (templates.early_parts (kept_template template.now))) }
-    ensures valid { OnOk result (templates.early_fields.body.valid (templates.early_parts (kept_template template.now))) }
+    ensures text { OnOk result (out.new.items ≡ out.old.items ++ templates.early_fields.body.spell (templates.early_parts (recorded_template template.now))) }
+    ensures valid { OnOk result (templates.early_fields.body.valid (templates.early_parts (recorded_template template.now))) }
 {
     push_each(out, b" arg ", template.args.as_slice())?;
     push_mark(out, b" hold", template.submit_as_hold)?;
@@ -104,8 +104,8 @@ fn push_early(out: &mut Vec<u8>, template: &JobTemplate) -> Result<(), AllocErro
 /// Prints a job's template, with the names of limits that a journal keeps.
 #[tactic(auto, unfolding(crate::specs::Templates::any_template, text_codec::specs::Formats::mapped, text_codec::specs::Fields::in_braces))]
 pub fn push_template(out: &mut Vec<u8>, template: &JobTemplate) -> Result<(), AllocError>
-    ensures text { OnOk result (out.new.items ≡ out.old.items ++ templates.any_template.spell (kept_template template.now)) }
-    ensures valid { OnOk result (templates.any_template.valid (kept_template template.now)) }
+    ensures text { OnOk result (out.new.items ≡ out.old.items ++ templates.any_template.spell (recorded_template template.now)) }
+    ensures valid { OnOk result (templates.any_template.valid (recorded_template template.now)) }
 {
     out.extend_from_slice(b"{command ")?;
     template.remote_command.push(out)?;

@@ -23,8 +23,8 @@ is_skipped [] = true
 is_skipped (b ∷ bs) = b == 35
 
 -- the lines that are not skipped
-abbrev pub kept : List (List ℕ) → List (List ℕ)
-kept lines = filter (λ l. not (is_skipped l)) lines
+abbrev pub unskipped_lines : List (List ℕ) → List (List ℕ)
+unskipped_lines lines = filter (λ l. not (is_skipped l)) lines
 
 -- the bytes, of which there are at most so many, are the whole lines of a text
 pub record IsTextOf {Q : Type 0} (Spells : List (List ℕ) → Q → Type 0) (limit : ℕ) (bytes : List ℕ) (q : Q) : Type 0 where
@@ -49,7 +49,7 @@ pub record GoesOn {Q : Type 0} (Spells : List (List ℕ) → Q → Type 0) (line
   pub are_lines : AreLines more
   pub text : Q
   pub spelled : Spells (lines ++ more) text
-  pub unskipped : kept more ≡ more
+  pub unskipped : unskipped_lines more ≡ more
 
 -- the whole lines within the limit
 abbrev pub first_lines : ℕ → List ℕ → List (List ℕ)

@@ -81,7 +81,7 @@ module _ {C : Type 0} (given : C → Readings) (s : Script) (history : List Entr
   hear-run shared seen hub full r config_is same f setup =
       let may : MayBe s.config hub.note = subst (λ (c : Config). MayBe c hub.note) config_is (may-note shared hub.note f.note.own) in
       let at : noted hub.note ≡ history = f.note.seen_is ∙ sym same in
-      let follows : Follows s.config history hub.ears = subst (λ (h : List Entry). Follows s.config h hub.ears) at (f.kept s.config may) in
+      let follows : Follows s.config history hub.ears = subst (λ (h : List Entry). Follows s.config h hub.ears) at (f.follows s.config may) in
       record {
         may = may;
         noted_is = at;

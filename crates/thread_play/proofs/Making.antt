@@ -56,18 +56,18 @@ begins-same : (a b c : List Entry) → BeginsWith a b → b ≡ c → BeginsWith
 begins-same a b c h is = subst (BeginsWith a) is h
 
 module _ {C T : Type 0} (given : C → Readings) (least : C → ℕ) (told : T → Option Told) (s : Script) (names : List (List ℕ × Given)) (shared : Named Config)
-    (o p0 p1 p2 ph p3 p4 p5 pass0 pass : Seat) (ws vs : List (Worker C)) (pa pb pc pd : Pair C)
+    (o p0 p1 p2 ph p3 p4 p5 hub_seat0 hub_seat : Seat) (ws vs : List (Worker C)) (pa pb pc pd : Pair C)
     (asked asked1 asked2 : Option (List Asked)) (fate fate1 fate2 : ℕ → Fate) (at0 at1 at2 : ℕ → Option (Held T)) (hand0 hand1 hand2 : Option Hand)
     (r : Result (Unit {0}) Refusal) (end : Result (Unit {0}) Stopped) (ended after : Option Stopped) (clocks0 clocks1 clocks2 clocks3 : List C) (clock_h : C)
     (clock_h0 : C) (first : length (retired_of o) ≡ 1) (hired : Hired given shared o p0 ws) (count : length ws ≡ length s.clients)
     (whose_l : (given pa.launcher_clock).caller ≡ Some (length s.clients + 1)) (whose_r : (given pa.reaping_clock).caller ≡ Some (length s.clients + 2)) (whose_h : (given clock_h0).caller ≡ Some (length s.clients + 3))
-    (ol : IsOpened shared p0 p1 pa.launcher) (or : IsOpened shared p1 p2 pa.reaping) (oh : IsOpened shared p2 ph pass0) (start : Nothing told at0) (no_hand : hand0 ≡ None)
+    (ol : IsOpened shared p0 p1 pa.launcher) (or : IsOpened shared p1 p2 pa.reaping) (oh : IsOpened shared p2 ph hub_seat0) (start : Nothing told at0) (no_hand : hand0 ≡ None)
     (a : HasAttended given least told shared pa pb asked asked1 fate fate1 at0 at1 hand0 hand1 r) (played : HavePlayed given shared s names ws vs) (ends_so : EndsAs r end)
     (d : Dismissed shared ph p3 pb.launcher pc.launcher vs) (clock_l : pc.launcher_clock ≡ pb.launcher_clock) (same_r : pc.reaping ≡ pb.reaping) (clock_r : pc.reaping_clock ≡ pb.reaping_clock)
     (worst_is : ended ≡ worst (worse None end) vs)
     (e : HasEnded given least told shared pc pd asked1 asked2 fate1 fate2 at1 at2 hand1 hand2 ended after) (rel : AreReleased shared p3 p4 pd)
     (clocks_d : clocks1 ≡ clocks0 ++ map (λ (w : Worker C). w.clock) vs) (clocks_r : clocks2 ≡ (clocks1 ++ pd.launcher_clock ∷ []) ++ pd.reaping_clock ∷ [])
-    (back : IsReturned shared p4 p5 pass) (pass_number : number_of pass ≡ number_of pass0) (pass_mine : mine_of pass ≡ mine_of pass0) (pass_timed : StaysTimed (mine_of pass0) (given clock_h0) (mine_of pass) (given clock_h)) (clocks_h : clocks3 ≡ clocks2 ++ clock_h ∷ []) where
+    (back : IsReturned shared p4 p5 hub_seat) (hub_seat_number : number_of hub_seat ≡ number_of hub_seat0) (hub_seat_mine : mine_of hub_seat ≡ mine_of hub_seat0) (hub_seat_timed : StaysTimed (mine_of hub_seat0) (given clock_h0) (mine_of hub_seat) (given clock_h)) (clocks_h : clocks3 ≡ clocks2 ++ clock_h ∷ []) where
   -- ---- what was seen
 
   seen-o : seen_of ph ≡ seen_of o
@@ -267,27 +267,27 @@ module _ {C T : Type 0} (given : C → Readings) (least : C → ℕ) (told : T �
       ∙ (set-between ((retired_of o ++ own_lists vs) ++ ml ∷ []) None mr (None ∷ []) (number_of pd.reaping) last
       ∙ append_assoc (retired_of o ++ own_lists vs) (ml ∷ []) (mr ∷ None ∷ [])))
 
-  pass-last : number_of pass ≡ length s.clients + 3
-  pass-last =
+  hub_seat-last : number_of hub_seat ≡ length s.clients + 3
+  hub_seat-last =
       let m = opened-count in
       let k = ap length or.retired in
       let l = length-append (retired_of p1) (None ∷ []) in
       let n = hired-count given shared o p0 ws hired in
       let c = count in
       let f = first in
-      pass_number ∙ (oh.number ∙ omega arith)
+      hub_seat_number ∙ (oh.number ∙ omega arith)
 
-  lists : retired_of p5 ≡ retired_of o ++ (own_lists vs ++ Some (mine_of pd.launcher) ∷ Some (mine_of pd.reaping) ∷ Some (mine_of pass) ∷ [])
+  lists : retired_of p5 ≡ retired_of o ++ (own_lists vs ++ Some (mine_of pd.launcher) ∷ Some (mine_of pd.reaping) ∷ Some (mine_of hub_seat) ∷ [])
   lists =
       let ml = Some (mine_of pd.launcher) in
       let mr = Some (mine_of pd.reaping) in
-      let mh = Some (mine_of pass) in
+      let mh = Some (mine_of hub_seat) in
       let both : Lists = (retired_of o ++ own_lists vs) ++ ml ∷ mr ∷ [] in
       let longer : length both ≡ length (retired_of o ++ own_lists vs) + 2 = length-append (retired_of o ++ own_lists vs) (ml ∷ mr ∷ []) in
       let size = front-size in
-      let number = pass-last in
-      back.retired ∙ (ap (λ (l : Lists). set l (number_of pass) mh) (lists-both ∙ sym (append_assoc (retired_of o ++ own_lists vs) (ml ∷ mr ∷ []) (None ∷ [])))
-      ∙ (set-between both None mh [] (number_of pass) (omega arith)
+      let number = hub_seat-last in
+      back.retired ∙ (ap (λ (l : Lists). set l (number_of hub_seat) mh) (lists-both ∙ sym (append_assoc (retired_of o ++ own_lists vs) (ml ∷ mr ∷ []) (None ∷ [])))
+      ∙ (set-between both None mh [] (number_of hub_seat) (omega arith)
       ∙ (append_assoc (retired_of o ++ own_lists vs) (ml ∷ mr ∷ []) (mh ∷ []) ∙ append_assoc (retired_of o) (own_lists vs) (ml ∷ mr ∷ mh ∷ []))))
 
   all-clocks : clocks3 ≡ clocks0 ++ (map (λ (w : Worker C). w.clock) vs ++ pd.launcher_clock ∷ pd.reaping_clock ∷ clock_h ∷ [])
@@ -325,10 +325,10 @@ module _ {C T : Type 0} (given : C → Readings) (least : C → ℕ) (told : T �
     reaping_clock = pd.reaping_clock;
     reaping_least = least pd.reaping_clock;
     reaping_back = record { number_is = e.reaping.number ∙ reaping-middle; own = e.reaping.own own-middle; timed = reaping-timed };
-    pass = pass;
-    pass_clock = clock_h;
-    pass_mine = pass_mine ∙ oh.mine;
-    pass_timed = pass_timed (Some (length s.clients + 3)) (none-timed (Some (length s.clients + 3)) (given clock_h0) (mine_of pass0) whose_h oh.mine);
+    hub_seat = hub_seat;
+    hub_seat_clock = clock_h;
+    hub_seat_mine = hub_seat_mine ∙ oh.mine;
+    hub_seat_timed = hub_seat_timed (Some (length s.clients + 3)) (none-timed (Some (length s.clients + 3)) (given clock_h0) (mine_of hub_seat0) whose_h oh.mine);
     retired = lists;
     clocks_are = all-clocks;
     known = at-last (seen_of pd.launcher) rel.launcher;
@@ -344,7 +344,7 @@ module _ {C T : Type 0} (given : C → Readings) (least : C → ℕ) (told : T �
   }
 
   -- the hub with it
-  pub heard-made : {B : Type 0} (hub : Following B) (full : Option ℕ) → after ≡ stop_at full → BeginsWith (seen_of pass) (seen_of pd.launcher) → BeginsWith (seen_of pass) (seen_of pd.reaping)
-      → FollowsAll shared (seen_of pass) hub → OthersHeard given told s names shared o p5 asked asked2 fate2 clocks0 clocks3 full hub
+  pub heard-made : {B : Type 0} (hub : Following B) (full : Option ℕ) → after ≡ stop_at full → BeginsWith (seen_of hub_seat) (seen_of pd.launcher) → BeginsWith (seen_of hub_seat) (seen_of pd.reaping)
+      → FollowsAll shared (seen_of hub_seat) hub → OthersHeard given told s names shared o p5 asked asked2 fate2 clocks0 clocks3 full hub
   unfolding others-made
   heard-made hub full is launched reaped follows = record { others = others-made full is; known = back.known; launcher = launched; reaping = reaped; follows = follows }

@@ -20,11 +20,11 @@ use Rattle.drmaa_model.specs.declared.looks.Answer.TheVariants as answer
 use Rattle.drmaa_model.specs.Consistent.{IsConsistent}
 use Rattle.drmaa_model.specs.Fit.{IsFit}
 use Rattle.drmaa_model.specs.History.{IsLegal, replay}
-use Rattle.drmaa_model.specs.Order.{settled}
+use Rattle.drmaa_model.specs.NextLaunch.{settled}
 use Rattle.drmaa_model.specs.Plan.{Plan}
 use Rattle.drmaa_model.specs.SettledLaws.{IsQuiet}
 use Rattle.drmaa_model.specs.Time.{advance, advance_plan}
-use Rattle.drmaa_model.specs.KeptCalls.{kept}
+use Rattle.drmaa_model.specs.RecordedCalls.{recorded}
 use Rattle.drmaa_machine.specs.Chronicles.{MakesNone}
 use Rattle.attendant.specs.Rounds.{asked_signal}
 use Rattle.drmaa_types.specs.Readings.{Readings, GoesOn}
@@ -215,7 +215,7 @@ meets given clocks s shared old mid last caller asked size history config_is lef
       at = f.fails.at;
       read = λ clock at. subst (λ (o : Readings). IfSome o.told (HaveReading (calls_of (seen_of f.after.client) caller) rest f.fails.at)) (sym (left.clock_is clock at))
           (subst (λ (l : List Entry). IfSome last.clock.given.told (HaveReading l rest f.fails.at)) (sym made) read);
-      none = subst (λ (c : Config). MakesNone (replay c (seen_of f.after.client)) f.fails.at (kept asked) (no.Journal size)) (ap (λ (n : Named Config). n.fixed) (f.from_old.shared_is ∙ g.shared_is) ∙ config_is) f.fails.reason;
+      none = subst (λ (c : Config). MakesNone (replay c (seen_of f.after.client)) f.fails.at (recorded asked) (no.Journal size)) (ap (λ (n : Named Config). n.fixed) (f.from_old.shared_is ∙ g.shared_is) ∙ config_is) f.fails.reason;
     }
 
 held-met : {C : Type 0} (given : C → Readings) (clocks : List C) (s : Script) (shared : Named Config) (l0 l1 r0 r1 launcher reaping : Post) (size : ℕ) (history : List Entry) → shared.fixed ≡ s.config
@@ -251,11 +251,11 @@ module _ {C T : Type 0} (given : C → Readings) (told : T → Option Told) (s :
   front-size : length (Some first.own ∷ own_lists x.ws) ≡ length s.clients + 1
   front-size = let a = length-map x.ws (λ (w : Worker C). Some (mine_of w.client)) in let b = x.count in omega arith
 
-  shape : retired_of p ≡ (Some first.own ∷ own_lists x.ws) ++ Some (mine_of x.launcher.client) ∷ Some (mine_of x.reaping) ∷ Some (mine_of x.pass) ∷ []
-  shape = x.retired ∙ ap (λ (l : Lists). l ++ (own_lists x.ws ++ Some (mine_of x.launcher.client) ∷ Some (mine_of x.reaping) ∷ Some (mine_of x.pass) ∷ [])) first.retired
+  shape : retired_of p ≡ (Some first.own ∷ own_lists x.ws) ++ Some (mine_of x.launcher.client) ∷ Some (mine_of x.reaping) ∷ Some (mine_of x.hub_seat) ∷ []
+  shape = x.retired ∙ ap (λ (l : Lists). l ++ (own_lists x.ws ++ Some (mine_of x.launcher.client) ∷ Some (mine_of x.reaping) ∷ Some (mine_of x.hub_seat) ∷ [])) first.retired
 
   pub none-left : left_of (retired_of p) ≡ 0
-  none-left = ap (λ (l : Lists). left_of l) shape ∙ left-own x.ws (Some (mine_of x.launcher.client) ∷ Some (mine_of x.reaping) ∷ Some (mine_of x.pass) ∷ [])
+  none-left = ap (λ (l : Lists). left_of l) shape ∙ left-own x.ws (Some (mine_of x.launcher.client) ∷ Some (mine_of x.reaping) ∷ Some (mine_of x.hub_seat) ∷ [])
 
   module _ (history : List Entry) (laws : Laws s) (config_is : shared.fixed ≡ s.config) (closed : IsClosed shared.fixed p history) where
     -- ---- the entries of each caller
@@ -269,41 +269,41 @@ module _ {C T : Type 0} (given : C → Readings) (told : T → Option Told) (s :
         let size = length-map x.ws (λ (w : Worker C). Some (mine_of w.client)) in
         closed.lists (i + 1) (mine_of (slice_index_or x.ws i d).client)
         (ap (λ (l : Lists). slice_index_or l (i + 1) None) shape
-        ∙ (ap (λ (k : ℕ). slice_index_or ((Some first.own ∷ own_lists x.ws) ++ Some (mine_of x.launcher.client) ∷ Some (mine_of x.reaping) ∷ Some (mine_of x.pass) ∷ []) k None) next
-        ∙ (get_or_append_left (own_lists x.ws) (Some (mine_of x.launcher.client) ∷ Some (mine_of x.reaping) ∷ Some (mine_of x.pass) ∷ []) None i (omega arith)
+        ∙ (ap (λ (k : ℕ). slice_index_or ((Some first.own ∷ own_lists x.ws) ++ Some (mine_of x.launcher.client) ∷ Some (mine_of x.reaping) ∷ Some (mine_of x.hub_seat) ∷ []) k None) next
+        ∙ (get_or_append_left (own_lists x.ws) (Some (mine_of x.launcher.client) ∷ Some (mine_of x.reaping) ∷ Some (mine_of x.hub_seat) ∷ []) None i (omega arith)
         ∙ get_or-map (λ (w : Worker C). Some (mine_of w.client)) x.ws i d None below)))
 
     of-launcher : calls_of history (length s.clients + 1) ≡ mine_of x.launcher.client
     of-launcher = closed.lists (length s.clients + 1) (mine_of x.launcher.client)
         (ap (λ (l : Lists). slice_index_or l (length s.clients + 1) None) shape
-        ∙ at-between (Some first.own ∷ own_lists x.ws) (Some (mine_of x.launcher.client)) None (Some (mine_of x.reaping) ∷ Some (mine_of x.pass) ∷ []) (length s.clients + 1) (sym front-size))
+        ∙ at-between (Some first.own ∷ own_lists x.ws) (Some (mine_of x.launcher.client)) None (Some (mine_of x.reaping) ∷ Some (mine_of x.hub_seat) ∷ []) (length s.clients + 1) (sym front-size))
 
     of-reaper : calls_of history (length s.clients + 2) ≡ mine_of x.reaping
     of-reaper =
         let longer = length-append (Some first.own ∷ own_lists x.ws) (Some (mine_of x.launcher.client) ∷ []) in
         let size = front-size in
         closed.lists (length s.clients + 2) (mine_of x.reaping)
-        (ap (λ (l : Lists). slice_index_or l (length s.clients + 2) None) (shape ∙ sym (append_assoc (Some first.own ∷ own_lists x.ws) (Some (mine_of x.launcher.client) ∷ []) (Some (mine_of x.reaping) ∷ Some (mine_of x.pass) ∷ [])))
-        ∙ at-between ((Some first.own ∷ own_lists x.ws) ++ Some (mine_of x.launcher.client) ∷ []) (Some (mine_of x.reaping)) None (Some (mine_of x.pass) ∷ []) (length s.clients + 2) (omega arith))
+        (ap (λ (l : Lists). slice_index_or l (length s.clients + 2) None) (shape ∙ sym (append_assoc (Some first.own ∷ own_lists x.ws) (Some (mine_of x.launcher.client) ∷ []) (Some (mine_of x.reaping) ∷ Some (mine_of x.hub_seat) ∷ [])))
+        ∙ at-between ((Some first.own ∷ own_lists x.ws) ++ Some (mine_of x.launcher.client) ∷ []) (Some (mine_of x.reaping)) None (Some (mine_of x.hub_seat) ∷ []) (length s.clients + 2) (omega arith))
 
-    of-pass : calls_of history (length s.clients + 3) ≡ mine_of x.pass
-    of-pass =
+    of-hub_seat : calls_of history (length s.clients + 3) ≡ mine_of x.hub_seat
+    of-hub_seat =
         let both : Lists = (Some first.own ∷ own_lists x.ws) ++ Some (mine_of x.launcher.client) ∷ Some (mine_of x.reaping) ∷ [] in
         let size = front-size in
         let longer : length both ≡ length (Some first.own ∷ own_lists x.ws) + 2 = length-append (Some first.own ∷ own_lists x.ws) (Some (mine_of x.launcher.client) ∷ Some (mine_of x.reaping) ∷ []) in
-        closed.lists (length s.clients + 3) (mine_of x.pass)
+        closed.lists (length s.clients + 3) (mine_of x.hub_seat)
         (ap (λ (l : Lists). slice_index_or l (length s.clients + 3) None)
-        (shape ∙ sym (append_assoc (Some first.own ∷ own_lists x.ws) (Some (mine_of x.launcher.client) ∷ Some (mine_of x.reaping) ∷ []) (Some (mine_of x.pass) ∷ [])))
-        ∙ at-between both (Some (mine_of x.pass)) None [] (length s.clients + 3) (omega arith))
+        (shape ∙ sym (append_assoc (Some first.own ∷ own_lists x.ws) (Some (mine_of x.launcher.client) ∷ Some (mine_of x.reaping) ∷ []) (Some (mine_of x.hub_seat) ∷ [])))
+        ∙ at-between both (Some (mine_of x.hub_seat)) None [] (length s.clients + 3) (omega arith))
 
     -- the hub's client made none
     of-hub : calls_of history (length s.clients + 3) ≡ []
-    of-hub = of-pass ∙ x.pass_mine
+    of-hub = of-hub_seat ∙ x.hub_seat_mine
 
     beyond-hub : (k : ℕ) → length s.clients + 3 < k → calls_of history k ≡ []
     beyond-hub k above = closed.strangers k (
         let a = ap length shape in
-        let b = length-append (Some first.own ∷ own_lists x.ws) (Some (mine_of x.launcher.client) ∷ Some (mine_of x.reaping) ∷ Some (mine_of x.pass) ∷ []) in
+        let b = length-append (Some first.own ∷ own_lists x.ws) (Some (mine_of x.launcher.client) ∷ Some (mine_of x.reaping) ∷ Some (mine_of x.hub_seat) ∷ []) in
         let c = front-size in omega arith)
 
     of-others : (k : ℕ) → length s.clients + 2 < k → calls_of history k ≡ []
@@ -373,42 +373,42 @@ module _ {C T : Type 0} (given : C → Readings) (told : T → Option Told) (s :
     clocks-size : length clocks ≡ length s.clients + 4
     clocks-size =
         let a = ap length x.clocks_are in
-        let b = length-append (map (λ (w : Worker C). w.clock) x.ws) (x.launcher_clock ∷ x.reaping_clock ∷ x.pass_clock ∷ []) in
+        let b = length-append (map (λ (w : Worker C). w.clock) x.ws) (x.launcher_clock ∷ x.reaping_clock ∷ x.hub_seat_clock ∷ []) in
         let c = length-map x.ws (λ (w : Worker C). w.clock) in
         let d = x.count in omega arith
 
     -- a clock at a place, as a list that is indexed has it
-    at-place : (k : ℕ) (c : C) → slice_get clocks k ≡ Some c → slice_index_or (f.clock ∷ (map (λ (w : Worker C). w.clock) x.ws ++ x.launcher_clock ∷ x.reaping_clock ∷ x.pass_clock ∷ [])) k c ≡ c
+    at-place : (k : ℕ) (c : C) → slice_get clocks k ≡ Some c → slice_index_or (f.clock ∷ (map (λ (w : Worker C). w.clock) x.ws ++ x.launcher_clock ∷ x.reaping_clock ∷ x.hub_seat_clock ∷ [])) k c ≡ c
     at-place k c at = ap (λ (l : List C). slice_index_or l k c) (sym x.clocks_are) ∙ get_or_from_slice_get clocks k c c at
 
     launcher-place : (c : C) → slice_get clocks (length s.clients + 1) ≡ Some c → x.launcher_clock ≡ c
     launcher-place c at =
         let size = length-map x.ws (λ (w : Worker C). w.clock) in
         let count = x.count in
-        sym (at-between (f.clock ∷ map (λ (w : Worker C). w.clock) x.ws) x.launcher_clock c (x.reaping_clock ∷ x.pass_clock ∷ []) (length s.clients + 1) (omega arith)) ∙ at-place (length s.clients + 1) c at
+        sym (at-between (f.clock ∷ map (λ (w : Worker C). w.clock) x.ws) x.launcher_clock c (x.reaping_clock ∷ x.hub_seat_clock ∷ []) (length s.clients + 1) (omega arith)) ∙ at-place (length s.clients + 1) c at
 
     reaper-place : (c : C) → slice_get clocks (length s.clients + 2) ≡ Some c → x.reaping_clock ≡ c
     reaper-place c at =
         let size = length-map x.ws (λ (w : Worker C). w.clock) in
         let count = x.count in
         let longer = length-append (f.clock ∷ map (λ (w : Worker C). w.clock) x.ws) (x.launcher_clock ∷ []) in
-        sym (ap (λ (l : List C). slice_index_or l (length s.clients + 2) c) (sym (append_assoc (f.clock ∷ map (λ (w : Worker C). w.clock) x.ws) (x.launcher_clock ∷ []) (x.reaping_clock ∷ x.pass_clock ∷ [])))
-        ∙ at-between ((f.clock ∷ map (λ (w : Worker C). w.clock) x.ws) ++ x.launcher_clock ∷ []) x.reaping_clock c (x.pass_clock ∷ []) (length s.clients + 2) (omega arith)) ∙ at-place (length s.clients + 2) c at
+        sym (ap (λ (l : List C). slice_index_or l (length s.clients + 2) c) (sym (append_assoc (f.clock ∷ map (λ (w : Worker C). w.clock) x.ws) (x.launcher_clock ∷ []) (x.reaping_clock ∷ x.hub_seat_clock ∷ [])))
+        ∙ at-between ((f.clock ∷ map (λ (w : Worker C). w.clock) x.ws) ++ x.launcher_clock ∷ []) x.reaping_clock c (x.hub_seat_clock ∷ []) (length s.clients + 2) (omega arith)) ∙ at-place (length s.clients + 2) c at
 
-    hub-place : (c : C) → slice_get clocks (length s.clients + 3) ≡ Some c → x.pass_clock ≡ c
+    hub-place : (c : C) → slice_get clocks (length s.clients + 3) ≡ Some c → x.hub_seat_clock ≡ c
     hub-place c at =
         let size = length-map x.ws (λ (w : Worker C). w.clock) in
         let count = x.count in
         let longer = length-append (f.clock ∷ map (λ (w : Worker C). w.clock) x.ws) (x.launcher_clock ∷ x.reaping_clock ∷ []) in
-        sym (ap (λ (l : List C). slice_index_or l (length s.clients + 3) c) (sym (append_assoc (f.clock ∷ map (λ (w : Worker C). w.clock) x.ws) (x.launcher_clock ∷ x.reaping_clock ∷ []) (x.pass_clock ∷ [])))
-        ∙ at-between ((f.clock ∷ map (λ (w : Worker C). w.clock) x.ws) ++ x.launcher_clock ∷ x.reaping_clock ∷ []) x.pass_clock c [] (length s.clients + 3) (omega arith)) ∙ at-place (length s.clients + 3) c at
+        sym (ap (λ (l : List C). slice_index_or l (length s.clients + 3) c) (sym (append_assoc (f.clock ∷ map (λ (w : Worker C). w.clock) x.ws) (x.launcher_clock ∷ x.reaping_clock ∷ []) (x.hub_seat_clock ∷ [])))
+        ∙ at-between ((f.clock ∷ map (λ (w : Worker C). w.clock) x.ws) ++ x.launcher_clock ∷ x.reaping_clock ∷ []) x.hub_seat_clock c [] (length s.clients + 3) (omega arith)) ∙ at-place (length s.clients + 3) c at
 
     client-place : (i : ℕ) (d : Worker C) → i < length x.ws → (c : C) → slice_get clocks (i + 1) ≡ Some c → (slice_index_or x.ws i d).clock ≡ c
     client-place i d below c at =
         let next : i + 1 ≡ suc i = omega arith in
         let size = length-map x.ws (λ (w : Worker C). w.clock) in
-        sym (ap (λ (k : ℕ). slice_index_or (f.clock ∷ (map (λ (w : Worker C). w.clock) x.ws ++ x.launcher_clock ∷ x.reaping_clock ∷ x.pass_clock ∷ [])) k c) next
-        ∙ (get_or_append_left (map (λ (w : Worker C). w.clock) x.ws) (x.launcher_clock ∷ x.reaping_clock ∷ x.pass_clock ∷ []) c i (omega arith)
+        sym (ap (λ (k : ℕ). slice_index_or (f.clock ∷ (map (λ (w : Worker C). w.clock) x.ws ++ x.launcher_clock ∷ x.reaping_clock ∷ x.hub_seat_clock ∷ [])) k c) next
+        ∙ (get_or_append_left (map (λ (w : Worker C). w.clock) x.ws) (x.launcher_clock ∷ x.reaping_clock ∷ x.hub_seat_clock ∷ []) c i (omega arith)
         ∙ get_or-map (λ (w : Worker C). w.clock) x.ws i d c below)) ∙ at-place (i + 1) c at
 
     -- the clock of a client stands at its number
@@ -426,7 +426,7 @@ module _ {C T : Type 0} (given : C → Readings) (told : T → Option Told) (s :
     hub-timed k above c at =
         let here : k ≡ length s.clients + 3 = (let w = slice_get_within clocks k c at in let z = clocks-size in omega arith) in
         subst (λ (n : ℕ). IsTimed (Some n) (calls_of history n) (given c)) (sym here)
-        (timed-by (length s.clients + 3) (mine_of x.pass) x.pass_clock c x.pass_timed (hub-place c (subst (λ (n : ℕ). slice_get clocks n ≡ Some c) here at)) of-pass)
+        (timed-by (length s.clients + 3) (mine_of x.hub_seat) x.hub_seat_clock c x.hub_seat_timed (hub-place c (subst (λ (n : ℕ). slice_get clocks n ≡ Some c) here at)) of-hub_seat)
 
     all-timed : (k : ℕ) → (c : C) → slice_get clocks k ≡ Some c → IsTimed (Some k) (calls_of history k) (given c)
     all-timed = by-caller (λ k. (c : C) → slice_get clocks k ≡ Some c → IsTimed (Some k) (calls_of history k) (given c)) (length s.clients)
@@ -546,9 +546,9 @@ module _ {C T : Type 0} (given : C → Readings) (told : T → Option Told) (s :
     has-run law = record { run = is-run; timed = all-timed; ends = ends-of law full refl x.ends }
 
     -- the hub that follows all callers has followed the run
-    pub heard-run : {B : Type 0} (before hub : Following B) → NoneRegisters s → HasRun given s history asked asked2 fate clocks full → BeginsWith (seen_of p) (seen_of x.pass) → BeginsWith (seen_of x.pass) (seen_of x.launcher.client)
-        → BeginsWith (seen_of x.pass) (seen_of x.reaping) → FollowsAll shared (seen_of x.pass) hub → HavePlaces first.own before.ears.places → hub.ears.places ≡ before.ears.places → HearRun s.config history hub
+    pub heard-run : {B : Type 0} (before hub : Following B) → NoneRegisters s → HasRun given s history asked asked2 fate clocks full → BeginsWith (seen_of p) (seen_of x.hub_seat) → BeginsWith (seen_of x.hub_seat) (seen_of x.launcher.client)
+        → BeginsWith (seen_of x.hub_seat) (seen_of x.reaping) → FollowsAll shared (seen_of x.hub_seat) hub → HavePlaces first.own before.ears.places → hub.ears.places ≡ before.ears.places → HearRun s.config history hub
     heard-run before hub none r seen launched reaped follows placed same =
-        let all : history ≡ seen_of x.pass = all-within (seen_of x.pass) (begins-both (seen_of x.pass) (seen_of p) history seen closed.seen) launched reaped in
-        hear-run given s history asked asked2 fate clocks none shared (seen_of x.pass) hub full r config_is all follows
+        let all : history ≡ seen_of x.hub_seat = all-within (seen_of x.hub_seat) (begins-both (seen_of x.hub_seat) (seen_of p) history seen closed.seen) launched reaped in
+        hear-run given s history asked asked2 fate clocks none shared (seen_of x.hub_seat) hub full r config_is all follows
         (subst (λ (es : List Entry). HavePlaces es hub.ears.places) (sym of-setup) (subst (λ (ps : List (Option ℕ)). HavePlaces first.own ps) (sym same) placed))

@@ -81,12 +81,12 @@ pub record Others {C T : Type 0} (given : C → Readings) (told : T → Option T
   pub reaping_clock : C
   pub reaping_least : ℕ
   pub reaping_back : IsBack (length s.clients + 2) (given reaping_clock) reaping
-  pub pass : Seat
-  pub pass_clock : C
-  pub pass_mine : mine_of pass ≡ []
-  pub pass_timed : IsTimed (Some (length s.clients + 3)) (mine_of pass) (given pass_clock)
-  pub retired : retired_of p ≡ retired_of o ++ (map (λ (w : Worker C). Some (mine_of w.client)) ws ++ Some (mine_of launcher.client) ∷ Some (mine_of reaping) ∷ Some (mine_of pass) ∷ [])
-  pub clocks_are : clocks_after ≡ clocks ++ (map (λ (w : Worker C). w.clock) ws ++ launcher_clock ∷ reaping_clock ∷ pass_clock ∷ [])
+  pub hub_seat : Seat
+  pub hub_seat_clock : C
+  pub hub_seat_mine : mine_of hub_seat ≡ []
+  pub hub_seat_timed : IsTimed (Some (length s.clients + 3)) (mine_of hub_seat) (given hub_seat_clock)
+  pub retired : retired_of p ≡ retired_of o ++ (map (λ (w : Worker C). Some (mine_of w.client)) ws ++ Some (mine_of launcher.client) ∷ Some (mine_of reaping) ∷ Some (mine_of hub_seat) ∷ [])
+  pub clocks_are : clocks_after ≡ clocks ++ (map (λ (w : Worker C). w.clock) ws ++ launcher_clock ∷ reaping_clock ∷ hub_seat_clock ∷ [])
   -- the opener has seen what launcher and reaper had, and the launcher's client what the opener had before, and each client
   pub known : BeginsWith (seen_of p) (seen_of launcher.client)
   pub known_reaping : BeginsWith (seen_of p) (seen_of reaping)
@@ -104,7 +104,7 @@ pub record Others {C T : Type 0} (given : C → Readings) (told : T → Option T
 pub record OthersHeard {B C T : Type 0} (given : C → Readings) (told : T → Option Told) (s : Script) (names : List (List ℕ × Given)) (shared : Named Config) (o p : Seat)
     (asked asked_after : Option (List Asked)) (fate : ℕ → Fate) (clocks clocks_after : List C) (full : Option ℕ) (hub : Following B) : Type 0 where
   pub others : Others given told s names shared o p asked asked_after fate clocks clocks_after full
-  pub known : BeginsWith (seen_of p) (seen_of others.pass)
-  pub launcher : BeginsWith (seen_of others.pass) (seen_of others.launcher.client)
-  pub reaping : BeginsWith (seen_of others.pass) (seen_of others.reaping)
-  pub follows : FollowsAll shared (seen_of others.pass) hub
+  pub known : BeginsWith (seen_of p) (seen_of others.hub_seat)
+  pub launcher : BeginsWith (seen_of others.hub_seat) (seen_of others.launcher.client)
+  pub reaping : BeginsWith (seen_of others.hub_seat) (seen_of others.reaping)
+  pub follows : FollowsAll shared (seen_of others.hub_seat) hub

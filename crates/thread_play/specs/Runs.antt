@@ -13,8 +13,8 @@ use Rattle.drmaa_model.specs.declared.faults.NoEntry.TheVariants as fault
 use Rattle.drmaa_model.specs.declared.replies.Signal.{Signal}
 use Rattle.drmaa_model.specs.Consistent.{IsConsistent}
 use Rattle.drmaa_model.specs.History.{IsLegal, replay}
-use Rattle.drmaa_model.specs.KeptCalls.{kept}
-use Rattle.drmaa_model.specs.Order.{settled}
+use Rattle.drmaa_model.specs.RecordedCalls.{recorded}
+use Rattle.drmaa_model.specs.NextLaunch.{settled}
 use Rattle.drmaa_model.specs.SettledLaws.{IsQuiet}
 use Rattle.drmaa_model.specs.Time.{advance}
 use Rattle.drmaa_machine.specs.Chronicles.{MakesNone}
@@ -131,7 +131,7 @@ pub record MeetsSize {C : Type 0} (given : C → Readings) (clocks : List C) (co
   pub own : calls_of history caller ≡ calls_of seen caller ++ rest
   pub at : ℕ
   pub read : IsReadBy given clocks caller (calls_of seen caller) rest at
-  pub none : MakesNone (replay config seen) at (kept asked) (fault.Journal size)
+  pub none : MakesNone (replay config seen) at (recorded asked) (fault.Journal size)
 
 -- Which call met the size: the one that a client's next line asks; the taking of a launch or of an order; or the report of the order
 -- that the reaper took last.

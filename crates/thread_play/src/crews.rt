@@ -62,15 +62,15 @@ fn play_all<R: Threads + Wait + Pause + Sync, C: Clock + Send + Drop, B: Callbac
     done: &Done,
     workers: &mut Vec<Worker<C>>,
     hub: &mut Hub<B>,
-    pass: &mut Seated<C>,
+    hub_seat: &mut Seated<C>,
 ) -> Result<(), AllocError>
     requires workers { All (IsReady shared.now script.now) workers.old.items }
-    requires client { IsFree shared.now pass.old.client }
+    requires client { IsFree shared.now hub_seat.old.client }
     requires note { IsNoteOf shared.now hub.old.note }
     requires size { shared.now.fixed.journal < 2 ^ 64 }
     ensures workers { IfOk result (λ end. HavePlayed C.given shared.now script.now names.now workers.old.items workers.new.items) }
-    ensures hub { GoesOn B.counted B.told shared.now hub.old pass.old.client hub.new pass.new.client }
-    ensures timed { KeepsTime (mine_of pass.old.client) (C.given pass.old.clock) (mine_of pass.new.client) (C.given pass.new.clock) }
+    ensures hub { GoesOn B.counted B.told shared.now hub.old hub_seat.old.client hub.new hub_seat.new.client }
+    ensures timed { KeepsTime (mine_of hub_seat.old.client) (C.given hub_seat.old.clock) (mine_of hub_seat.new.client) (C.given hub_seat.new.clock) }
 {
     let (played, ()) = join_mut(
         rt,
@@ -78,10 +78,10 @@ fn play_all<R: Threads + Wait + Pause + Sync, C: Clock + Send + Drop, B: Callbac
             requires { All (IsReady shared.now script.now) workers.now.items }
         { play_clients(rt, alloc, script, shared, bell, names, done, workers) },
         &mut ||
-            requires client { IsFree shared.now pass.now.client }
+            requires client { IsFree shared.now hub_seat.now.client }
             requires note { IsNoteOf shared.now hub.now.note }
             requires size { shared.now.fixed.journal < 2 ^ 64 }
-        { follow(rt, shared, bell, hub, pass, done) },
+        { follow(rt, shared, bell, hub, hub_seat, done) },
     );
     played
 }
@@ -105,11 +105,11 @@ fn join_all<
     reaper: &mut Reaper<S::One>,
     workers: &mut Vec<Worker<C>>,
     hub: &mut Hub<B>,
-    pass: &mut Seated<C>,
+    hub_seat: &mut Seated<C>,
 ) -> (Option<Attended<C>>, Result<(), AllocError>)
     requires pair { IfSome pair.old (ArePlaced shared.now) }
     requires workers { All (IsReady shared.now script.now) workers.old.items }
-    requires client { IsFree shared.now pass.old.client }
+    requires client { IsFree shared.now hub_seat.old.client }
     requires note { IsNoteOf shared.now hub.old.note }
     requires size { shared.now.fixed.journal < 2 ^ 64 }
     ensures some { IsSome pair.old → IsSome result.0 }
@@ -117,8 +117,8 @@ fn join_all<
         (S.asked spawner.old) (S.asked spawner.new) (S.fate spawner.old) (S.fate spawner.new)
         (get reaper.old.children) (get reaper.new.children) reaper.old.order reaper.new.order a.ended)) }
     ensures workers { IfOk result.1 (λ end. HavePlayed C.given shared.now script.now names.now workers.old.items workers.new.items) }
-    ensures hub { GoesOn B.counted B.told shared.now hub.old pass.old.client hub.new pass.new.client }
-    ensures timed { KeepsTime (mine_of pass.old.client) (C.given pass.old.clock) (mine_of pass.new.client) (C.given pass.new.clock) }
+    ensures hub { GoesOn B.counted B.told shared.now hub.old hub_seat.old.client hub.new hub_seat.new.client }
+    ensures timed { KeepsTime (mine_of hub_seat.old.client) (C.given hub_seat.old.clock) (mine_of hub_seat.new.client) (C.given hub_seat.new.clock) }
 {
     join_mut(
         rt,
@@ -127,12 +127,12 @@ fn join_all<
         { attend_there(rt, shared, bell, pair, spawner, reaper, done) },
         &mut || -> Result<(), AllocError>
             requires workers { All (IsReady shared.now script.now) workers.now.items }
-            requires client { IsFree shared.now pass.now.client }
+            requires client { IsFree shared.now hub_seat.now.client }
             requires note { IsNoteOf shared.now hub.now.note }
             requires size { shared.now.fixed.journal < 2 ^ 64 }
         {
             play_all(
-                rt, alloc, script, shared, bell, names, done, workers, hub, pass,
+                rt, alloc, script, shared, bell, names, done, workers, hub, hub_seat,
             )
         },
     )
@@ -157,24 +157,24 @@ pub(crate) fn play_beside<
     reaper: &mut Reaper<S::One>,
     workers: &mut Vec<Worker<C>>,
     hub: &mut Hub<B>,
-    pass: &mut Seated<C>,
+    hub_seat: &mut Seated<C>,
 ) -> (Attended<C>, Result<(), AllocError>)
     requires pair { ArePlaced shared.now pair }
     requires workers { All (IsReady shared.now script.now) workers.old.items }
-    requires client { IsFree shared.now pass.old.client }
+    requires client { IsFree shared.now hub_seat.old.client }
     requires note { IsNoteOf shared.now hub.old.note }
     requires size { shared.now.fixed.journal < 2 ^ 64 }
     ensures attended { HasAttended C.given C.least S.One.told shared.now pair result.0.pair (S.asked spawner.old) (S.asked spawner.new) (S.fate spawner.old) (S.fate spawner.new)
         (get reaper.old.children) (get reaper.new.children) reaper.old.order reaper.new.order result.0.ended }
     ensures workers { IfOk result.1 (λ end. HavePlayed C.given shared.now script.now names.now workers.old.items workers.new.items) }
-    ensures hub { GoesOn B.counted B.told shared.now hub.old pass.old.client hub.new pass.new.client }
-    ensures timed { KeepsTime (mine_of pass.old.client) (C.given pass.old.clock) (mine_of pass.new.client) (C.given pass.new.clock) }
+    ensures hub { GoesOn B.counted B.told shared.now hub.old hub_seat.old.client hub.new hub_seat.new.client }
+    ensures timed { KeepsTime (mine_of hub_seat.old.client) (C.given hub_seat.old.clock) (mine_of hub_seat.new.client) (C.given hub_seat.new.clock) }
 {
     let done = Done::new(1);
     let mut pair = Some(pair);
     let (attended, played) = join_all(
         rt, alloc, script, names, shared, bell, &done, &mut pair, spawner, reaper, workers, hub,
-        pass,
+        hub_seat,
     );
     let Some(attended) = attended else {
         unreachable!()

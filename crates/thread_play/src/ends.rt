@@ -86,19 +86,19 @@ pub(crate) fn dismiss<C: Drop>(
 }
 
 /// Takes the hub's client back, and its clock.
-pub(crate) fn end_pass<C: Drop>(
+pub(crate) fn end_hub_seat<C: Drop>(
     shared: &SharedMachine,
     opener: &mut MachineOpener,
-    pass: Seated<C>,
+    hub_seat: Seated<C>,
     clocks: &mut Vec<C>,
 )
     requires opener { BelongsTo shared.now opener.old }
-    requires client { IsFree shared.now pass.client }
+    requires client { IsFree shared.now hub_seat.client }
     requires room { vec_len clocks.old + 1 ≤ vec_capacity clocks.old }
-    ensures back { IsReturned shared.now opener.old opener.new pass.client }
-    ensures clocks { clocks.new.items ≡ clocks.old.items ++ pass.clock ∷ [] }
+    ensures back { IsReturned shared.now opener.old opener.new hub_seat.client }
+    ensures clocks { clocks.new.items ≡ clocks.old.items ++ hub_seat.clock ∷ [] }
 {
-    let Seated { client, clock } = pass;
+    let Seated { client, clock } = hub_seat;
     shared.retire(opener, client);
     clocks.push_reserved(clock);
 }

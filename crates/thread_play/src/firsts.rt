@@ -49,12 +49,12 @@ pub(crate) fn play_first<R: Wait + Pause, K: Clocks, B: Callback>(
     };
     let played = play_setup(rt, alloc, script, &mut desk, hub);
     let Desk { client, clock, .. } = desk;
-    let mut pass = Seated {
+    let mut hub_seat = Seated {
         client,
         clock: clocks.clock(CallerId(script.clients.as_slice().len() as u32 + 3)),
     };
-    pump_once(rt, shared, hub, &mut pass);
-    let Seated { client, .. } = pass;
+    pump_once(rt, shared, hub, &mut hub_seat);
+    let Seated { client, .. } = hub_seat;
     shared.retire(opener, client);
     First { clock, played }
 }

@@ -14,7 +14,7 @@ ghost use Rattle.thread_play.specs.Pairs.{HasEnded, AreReleased};
 ghost use Rattle.thread_play.specs.Others.{OthersHeard};
 
 use crate::crews::play_beside;
-use crate::ends::{dismiss, end_pass, full_of, stopped_by, worse};
+use crate::ends::{dismiss, end_hub_seat, full_of, stopped_by, worse};
 use crate::firsts::{First, play_first};
 use crate::workers::hire;
 use attendant::{Attended, Pair, Reaper, nothing_is_kept, settle, the_outside_agrees};
@@ -124,7 +124,7 @@ fn play_others<R: Threads + Wait + Pause + Sync, K: Clocks, S: Spawner + Send, B
     requires note { IsNoteOf shared.now hub.old.note }
     requires size { shared.now.fixed.journal < 2 ^ 64 }
     ensures fates { S.fate spawner.new ≡ S.fate spawner.old }
-    ensures kept { KeepsCallbacks B.counted B.told hub.old hub.new }
+    ensures keeps { KeepsCallbacks B.counted B.told hub.old hub.new }
     ensures others { IfOk result (λ full. OthersHeard K.One.given S.One.told script.now names.now shared.now opener.old opener.new
         (S.asked spawner.old) (S.asked spawner.new) (S.fate spawner.new) given.old.items given.new.items full hub.new) }
 {
@@ -136,7 +136,7 @@ fn play_others<R: Threads + Wait + Pause + Sync, K: Clocks, S: Spawner + Send, B
         reaping: shared.open_client(opener),
         reaping_clock: clocks.clock(CallerId(number + 1)),
     };
-    let mut pass = Seated {
+    let mut hub_seat = Seated {
         client: shared.open_client(opener),
         clock: clocks.clock(CallerId(number + 2)),
     };
@@ -153,7 +153,7 @@ fn play_others<R: Threads + Wait + Pause + Sync, K: Clocks, S: Spawner + Send, B
         &mut reaper,
         &mut workers,
         hub,
-        &mut pass,
+        &mut hub_seat,
     );
     played?;
     let Attended { pair, ended } = attended;
@@ -168,9 +168,9 @@ fn play_others<R: Threads + Wait + Pause + Sync, K: Clocks, S: Spawner + Send, B
     );
     let (pair, ended) = end_others(rt, shared, bell, pair, spawner, &mut reaper, ended);
     let mut pair = pair;
-    pump_last(rt, shared, hub, &mut pair, &mut pass);
+    pump_last(rt, shared, hub, &mut pair, &mut hub_seat);
     release(shared, opener, pair, given);
-    end_pass(shared, opener, pass, given);
+    end_hub_seat(shared, opener, hub_seat, given);
     nothing_is_kept::<S::One>();
     full_of(ended)
 }

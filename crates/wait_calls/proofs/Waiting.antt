@@ -17,7 +17,7 @@ use Rattle.drmaa_model.specs.declared.replies.Reply.TheVariants as reply
 use Rattle.drmaa_model.specs.AnswerLaws.{answer-cases, reply-kind}
 use Rattle.drmaa_model.specs.Effects.{StepAnswer, gives, nothing, not_yet, wait_answer}
 use Rattle.drmaa_model.specs.History.{IsLegal, replay}
-use Rattle.drmaa_model.specs.KeptCalls.{kept}
+use Rattle.drmaa_model.specs.RecordedCalls.{recorded}
 use Rattle.drmaa_model.specs.ReplyKinds.{kind_of_call, a_reached_job, IsReplyOf}
 use Rattle.drmaa_model.specs.Steps.{answer}
 use Rattle.drmaa_model.specs.Time.{advance}
@@ -48,6 +48,11 @@ readings-more (k ∷ looks) l = ap (λ (rs : List ℕ). k.at ∷ rs) (readings-m
 climb-more : (from : ℕ) (readings : List ℕ) (mid reading to : ℕ) → Climb from readings mid → mid ≤ reading → reading ≤ to → Climb from (readings ++ reading ∷ []) to
 climb-more from [] mid reading to low above below = (omega (arith, low, above), below)
 climb-more from (r ∷ readings) mid reading to low above below = (low.0, climb-more r readings mid reading to low.1 above below)
+
+-- no reading is below an earlier one, so the last is not below the first
+pub climbed : (from to : ℕ) (readings : List ℕ) → Climb from readings to → from ≤ to
+climbed from to [] low = low
+climbed from to (r ∷ readings) low = let rest = climbed r to readings low.1 in omega (arith, low.0, rest)
 
 climb-end : (from : ℕ) (readings : List ℕ) (mid last : ℕ) → Climb from readings mid → mid ≤ last → Climb from readings last
 climb-end from [] mid last low above = omega (arith, low, above)
@@ -86,7 +91,7 @@ so-far-first config before old asked begun now r = record {
 }
 
 module _ (config : Config) (before : Dial) (old : Seat) (asked : Call) (begun : ℕ) (now : Dial) (mid : Seat) (s : SoFar config before old asked begun now mid) (same : number_of mid ≡ number_of old) where
-  pub so-far-next : (after : Dial) (new : Seat) → kept asked ≡ asked → IsUnserved config now mid asked fault.NotYet after new → SoFar config before old asked begun after new
+  pub so-far-next : (after : Dial) (new : Seat) → recorded asked ≡ asked → IsUnserved config now mid asked fault.NotYet after new → SoFar config before old asked begun after new
   so-far-next after new is u =
       let l : Look = record { at = u.at; seen = seen_of new } in
       let waits : answer (replay config (seen_of new)) u.at asked ≡ not_yet = subst (λ (c : Call). answer (replay config (seen_of new)) u.at c ≡ not_yet) is u.reason.cause in
@@ -109,7 +114,7 @@ module _ (config : Config) (before : Dial) (old : Seat) (asked : Call) (begun : 
           last = last;
           gave = gives-more before.given now.given after.given (begun ∷ readings_of s.looks) last s.gave read.told;
           least = s.least;
-          order = climb-end begun (readings_of s.looks) now.least last s.rising read.least;
+          climb = climb-end begun (readings_of s.looks) now.least last s.rising read.least;
           rising = read.rising;
           early = subst (λ (c : Call). AreEarly config c (seen_of old) s.looks (seen_of new)) (sym is) (early-grow config asked (seen_of old) s.looks (seen_of mid) (seen_of new) s.early more);
           decided = subst (λ (c : Call). Decides c last) (sym is) decided;
@@ -133,11 +138,11 @@ module _ (config : Config) (before : Dial) (old : Seat) (asked : Call) (begun : 
 -- ---- what the reply of a wait may be
 
 -- where a wait is not told a job, its entry's reply is the refusal that it is told
-pub refused-so : (config : Config) (before : Dial) (old : Seat) (c : Call) (r : Reply) (after : Dial) (new : Seat) (why : Refusal) → kind_of_call (kept c) ≡ a_reached_job → IsLegal config (seen_of new)
+pub refused-so : (config : Config) (before : Dial) (old : Seat) (c : Call) (r : Reply) (after : Dial) (new : Seat) (why : Refusal) → kind_of_call (recorded c) ≡ a_reached_job → IsLegal config (seen_of new)
     → IsServed before old c r after new → IsRefusal r why → r ≡ reply.Refused why
 refused-so config before old c r after new why kind legal s told =
     let step = made-step config old (entry_by (number_of old) s.at c r) new legal s.made in
-    let is : IsReplyOf (kept c) r = reply-kind (replay config (seen_of old ++ s.made.between)) s.at (kept c) r _ step.answered in
+    let is : IsReplyOf (recorded c) r = reply-kind (replay config (seen_of old ++ s.made.between)) s.at (recorded c) r _ step.answered in
     elim is as (λ _. r ≡ reply.Refused why) [ inl refused ↦ told.refused refused | inr reached ↦ absurd (told.unreached (reached ∙ kind)) ]
 
 -- What the answer to a wait tells: why it is refused, or which job has reached the state. It is never that there is nothing to hand out.

@@ -1,5 +1,5 @@
 -- What a wait of many looks comes to: our profile.
-use Rattle.std.specs.Prelude.{◌≡◌, ℕ, ◌≤◌, List, [], ◌∷◌, ◌++◌, map, Some, None, IfSome, Result, Ok, Err}
+use Rattle.std.specs.Prelude.{◌≡◌, ℕ, ◌≤◌, List, [], ◌∷◌, ◌++◌, map, Some, None, Result, Ok, Err}
 use Rattle.drmaa_types.specs.declared.identifiers.JobId.{JobId}
 use Rattle.drmaa_types.specs.declared.identifiers.SessionId.{SessionId}
 use Rattle.drmaa_types.specs.declared.moments.Timeout.{Timeout}
@@ -13,8 +13,9 @@ use Rattle.drmaa_model.specs.declared.faults.NoEntry.{NoEntry}
 use Rattle.drmaa_model.specs.declared.replies.Reply.{Reply}
 use Rattle.drmaa_model.specs.declared.replies.Reply.TheVariants as reply
 use Rattle.drmaa_model.specs.Effects.{not_yet}
+use Rattle.drmaa_model.specs.Faults.{refusal_for}
 use Rattle.drmaa_model.specs.History.{replay}
-use Rattle.drmaa_model.specs.KeptCalls.{kept}
+use Rattle.drmaa_model.specs.RecordedCalls.{recorded}
 use Rattle.drmaa_model.specs.Refusals.{refusal}
 use Rattle.drmaa_model.specs.ReplyKinds.{kind_of_reply, a_reached_job, a_refusal}
 use Rattle.drmaa_model.specs.Steps.{answer}
@@ -56,7 +57,7 @@ pub record IsWaited (config : Config) (before : Dial) (old : Seat) (asked : ℕ 
   pub last : ℕ
   pub gave : Gives before.given (begun ∷ (readings_of looks ++ last ∷ [])) after.given
   pub least : before.least ≤ begun
-  pub order : Climb begun (readings_of looks) last
+  pub climb : Climb begun (readings_of looks) last
   pub rising : last ≤ after.least
   pub early : AreEarly config (asked begun) (seen_of old) looks (seen_of new)
   pub decided : Decides (asked begun) last
@@ -87,7 +88,7 @@ pub record Reaches (config : Config) (old : Seat) (job : JobId) (new : Seat) (as
 -- or the journal would be too large after all that was seen.
 pub data Refuses (config : Config) (old : Seat) (why : Refusal) (new : Seat) (asked : Call) (last : ℕ) : Type 0 where
   by_entry : (made : Answers old (reply.Refused why) new asked last) → IsRefusedFor (replay config (seen_of old ++ made.between)) last asked why → Refuses config old why new asked last
-  by_fault : (f : NoEntry) → refusal_of f ≡ Some why → SeesMore old new → MakesNone (replay config (seen_of new)) last (kept asked) f → Refuses config old why new asked last
+  by_fault : (f : NoEntry) → refusal_of f ≡ Some why → SeesMore old new → MakesNone (replay config (seen_of new)) last (recorded asked) f → Refuses config old why new asked last
 
 -- what a wait is told where it is not told a job: its refusal, and never another reply
 pub record IsRefusal (told : Reply) (why : Refusal) : Type 0 where
@@ -97,4 +98,4 @@ pub record IsRefusal (told : Reply) (why : Refusal) : Type 0 where
 -- the refusal that a wait is told: that of its entry, or the one that stands for its fault
 abbrev pub Tells : Result Reply NoEntry → Refusal → Type 0
 Tells (Ok told) why = IsRefusal told why
-Tells (Err f) why = IfSome (refusal_of f) (λ known. why ≡ known)
+Tells (Err f) why = why ≡ refusal_for f

@@ -10,7 +10,7 @@ ghost use Rattle.call_history.specs.Timed.{StaysTimed};
 ghost use Rattle.wait_calls.specs.Waited.{IsWaited, Reaches, Refuses, Tells};
 
 use call_history::{Awaited, Desk, NoEntry, Reply, WaitLook};
-use drmaa_types::{Clock, IdList, JobId, Limit, Refusal, SessionId, Timeout, WaitKind};
+use drmaa_types::{Clock, IdList, JobId, Refusal, SessionId, Timeout, WaitKind};
 use std::sync::Wait;
 use std::time::Clock as Pause;
 
@@ -68,9 +68,7 @@ fn told(made: Result<Reply, NoEntry>) -> Result<JobId, Refusal>
     match &made {
         Ok(Reply::Reached(job)) => Ok(*job),
         Ok(Reply::Refused(why)) => Err(*why),
-        Err(NoEntry::Journal { size }) => Err(Refusal::OutOfResource(Limit::Journal {
-            size: *size,
-        })),
-        _ => Err(Refusal::OutOfMemory),
+        Ok(_) => Err(Refusal::OutOfMemory),
+        Err(fault) => Err(Refusal::from(*fault)),
     }
 }

@@ -9,7 +9,7 @@ use Rattle.drmaa_model.specs.declared.reservations.Accepted.{Accepted}
 use Rattle.drmaa_model.specs.declared.rows.Row.{Row}
 use Rattle.drmaa_model.specs.Courses.{planned_end}
 use Rattle.drmaa_model.specs.Load.{covers, in_reservation, in_queue, in_array, reservation_of, first_overfull, fits}
-use Rattle.drmaa_model.specs.Order.{held, is_queued, is_reached, is_within_bound, has_slots_in, has_room_in, has_slots_free, has_slots, may_come, is_ready, IsReady}
+use Rattle.drmaa_model.specs.NextLaunch.{held, is_queued, is_reached, is_within_bound, has_slots_in, has_room_in, has_slots_free, has_slots, may_come, is_ready, IsReady}
 use Rattle.drmaa_model.specs.Plan.{Plan}
 use Rattle.wait_reasons.specs.declared.reasons.Reason.{Reason}
 use Rattle.wait_reasons.specs.declared.reasons.Reason.TheVariants.{ArrayFull, QueueFull, ReservationGone}
@@ -40,17 +40,17 @@ started : (moment : ℕ) (start : Option ℕ) → Says (start_reason moment star
 started moment None = always
 started moment (Some start) = one (nat_le start moment) _
 
-turned_in : (rows : List Row) (bound : ℕ) (array : Option ArrayId)
+bounded_in : (rows : List Row) (bound : ℕ) (array : Option ArrayId)
     → Says (option_map_or (λ (a : ArrayId). unless (nat_lt (in_array a rows) bound) (ArrayFull (in_array a rows) bound)) array [])
     (option_map_or (λ (a : ArrayId). nat_lt (in_array a rows) bound) array true)
-turned_in rows bound None = always
-turned_in rows bound (Some array) = one (nat_lt (in_array array rows) bound) _
+bounded_in rows bound None = always
+bounded_in rows bound (Some array) = one (nat_lt (in_array array rows) bound) _
 
-turned : (rows : List Row) (bound : Option ℕ) (array : Option ArrayId)
+bounded : (rows : List Row) (bound : Option ℕ) (array : Option ArrayId)
     → Says (option_map_or (λ (n : ℕ). option_map_or (λ (a : ArrayId). unless (nat_lt (in_array a rows) n) (ArrayFull (in_array a rows) n)) array []) bound [])
     (option_map_or (λ (n : ℕ). option_map_or (λ (a : ArrayId). nat_lt (in_array a rows) n) array true) bound true)
-turned rows None array = always
-turned rows (Some bound) array = turned_in rows bound array
+bounded rows None array = always
+bounded rows (Some bound) array = bounded_in rows bound array
 
 fitting : (rs : List Accepted) (slots : ℕ) (found : Option ℕ) → Says (calendar_reason rs slots found) (not (is_some found))
 fitting rs slots None = always
@@ -85,9 +85,9 @@ slotted p slots row (Some number) = inside p slots number (reservation_of number
 
 coming : (p : Plan) (row : Row) → Says (coming_reasons p row) (may_come p row)
 coming p row =
-    both _ _ (is_queued row.course.state && is_reached p.moment row.wants.start) (is_within_bound p.rows row)
+    both _ _ (is_queued row.course.state && is_reached p.moment row.wants.start) (is_within_bound p.rows row.wants)
     (both _ _ (is_queued row.course.state) (is_reached p.moment row.wants.start) (one (is_queued row.course.state) _) (started p.moment row.wants.start))
-    (turned p.rows row.wants.bound row.wants.array)
+    (bounded p.rows row.wants.bound row.wants.array)
 
 pub ready_says : (p : Plan) (slots : ℕ) (row : Row) → Says (reasons p slots row) (is_ready p slots row)
 ready_says p slots row =

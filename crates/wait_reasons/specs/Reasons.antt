@@ -12,7 +12,7 @@ use Rattle.drmaa_model.specs.declared.rows.Row.{Row}
 use Rattle.drmaa_model.specs.declared.rows.Wants.{Wants}
 use Rattle.drmaa_model.specs.Courses.{planned_end}
 use Rattle.drmaa_model.specs.Load.{covers, in_reservation, in_queue, in_array, reservation_of, first_overfull}
-use Rattle.drmaa_model.specs.Order.{held, is_queued}
+use Rattle.drmaa_model.specs.NextLaunch.{held, is_queued}
 use Rattle.drmaa_model.specs.Plan.{Plan}
 use Rattle.wait_reasons.specs.declared.reasons.Reason.{Reason}
 use Rattle.wait_reasons.specs.declared.reasons.Reason.TheVariants.{NotQueued, StartsAt, ArrayFull, FewFree, Overfull, QueueFull, ReservationGone, ReservationOutside, ReservationFull}

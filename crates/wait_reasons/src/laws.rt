@@ -2,7 +2,7 @@
 ghost use Rattle.std.specs.Prelude.{◌≡◌, ◌↔◌, ℕ, []};
 ghost use Rattle.std.specs.List.{Contains};
 ghost use Rattle.drmaa_model.specs.declared.rows.Row.{Row};
-ghost use Rattle.drmaa_model.specs.Order.{IsReady};
+ghost use Rattle.drmaa_model.specs.NextLaunch.{IsReady};
 ghost use Rattle.drmaa_model.specs.Plan.{Plan};
 ghost use Rattle.wait_reasons.specs.declared.reasons.Reason.{Reason};
 ghost use Rattle.wait_reasons.specs.Meanings.{IsSo};

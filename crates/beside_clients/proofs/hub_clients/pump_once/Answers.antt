@@ -5,6 +5,6 @@ use Rattle.beside_clients.proofs.hub_clients.pump_once.Goals as goal
 pub returns-clause-follows : goal.returns-clause-follows
 returns-clause-follows g c = record {
   note = c.pump.ensures.note;
-  kept = c.pump.ensures.kept;
+  follows = c.pump.ensures.follows;
   handed = c.pump.ensures.all (countable c.args.shared.now.fixed (seen_of c.pump.new.client) c.pump.ensures.legal c.requires.size);
 }

@@ -18,7 +18,7 @@ returns-in-Ok g c =
         ok = λ before early. registers-line script c.args.names before old.shared.now.fixed _ _ old.client client c.in-Ok.field-0 c.in-Ok.ensures.ok;
         err = tt;
       };
-      hub = register-on old.shared.now _ _ c.args.hub.now c.register.new.self old.client client c.register.result c.requires.size r.ok r.err r.note r.place r.unplaced r.kept r.heard r.legal;
+      hub = register-on old.shared.now _ _ c.args.hub.now c.register.new.self old.client client c.register.result c.requires.size r.ok r.err r.note r.place r.unplaced r.follows r.heard r.legal;
     }
 
 pub returns-in-Err-OutOfResource-Callbacks : goal.returns-in-Err-OutOfResource-Callbacks
@@ -35,7 +35,7 @@ returns-in-Err-OutOfResource-Callbacks g c =
         ok = λ before early. refuses-line script c.args.names before old.shared.now.fixed _ _ old.client client why.field-0 same (IfErr-at_err _ why.is r.err);
         err = tt;
       };
-      hub = register-on old.shared.now _ _ c.args.hub.now c.register.new.self old.client client c.register.result c.requires.size r.ok r.err r.note r.place r.unplaced r.kept r.heard r.legal;
+      hub = register-on old.shared.now _ _ c.args.hub.now c.register.new.self old.client client c.register.result c.requires.size r.ok r.err r.note r.place r.unplaced r.follows r.heard r.legal;
     }
 
 pub returns-in-Err-OutOfResource-Journal : goal.returns-in-Err-OutOfResource-Journal
@@ -52,7 +52,7 @@ returns-in-Err-OutOfResource-Journal g c =
         ok = tt;
         err = λ before early. fills-line script c.args.names before old.shared.now.fixed _ _ old.client client why.field-0 why.size early same (IfErr-at_err _ why.is r.err);
       };
-      hub = register-on old.shared.now _ _ c.args.hub.now c.register.new.self old.client client c.register.result c.requires.size r.ok r.err r.note r.place r.unplaced r.kept r.heard r.legal;
+      hub = register-on old.shared.now _ _ c.args.hub.now c.register.new.self old.client client c.register.result c.requires.size r.ok r.err r.note r.place r.unplaced r.follows r.heard r.legal;
     }
 
 pub returns-in-Err : goal.returns-in-Err
@@ -67,5 +67,5 @@ returns-in-Err g c =
         ok = tt;
         err = λ before early. lacks-line script c.args.names before old.shared.now.fixed _ _ old.client client c.in-Err.field-0 (IfErr-at_err _ c.in-Err.is r.err);
       };
-      hub = register-on old.shared.now _ _ c.args.hub.now c.register.new.self old.client client c.register.result c.requires.size r.ok r.err r.note r.place r.unplaced r.kept r.heard r.legal;
+      hub = register-on old.shared.now _ _ c.args.hub.now c.register.new.self old.client client c.register.result c.requires.size r.ok r.err r.note r.place r.unplaced r.follows r.heard r.legal;
     }

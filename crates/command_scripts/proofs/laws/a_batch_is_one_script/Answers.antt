@@ -1,4 +1,4 @@
-use Rattle.text_lines.specs.Lines.{kept, whole_lines}
+use Rattle.text_lines.specs.Lines.{unskipped_lines, whole_lines}
 use Rattle.script_text.specs.declared.scripts.Mode.TheVariants.{Threads}
 use Rattle.script_text.specs.ScriptLaws.{one_script}
 use Rattle.command_scripts.specs.ScriptLaws.{batch_spelled}
@@ -14,4 +14,4 @@ pub returns-clause-text : goal.returns-clause-text
 returns-clause-text c = batch_text
 
 pub returns-clause-one : goal.returns-clause-one
-returns-clause-one c = λ batch script h t. one_script Threads (kept (whole_lines (script_text batch))) script (script_of batch) t.spelled.spelled (batch_text batch h).spelled.spelled
+returns-clause-one c = λ batch script h t. one_script Threads (unskipped_lines (whole_lines (script_text batch))) script (script_of batch) t.spelled.spelled (batch_text batch h).spelled.spelled

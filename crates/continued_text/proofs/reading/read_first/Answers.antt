@@ -1,6 +1,6 @@
 use Rattle.std.proofs.Common.{Result, Ok, Err, OnOk}
 use Rattle.std.specs.Prelude.{IfOk}
-use Rattle.text_lines.specs.Lines.{kept, whole_lines}
+use Rattle.text_lines.specs.Lines.{unskipped_lines, whole_lines}
 use Rattle.continued_text.specs.Texts.{Spells, byte_limit}
 use Rattle.continued_text.specs.TextLaws.{text_lines_are, spelled_so, if_ok}
 use Rattle.continued_text.proofs.reading.read_first.Goals as goal
@@ -19,7 +19,7 @@ pub returns-clause-writable : goal.returns-clause-writable
 returns-clause-writable c = if_ok _ _ c.read_lines.result (λ x s. s.journal.writable) (spelled c)
 
 pub returns-clause-serial : goal.returns-clause-serial
-returns-clause-serial c = if_ok _ _ c.read_lines.result (λ x s. (kept s.script_lines, s.script.spelled)) (spelled c)
+returns-clause-serial c = if_ok _ _ c.read_lines.result (λ x s. (unskipped_lines s.script_lines, s.script.spelled)) (spelled c)
 
 pub returns-clause-same : goal.returns-clause-same
 returns-clause-same c = if_ok _ _ c.read_lines.result (λ x s. s.same) (spelled c)

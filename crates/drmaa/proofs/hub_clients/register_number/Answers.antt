@@ -10,5 +10,5 @@ returns-in_err-given-clause-err g c =
 pub returns-then-given-number-clause-ok : goal.returns-then-given-number-clause-ok
 returns-then-given-number-clause-ok g c =
     let r = c.in_ok-given.ensures in
-    registered-one g.B.Callback.counted g.B.Callback.told c.args.shared.now _ _ c.args.hub.now c.register.new.self c.args.pass.now.client c.register.new.client c.in_ok-given.given c.args.number
-    c.if-given-number.true c.requires.size r.client r.number r.own r.legal r.note r.ok r.place r.kept r.heard
+    registered-one g.B.Callback.counted g.B.Callback.told c.args.shared.now _ _ c.args.hub.now c.register.new.self c.args.hub_seat.now.client c.register.new.client c.in_ok-given.given c.args.number
+    c.if-given-number.true c.requires.size r.client r.number r.own r.legal r.note r.ok r.place r.follows r.heard

@@ -40,7 +40,7 @@ returns-clause-left g c =
     left-made g.B.Callback.counted g.B.Callback.told g.S.One.Child.told g.C.Clock.given g.C.Clock.least _ shared n
     c.args.opener.now c.take_back.new.opener c.release.new.opener c.args.crew c.requires.opened c.requires.some
     c.args.hub.now c.register_all.new.hub c.work_beside-attended.new.hub c.pump_last.new.hub
-    c.register_all.new.pass.client c.work_beside-attended.new.pass.client c.tell_launcher.new.pass c.pump_last.new.pass.client c.take_back.new.launcher c.work_beside-attended.new.desks.items
+    c.register_all.new.hub_seat.client c.work_beside-attended.new.hub_seat.client c.tell_launcher.new.hub_seat c.pump_last.new.hub_seat.client c.take_back.new.launcher c.work_beside-attended.new.desks.items
     pb pc c.attend_last-pair.result.pair c.pump_last.new.pair c.args.count
     (g.S.Spawner.asked c.args.spawner.now) (g.S.Spawner.asked c.work_beside-attended.new.spawner) (g.S.Spawner.asked c.attend_last-pair.new.spawner)
     (g.S.Spawner.fate c.args.spawner.now) (g.S.Spawner.fate c.work_beside-attended.new.spawner) (g.S.Spawner.fate c.attend_last-pair.new.spawner)
@@ -48,6 +48,6 @@ returns-clause-left g c =
     c.new-reaper.result.order c.work_beside-attended.new.reaper.order c.attend_last-pair.new.reaper.order
     c.work_beside-attended.result.0.ended c.attend_last-pair.result.ended
     c.in_ok-register_all.ensures.ok c.work_beside-attended.ensures.attended (w.0, w.1, w.2, lent, w.4) (ap length (sym w.4) ∙ many) c.work_beside-attended.ensures.hub
-    c.take_back.ensures c.tell_launcher.ensures.still c.tell_launcher.ensures.knows c.tell_launcher.ensures.pass c.tell_launcher.ensures.from_pass
+    c.take_back.ensures c.tell_launcher.ensures.still c.tell_launcher.ensures.knows c.tell_launcher.ensures.hub_seat c.tell_launcher.ensures.from_hub_seat
     refl c.attend_last-pair.ensures c.pump_last.ensures.on c.pump_last.ensures.follows c.pump_last.ensures.launcher c.pump_last.ensures.reaping c.pump_last.ensures.pair c.release.ensures
     (record { untold = λ fate. laws.untold fate at0 none; keeps = λ fate. laws.keeps fate at0 none; agrees = laws.agrees }) c.new-reaper.ensures.order

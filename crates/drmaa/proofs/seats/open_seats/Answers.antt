@@ -18,7 +18,7 @@ returns g c =
     let a = c.seat-own.ensures.seated in
     let b = c.seat-launcher.ensures.seated in
     let d = c.seat-reaping.ensures.seated in
-    let e = c.seat-pass.ensures.seated in
+    let e = c.seat-hub_seat.ensures.seated in
     let out0 = none-out c.args.opener.now c.requires.retired in
     let out1 = out-seated c.args.opener.now c.seat-own.new.opener a.retired out0 in
     let out2 = out-seated c.seat-own.new.opener c.seat-launcher.new.opener b.retired out1 in
@@ -26,7 +26,7 @@ returns g c =
     record {
       begun = record {
         opener = e.opener;
-        out = out-seated c.seat-reaping.new.opener c.seat-pass.new.opener e.retired out3;
+        out = out-seated c.seat-reaping.new.opener c.seat-hub_seat.new.opener e.retired out3;
         count = e.count;
         seen = e.opener_seen ∙ (d.opener_seen ∙ (b.opener_seen ∙ (a.opener_seen ∙ c.requires.seen)));
         own = new c.args.shared.now c.args.opener.now c.seat-own.new.opener 0 c.seat-own.result.client a;
@@ -34,5 +34,5 @@ returns g c =
       };
       launcher = new c.args.shared.now c.seat-own.new.opener c.seat-launcher.new.opener 1 c.seat-launcher.result.client b;
       reaping = new c.args.shared.now c.seat-launcher.new.opener c.seat-reaping.new.opener 2 c.seat-reaping.result.client d;
-      pass = new c.args.shared.now c.seat-reaping.new.opener c.seat-pass.new.opener 3 c.seat-pass.result.client e;
+      hub_seat = new c.args.shared.now c.seat-reaping.new.opener c.seat-hub_seat.new.opener 3 c.seat-hub_seat.result.client e;
     }

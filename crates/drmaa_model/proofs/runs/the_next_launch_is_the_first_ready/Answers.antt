@@ -1,4 +1,4 @@
-use Rattle.drmaa_model.specs.OrderLaws.{consistent-first, next_launch-none}
+use Rattle.drmaa_model.specs.NextLaunchLaws.{consistent-first, next_launch-none}
 use Rattle.drmaa_model.proofs.runs.the_next_launch_is_the_first_ready.Goals as goal
 
 pub returns-clause-first : goal.returns-clause-first

@@ -8,8 +8,8 @@ use Rattle.script_text.specs.declared.scripts.Mode.TheVariants as mode
 use Rattle.script_text.specs.declared.scripts.Script.{Script}
 use Rattle.script_commands.specs.Continuing.{ContinueIsWhole}
 use Rattle.script_commands.specs.Outcomes.{PlayIsWhole, IsScriptText, IsOfScript}
-use Rattle.script_commands.specs.Registers.{HasPlayed, AreKept}
-use Rattle.script_commands.proofs.Kept.{kept_same}
+use Rattle.script_commands.specs.Registers.{HasPlayed, AreReturned}
+use Rattle.script_commands.proofs.Returned.{returned_same}
 use Rattle.drmaa_script.specs.Endings.{IsWhole, MayEnd}
 use Rattle.drmaa_script.proofs.Possible.{check_ends, migrate_ends, json_ends}
 use Rattle.drmaa_script.proofs.commands.run_command.Goals as goal
@@ -91,6 +91,6 @@ returns-in-Continue-clause-whole g c = λ calm quiet.
     subst (λ (k : Command). IfSome (g.R.Source.left c.args.source.now) (λ bytes. IsWhole k (length c.args.callbacks) bytes c.without_clocks-in-Continue.result.status)) (sym c.in-Continue.is)
     (subst (λ (s : Status). IfSome (g.R.Source.left c.args.source.now) (λ bytes. ContinueIsWhole (length c.args.callbacks) bytes s)) (sym c.without_clocks-in-Continue.ensures.status) (c.run_continue.ensures.whole calm quiet))
 
-pub returns-in-Soak-clause-kept : goal.returns-in-Soak-clause-kept
-returns-in-Soak-clause-kept g c =
-    subst (λ (bs : List g.row.B.Denot). AreKept g.B.Callback.counted g.B.Callback.told c.args.callbacks bs) (sym c.without_clocks-in-Soak.ensures.callbacks) (kept_same g.B.Callback.counted g.B.Callback.told c.args.callbacks)
+pub returns-in-Soak-clause-returned : goal.returns-in-Soak-clause-returned
+returns-in-Soak-clause-returned g c =
+    subst (λ (bs : List g.row.B.Denot). AreReturned g.B.Callback.counted g.B.Callback.told c.args.callbacks bs) (sym c.without_clocks-in-Soak.ensures.callbacks) (returned_same g.B.Callback.counted g.B.Callback.told c.args.callbacks)

@@ -8,7 +8,7 @@ use Rattle.journal_commands.specs.declared.status.Status.TheVariants.{Text, Word
 use Rattle.script_commands.specs.Outcomes.{SpellsScript, IsScriptText}
 use Rattle.drmaa_script.specs.Runs.{RunIsWhole, IsRunEnd}
 use Rattle.script_commands.specs.Registers.{registers_of}
-use Rattle.script_commands.proofs.Kept.{kept_same}
+use Rattle.script_commands.proofs.Returned.{returned_same}
 use Rattle.journal_commands.specs.StatusLaws.{unread_words, unread_reads, unread_written, unread_writes, unread_refused, err_is}
 use Rattle.script_commands.proofs.Played.{unread_possible}
 use Rattle.drmaa_script.proofs.Ran.{unread_run, ran_ends, ran_no_fault, ran_whose, ran_callers, none_whose, unread_callers}
@@ -82,8 +82,8 @@ returns-in-Err-clause-whole g c = λ calm quiet.
       other = λ none. unread_refused c.in-Err.status c.in-Err.ensures.causes (λ e. calm (c.in-Err.ensures.fault (err_is c.in-Err.status ReadFault e)));
     })
 
-pub returns-in-Err-clause-kept : goal.returns-in-Err-clause-kept
-returns-in-Err-clause-kept g c = kept_same g.B.Callback.counted g.B.Callback.told c.args.callbacks
+pub returns-in-Err-clause-returned : goal.returns-in-Err-clause-returned
+returns-in-Err-clause-returned g c = returned_same g.B.Callback.counted g.B.Callback.told c.args.callbacks
 
 pub returns-in-Err-clause-possible : goal.returns-in-Err-clause-possible
 returns-in-Err-clause-possible g c = unread_possible c.in-Err.status c.in-Err.ensures.causes

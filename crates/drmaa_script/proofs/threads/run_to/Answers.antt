@@ -4,7 +4,7 @@ use Rattle.notify_hub.specs.Hubs.{Following}
 use Rattle.script_play.specs.Callbacks.{HearHistory}
 use Rattle.thread_play.specs.Hubs.{HearRun}
 use Rattle.drmaa_script.specs.Running.{RanEnds}
-use Rattle.script_commands.proofs.Kept.{kept_heard}
+use Rattle.script_commands.proofs.Returned.{returned_heard}
 use Rattle.drmaa_script.proofs.Ran.{ran_heard, ran_possible, hub_hears}
 use Rattle.drmaa_script.proofs.threads.run_to.Goals as goal
 
@@ -25,10 +25,10 @@ returns-clause-ends g c =
     (subst (λ (n : ℕ). RanEnds g.K.One.Clock.given s n run old new asked asked_after fate c.write_run-status.result.clocks c.write_run-status.result.status)
     (ap (λ (h : Following g.row.B.Denot). length h.ears.begun) c.in-Ok.ensures.ok) c.write_run-status.ensures.ends)
 
-pub returns-clause-kept : goal.returns-clause-kept
-returns-clause-kept g c =
+pub returns-clause-returned : goal.returns-clause-returned
+returns-clause-returned g c =
     let begun = c.write_run-status.ensures.begun ∙ ap (λ (h : Following g.row.B.Denot). h.ears.begun) c.in-Ok.ensures.ok in
-    kept_heard g.B.Callback.counted g.B.Callback.told c.write_run-status.new.hub.ears c.args.callbacks c.take_back.result (c.write_run-status.ensures.heard c.in-Ok.ensures.heard) begun c.take_back.ensures.callbacks
+    returned_heard g.B.Callback.counted g.B.Callback.told c.write_run-status.new.hub.ears c.args.callbacks c.take_back.result (c.write_run-status.ensures.heard c.in-Ok.ensures.heard) begun c.take_back.ensures.callbacks
 
 pub returns-clause-possible : goal.returns-clause-possible
 returns-clause-possible g c =

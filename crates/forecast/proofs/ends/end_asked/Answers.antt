@@ -3,10 +3,10 @@ use Rattle.forecast.specs.RunLaws.{begin, ends-over, number-low, number-small}
 use Rattle.forecast.proofs.ends.end_asked.Goals as goal
 
 pub jobs-init : goal.jobs-init
-jobs-init c = record { ends = λ first told fresh. begin c.args.at first c.args.machine.now.ledger told fresh }
+jobs-init c = record { ends = λ first foretold fresh. begin c.args.at first c.args.machine.now.ledger foretold fresh }
 
 pub jobs-preserved : goal.jobs-preserved
-jobs-preserved c = record { ends = λ first told fresh. c.end_one.ensures.ends first told (c.jobs.invariant.ends first told fresh) }
+jobs-preserved c = record { ends = λ first foretold fresh. c.end_one.ensures.ends first foretold (c.jobs.invariant.ends first foretold fresh) }
 
 pub jobs-smaller : goal.jobs-smaller
 jobs-smaller c =
@@ -23,6 +23,6 @@ overflow_add-next c =
 
 pub returns : goal.returns
 returns c = record {
-  ends = λ first told fresh.
-      ends-over c.args.at c.jobs.from.0 first c.jobs.machine.ledger told (c.jobs.invariant.ends first told fresh) (sym c.in_default.is ∙ c.started.ensures);
+  ends = λ first foretold fresh.
+      ends-over c.args.at c.jobs.from.0 first c.jobs.machine.ledger foretold (c.jobs.invariant.ends first foretold fresh) (sym c.in_default.is ∙ c.started.ensures);
 }

@@ -7,7 +7,7 @@ use Rattle.forecast.proofs.ends.end_asked.Given as goal
 -- the jobs below the number that were to end have ended
 abbrev pub invariant-jobs : goal.invariant-jobs
 invariant-jobs l = record {
-  ends : (first : Ledger) (told : List Predicted) → IsFresh l.at first l.initial.machine.ledger told → IsEnding l.at l.from.0 first l.machine.ledger told;
+  ends : (first : Ledger) (foretold : List Predicted) → IsFresh l.at first l.initial.machine.ledger foretold → IsEnding l.at l.from.0 first l.machine.ledger foretold;
 }
 
 abbrev pub decreases-jobs : goal.decreases-jobs

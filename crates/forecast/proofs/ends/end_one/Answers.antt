@@ -4,10 +4,10 @@ use Rattle.forecast.proofs.ends.end_one.Goals as goal
 
 pub returns-then-found : goal.returns-then-found
 returns-then-found c = record {
-  ends = λ first told ending.
+  ends = λ first foretold ending.
       (let e = c.apply-answer.ensures in
-      end-found c.args.at c.args.from.0 first c.args.machine.now.ledger c.apply-answer.new.self.ledger told c.args.found.now c.apply-answer.result ending c.requires c.if-found.true (e.reports refl) e.step e.entry);
+      end-found c.args.at c.args.from.0 first c.args.machine.now.ledger c.apply-answer.new.self.ledger foretold c.args.found.now c.apply-answer.result ending c.requires c.if-found.true (e.reports refl) e.step e.entry);
 }
 
 pub returns-else-found : goal.returns-else-found
-returns-else-found c = record { ends = λ first told ending. pass-found c.args.at c.args.from.0 first c.args.machine.now.ledger told c.args.found.now ending c.requires c.if-found.false }
+returns-else-found c = record { ends = λ first foretold ending. pass-found c.args.at c.args.from.0 first c.args.machine.now.ledger foretold c.args.found.now ending c.requires c.if-found.false }

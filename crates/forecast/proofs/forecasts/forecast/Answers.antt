@@ -38,5 +38,5 @@ pub returns-in-None-clause-ok : goal.returns-in-None-clause-ok
 returns-in-None-clause-ok c =
     let ended = c.end_asked.ensures.ends c.args.machine.ledger c.moments.starts.items c.moments.invariant.fresh in
     let over = (c.in-Ok.ensures {u = tt}).ok c.args.machine.ledger ended in
-    let told = last-moment c.moments.at c.args.machine.ledger c.launch_all.new.machine.ledger c.launch_all.new.starts.items over (sym c.next_event.ensures ∙ c.in-None.is) in
-    subst (AreForetold (now_of c.args.machine.ledger)) (sym c.from_vec.ensures) told
+    let foretold = last-moment c.moments.at c.args.machine.ledger c.launch_all.new.machine.ledger c.launch_all.new.starts.items over (sym c.next_event.ensures ∙ c.in-None.is) in
+    subst (AreForetold (now_of c.args.machine.ledger)) (sym c.from_vec.ensures) foretold

@@ -92,10 +92,10 @@ forecast ok =
     let freed = at-more 50 beside_begun beside_begun beside_ended [] (end_at 50 1) first refl refl ended (ends _ 1 refl refl refl) tt in
     let begins = at-next 50 60 beside_begun beside_ended (end_at 50 1 ∷ []) ok freed done-ended reservation-begins in
     let over_there = at-next 60 100 beside_begun beside_ended (end_at 50 1 ∷ []) ok begins done-within reservation-ends in
-    let filled = at-more 100 beside_begun beside_ended beside_launched (end_at 50 1 ∷ []) (launch_at 100 2) over_there refl refl launched (launches refl) (record { time = lit≤ tt; turn = λ same job attempt exit reports. absurd (cc) }, tt) in
+    let filled = at-more 100 beside_begun beside_ended beside_launched (end_at 50 1 ∷ []) (launch_at 100 2) over_there refl refl launched (launches refl) (record { time = lit≤ tt; ends_first = λ same job attempt exit reports. absurd (cc) }, tt) in
     let second = at-next 100 150 beside_begun beside_launched (end_at 50 1 ∷ launch_at 100 2 ∷ []) ok filled done-launched second-end in
     let empty = at-more 150 beside_begun beside_launched beside_over (end_at 50 1 ∷ launch_at 100 2 ∷ []) (end_at 150 2) second refl refl over (ends _ 1 refl refl refl)
-    (record { time = lit≤ tt; turn = λ same job attempt exit reports. absurd (omega (arith, same)) }, (record { time = lit≤ tt; turn = λ same job attempt exit reports. absurd (omega (arith, same)) }, tt)) in
+    (record { time = lit≤ tt; ends_first = λ same job attempt exit reports. absurd (omega (arith, same)) }, (record { time = lit≤ tt; ends_first = λ same job attempt exit reports. absurd (omega (arith, same)) }, tt)) in
     at-last 150 beside_begun beside_over (end_at 50 1 ∷ launch_at 100 2 ∷ end_at 150 2 ∷ []) ok empty done-over (no-event beside_over.plan 150 (λ m low. refl))
 
 pub returns-clause-legal : goal.returns-clause-legal

@@ -69,10 +69,10 @@ forecast : IsConsistent jobs_begun → IsForecast jobs_begun (end_at 50 1 ∷ la
 forecast ok =
     let first = at-next 0 50 jobs_begun jobs_begun [] ok (at-first jobs_begun (omega (arith, within))) done-begun first-end in
     let freed = at-more 50 jobs_begun jobs_begun jobs_ended [] (end_at 50 1) first refl refl ended (ends _ 1 refl refl refl) tt in
-    let filled = at-more 50 jobs_begun jobs_ended jobs_launched (end_at 50 1 ∷ []) (launch_at 50 2) freed refl refl launched (launches refl) (record { time = lit≤ tt; turn = λ same job attempt exit reports. absurd (cc) }, tt) in
+    let filled = at-more 50 jobs_begun jobs_ended jobs_launched (end_at 50 1 ∷ []) (launch_at 50 2) freed refl refl launched (launches refl) (record { time = lit≤ tt; ends_first = λ same job attempt exit reports. absurd (cc) }, tt) in
     let second = at-next 50 100 jobs_begun jobs_launched (end_at 50 1 ∷ launch_at 50 2 ∷ []) ok filled done-launched second-end in
     let empty = at-more 100 jobs_begun jobs_launched jobs_over (end_at 50 1 ∷ launch_at 50 2 ∷ []) (end_at 100 2) second refl refl over (ends _ 1 refl refl refl)
-    (record { time = lit≤ tt; turn = λ same job attempt exit reports. absurd (omega (arith, same)) }, (record { time = lit≤ tt; turn = λ same job attempt exit reports. absurd (omega (arith, same)) }, tt)) in
+    (record { time = lit≤ tt; ends_first = λ same job attempt exit reports. absurd (omega (arith, same)) }, (record { time = lit≤ tt; ends_first = λ same job attempt exit reports. absurd (omega (arith, same)) }, tt)) in
     at-last 100 jobs_begun jobs_over (end_at 50 1 ∷ launch_at 50 2 ∷ end_at 100 2 ∷ []) ok empty done-over (no-event jobs_over.plan 100 (λ m low. refl))
 
 pub returns-clause-legal : goal.returns-clause-legal

@@ -1,7 +1,7 @@
 use Rattle.std.proofs.Common.{◌≡◌, ◌++◌, length}
 use Rattle.std.specs.List.{AllByRecursion}
 use Rattle.std.specs.Vec.Iter.{into_iter_items, into_iter_len}
-use Rattle.drmaa_model.specs.KeptCalls.{kept}
+use Rattle.drmaa_model.specs.RecordedCalls.{recorded}
 use Rattle.drmaa_model.specs.History.{IsLegal}
 use Rattle.drmaa_model.specs.declared.entries.Entry.{Entry}
 use Rattle.journal_check.proofs.checks.replay_all.Given as goal
@@ -15,5 +15,5 @@ invariant-loop-entry l = record {
   config : l.machine.ledger.config ≡ l.initial.machine.ledger.config;
   placed : l.machine.ledger.history ++ into_iter_items l.entry-iterator ≡ l.fn.entries.items;
   legal : IsLegal l.machine.ledger.config l.machine.ledger.history;
-  kept : AllByRecursion (λ (e : Entry). kept e.call ≡ e.call) (into_iter_items l.entry-iterator);
+  recorded : AllByRecursion (λ (e : Entry). recorded e.call ≡ e.call) (into_iter_items l.entry-iterator);
 }

@@ -39,11 +39,11 @@ replay_history-requires-clause-most_journal c = let is = (made c.args.journal.co
 pub replay_history-requires-clause-queues : goal.replay_history-requires-clause-queues
 replay_history-requires-clause-queues c = (made c.args.journal.config c.requires.config).queues
 
-pub replay_history-requires-clause-kept : goal.replay_history-requires-clause-kept
-replay_history-requires-clause-kept c = c.a_writable_journal_keeps_its_calls.ensures c.args.journal.config c.args.journal.entries c.requires
+pub replay_history-requires-clause-recorded : goal.replay_history-requires-clause-recorded
+replay_history-requires-clause-recorded c = c.a_writable_journal_has_recorded_calls.ensures c.args.journal.config c.args.journal.entries c.requires
 
-pub returns-clause-kept : goal.returns-clause-kept
-returns-clause-kept c = c.a_writable_journal_keeps_its_calls.ensures c.args.journal.config c.args.journal.entries c.requires
+pub returns-clause-recorded : goal.returns-clause-recorded
+returns-clause-recorded c = c.a_writable_journal_has_recorded_calls.ensures c.args.journal.config c.args.journal.entries c.requires
 
 pub returns-clause-replay : goal.returns-clause-replay
 returns-clause-replay c = record {

@@ -33,7 +33,7 @@ returns-in-Err-clause-comes c =
     (let w = world_of c.args.store.now in
     let asked = call.CloseSession c.args.session in
     let why = c.in-Err.ensures {u = tt} in
-    hindered w (world_of c.make_room.new.store) c.args.at asked (w.entries + 1 + weight w.plan + 0) c.in-Err.why (planned w c.args.at asked c.requires.kept.consistent refl) (omega arith) why.full why.short c.make_room.ensures.world)
+    hindered w (world_of c.make_room.new.store) c.args.at asked (w.entries + 1 + weight w.plan + 0) c.in-Err.why (planned w c.args.at asked c.requires.store.consistent refl) (omega arith) why.full why.short c.make_room.ensures.world)
 
 pub returns-in-Ok-clause-comes : goal.returns-in-Ok-clause-comes
 returns-in-Ok-clause-comes c =
@@ -48,5 +48,5 @@ returns-in-Ok-clause-comes c =
     let within = (c.in-Ok.ensures {u = tt}).within in
     answers c.close_now.result refl
     (served-gives c.args.at v asked (sym (c.in-None.ensures {u = tt})) ∙ ap (λ (r : Reply). gives r next) (sym both.told) ∙ ap (λ (x : World). gives c.close_now.result.told x) (sym there))
-    (both.kept ∙ sym both.told)
+    (both.recorded ∙ sym both.told)
     (subst (λ (x : World). size x ≤ w.config.journal) (sym there) (omega (arith, weighed, within))))

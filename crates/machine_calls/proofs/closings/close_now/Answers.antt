@@ -18,5 +18,5 @@ returns-clause-world c =
 pub returns-clause-unit : goal.returns-clause-unit
 returns-clause-unit c = record {
   told = ap (λ (r : Replies). r.told) c.go_on.ensures.replies ∙ c.unit.ensures.told;
-  kept = ap (λ (r : Replies). r.kept) c.go_on.ensures.replies ∙ c.unit.ensures.kept;
+  recorded = ap (λ (r : Replies). r.recorded) c.go_on.ensures.replies ∙ c.unit.ensures.recorded;
 }

@@ -15,7 +15,7 @@ returns-in-Err-clause-comes c =
     (let w = world_of c.args.store.now in
     let asked = destroy_call c.args.kind c.args.name.now in
     let why = c.in-Err.ensures {u = tt} in
-    hindered w (world_of c.make_room.new.store) c.args.at asked (w.entries + 1 + weight w.plan + 0) c.in-Err.why (planned w c.args.at asked c.requires.kept.consistent (destroy-plain c.args.kind c.args.name.now)) (omega arith) why.full why.short c.make_room.ensures.world)
+    hindered w (world_of c.make_room.new.store) c.args.at asked (w.entries + 1 + weight w.plan + 0) c.in-Err.why (planned w c.args.at asked c.requires.store.consistent (destroy-plain c.args.kind c.args.name.now)) (omega arith) why.full why.short c.make_room.ensures.world)
 
 pub returns-in-Ok-clause-comes : goal.returns-in-Ok-clause-comes
 returns-in-Ok-clause-comes c =

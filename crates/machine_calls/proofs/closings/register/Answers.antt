@@ -28,7 +28,7 @@ pub returns-in-Err-clause-comes : goal.returns-in-Err-clause-comes
 returns-in-Err-clause-comes c =
     (let w = world_of c.args.store.now in
     let why = c.in-Err.ensures {u = tt} in
-    hindered w (world_of c.make_room.new.store) c.args.at Register (w.entries + 1 + weight w.plan + 0) c.in-Err.why (planned w c.args.at Register c.requires.kept.consistent refl) (omega arith) why.full why.short c.make_room.ensures.world)
+    hindered w (world_of c.make_room.new.store) c.args.at Register (w.entries + 1 + weight w.plan + 0) c.in-Err.why (planned w c.args.at Register c.requires.store.consistent refl) (omega arith) why.full why.short c.make_room.ensures.world)
 
 pub returns-in-Ok-clause-comes : goal.returns-in-Ok-clause-comes
 returns-in-Ok-clause-comes c =
@@ -39,12 +39,12 @@ returns-in-Ok-clause-comes c =
     c.go_on.ensures.world ∙ ap (λ (x : World). counted (advance (record x { registrations = x.registrations + 1 }) c.args.at)) same in
     let told : c.go_on.result.told ≡ Callback (w.registrations + 1) =
     ap (λ (r : Replies). r.told) c.go_on.ensures.replies ∙ c.callback.ensures.told ∙ ap (λ (x : World). Callback (x.registrations + 1)) same in
-    let kept : c.go_on.result.kept ≡ c.go_on.result.told =
-    ap (λ (r : Replies). r.kept) c.go_on.ensures.replies ∙ c.callback.ensures.kept ∙ sym c.callback.ensures.told ∙ sym (ap (λ (r : Replies). r.told) c.go_on.ensures.replies) in
+    let recorded : c.go_on.result.recorded ≡ c.go_on.result.told =
+    ap (λ (r : Replies). r.recorded) c.go_on.ensures.replies ∙ c.callback.ensures.recorded ∙ sym c.callback.ensures.told ∙ sym (ap (λ (r : Replies). r.told) c.go_on.ensures.replies) in
     let free : refusal v Register ≡ None = ap (λ b. cond b (Some (OutOfResource Callbacks)) None) (lt-leb 64 w.registrations c.if-store-ge-MOST_CALLBACKS.false) in
     let weighed = weight-advance (w.entries + 1) c.args.at w.plan in
     let within = (c.in-Ok.ensures {u = tt}).within in
     answers c.go_on.result refl
     (served-gives c.args.at v Register free ∙ ap (λ (r : Reply). gives r (counted (record v { registrations = w.registrations + 1 }))) (sym told) ∙ ap (λ (x : World). gives c.go_on.result.told x) (sym there))
-    kept
+    recorded
     (subst (λ (x : World). size x ≤ w.config.journal) (sym there) (omega (arith, weighed, within))))

@@ -17,11 +17,11 @@ returns-in-Ok-None-clause-comes c = no-launch (world_of c.args.store.now) c.args
 
 pub returns-in-Err-clause-comes : goal.returns-in-Err-clause-comes
 returns-in-Err-clause-comes c =
-    short-launch (world_of c.args.store.now) c.args.at c.size_with.result c.hindrance.result c.requires.kept.consistent.fit
+    short-launch (world_of c.args.store.now) c.args.at c.size_with.result c.hindrance.result c.requires.store.consistent.fit
     (λ none. (let e = c.next_launch.ensures.nothing none in let f = c.in-Err.is in absurd (cc))) c.size_with.ensures c.hindrance.ensures.full c.hindrance.ensures.short
 
 pub hand_out-requires-clause-fit : goal.hand_out-requires-clause-fit
-hand_out-requires-clause-fit c = subst (λ (w : World). IsFit w.plan) (sym c.make_room.ensures.world) c.requires.kept.consistent.fit
+hand_out-requires-clause-fit c = subst (λ (w : World). IsFit w.plan) (sym c.make_room.ensures.world) c.requires.store.consistent.fit
 
 pub hand_out-requires-clause-next : goal.hand_out-requires-clause-next
 hand_out-requires-clause-next c = subst (λ (w : World). launch.told (advance_plan 0 c.args.at w.plan) ≡ Some c.in-Ok-Some.next) (sym c.make_room.ensures.world) (sym (c.in-Ok-Some.ensures {u = tt}).next ∙ c.in-Ok-Some.field-0-is)
@@ -38,7 +38,7 @@ returns-in-Err-make_room-clause-comes c =
     (let w = world_of c.args.store.now in
     let why = c.in-Err-make_room.ensures {u = tt} in
     next-hindered w c.args.at call.TakeLaunch (reply.Launch c.in-Ok-Some.next) (launch.effect (w.entries + 1) (advance_plan (w.entries + 1) c.args.at w.plan)) (w.entries + 1 + weight w.plan + 4)
-    (next-launch w c.args.at c.in-Ok-Some.next c.requires.kept.consistent.fit (sym (c.in-Ok-Some.ensures {u = tt}).next ∙ c.in-Ok-Some.field-0-is)) (world_of c.make_room.new.store) (w.entries + 1 + weight w.plan + 4) c.in-Err-make_room.why refl why.full why.short c.make_room.ensures.world)
+    (next-launch w c.args.at c.in-Ok-Some.next c.requires.store.consistent.fit (sym (c.in-Ok-Some.ensures {u = tt}).next ∙ c.in-Ok-Some.field-0-is)) (world_of c.make_room.new.store) (w.entries + 1 + weight w.plan + 4) c.in-Err-make_room.why refl why.full why.short c.make_room.ensures.world)
 
 pub returns-in-Ok-clause-unspent : goal.returns-in-Ok-clause-unspent
 returns-in-Ok-clause-unspent c = on_err_weaker c.hand_out.result (λ kept. (let first = c.make_room.ensures.spare in omega (arith, first, kept))) c.hand_out.ensures.unspent

@@ -1,4 +1,4 @@
-use Rattle.std.proofs.Common.{refl, sym, ap, subst, arith}
+use Rattle.std.proofs.Common.{inl, refl, sym, ap, subst, arith}
 use Rattle.std.specs.Prelude.{Result, Ok, Err, OnOk, IsOk}
 use Rattle.drmaa_types.specs.declared.refusals.Refusal.{Refusal}
 use Rattle.drmaa_model.specs.declared.faults.NoEntry.{NoEntry}
@@ -18,13 +18,15 @@ use Rattle.machine_calls.proofs.reports.take_promised.Goals as goal
 
 pub returns-clause-comes : goal.returns-clause-comes
 returns-clause-comes c =
-    comes-after unit (report_of c.args.report) c.args.store.now c.args.store.now c.args.at (call_of c.args.report) (report-through c.args.report c.args.at (world_at c.args.at c.args.store.now)) c.args.store.now.config.journal c.report-done.new.self.plan c.report-done.result c.conclude.result (world_of c.conclude.new.store)
-    refl (λ h. refl) c.report-done.ensures.meets c.conclude.ensures.concludes (λ sized e. c.report-done.ensures.memory e)
+    comes-after unit (report_of c.args.report) c.args.store.now c.args.store.now c.args.at (call_of c.args.report) (report-through c.args.report c.args.at (world_at c.args.at c.args.store.now))
+    c.next_occasion-occasion.result c.next_occasion-occasion.ensures.next c.report-done.new.self.plan c.report-done.result c.conclude.result (world_of c.conclude.new.store)
+    refl (inl c.report-done.ensures.meets) c.conclude.ensures.concludes c.report-done.ensures.meets
 
 pub returns-clause-place : goal.returns-clause-place
 returns-clause-place c =
-    (let taken = promised-taken c.args.store.now c.args.at c.args.report c.report-done.result c.report-done.new.self.plan c.requires.kept c.requires.promised c.report-done.ensures.memory c.report-done.ensures.meets in
-    let room = c.requires.kept.room in
+    (let taken = promised-taken c.args.store.now c.args.at c.next_occasion-occasion.result c.args.report c.report-done.result c.report-done.new.self.plan c.requires.store c.next_occasion-occasion.ensures.next c.requires.promised
+    (c.report-done.ensures.memory c.next_occasion-occasion.ensures.memory) c.report-done.ensures.meets in
+    let room = c.requires.store.room in
     let fewer = taken.fewer in
     let rows = ap (λ (v : View). reports_to_come v.plan.rows) c.conclude.ensures.core in
     let len = c.conclude.ensures.keeps.len in
@@ -34,15 +36,17 @@ returns-clause-place c =
 
 pub returns-clause-taken : goal.returns-clause-taken
 returns-clause-taken c =
-    (let taken = promised-taken c.args.store.now c.args.at c.args.report c.report-done.result c.report-done.new.self.plan c.requires.kept c.requires.promised c.report-done.ensures.memory c.report-done.ensures.meets in
-    let ends = subst (λ (d : Result (Unit {0}) Refusal). Concludes unit d (record (world_of c.args.store.now) { plan = c.report-done.new.self.plan }) c.conclude.result (world_of c.conclude.new.store)) taken.ok c.conclude.ensures.concludes in
+    (let taken = promised-taken c.args.store.now c.args.at c.next_occasion-occasion.result c.args.report c.report-done.result c.report-done.new.self.plan c.requires.store c.next_occasion-occasion.ensures.next c.requires.promised
+    (c.report-done.ensures.memory c.next_occasion-occasion.ensures.memory) c.report-done.ensures.meets in
+    let ends = subst (λ (d : Result (Result (Unit {0}) Refusal) NoEntry). Concludes unit d (record (world_of c.args.store.now) { plan = c.report-done.new.self.plan }) c.conclude.result (world_of c.conclude.new.store)) taken.ok c.conclude.ensures.concludes in
     subst (λ (r : Result Replies NoEntry). IsOk r) (sym ends.1) refl)
 
 pub returns-clause-spare : goal.returns-clause-spare
 returns-clause-spare c =
-    (let taken = promised-taken c.args.store.now c.args.at c.args.report c.report-done.result c.report-done.new.self.plan c.requires.kept c.requires.promised c.report-done.ensures.memory c.report-done.ensures.meets in
+    (let taken = promised-taken c.args.store.now c.args.at c.next_occasion-occasion.result c.args.report c.report-done.result c.report-done.new.self.plan c.requires.store c.next_occasion-occasion.ensures.next c.requires.promised
+    (c.report-done.ensures.memory c.next_occasion-occasion.ensures.memory) c.report-done.ensures.meets in
     let fewer = taken.fewer in
     let rows = ap (λ (v : View). reports_to_come v.plan.rows) c.conclude.ensures.core in
     let left = ap (λ (v : View). v.spare) c.conclude.ensures.core in
     let kept = c.report-done.ensures.spare in
-    uses-none c.args.store.now c.conclude.new.store c.conclude.ensures.keeps.len c.conclude.ensures.keeps.more c.requires.kept (omega (arith, fewer, rows)) (omega (arith, left, kept)))
+    uses-none c.args.store.now c.conclude.new.store c.conclude.ensures.keeps.len c.conclude.ensures.keeps.more c.requires.store (omega (arith, fewer, rows)) (omega (arith, left, kept)))

@@ -15,4 +15,4 @@ returns-in-Err-clause-comes c =
     (let w = world_of c.args.store.now in
     let asked = create_call c.args.kind c.args.name.now in
     let size = c.size_with.ensures in
-    hindered w w c.args.at asked c.size_with.result c.hindrance.result (planned w c.args.at asked c.requires.kept.consistent (create-plain c.args.kind c.args.name.now)) (omega (arith, size)) c.hindrance.ensures.full c.hindrance.ensures.short refl)
+    hindered w w c.args.at asked c.size_with.result c.hindrance.result (planned w c.args.at asked c.requires.store.consistent (create-plain c.args.kind c.args.name.now)) (omega (arith, size)) c.hindrance.ensures.full c.hindrance.ensures.short refl)

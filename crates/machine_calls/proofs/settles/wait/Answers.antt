@@ -16,11 +16,11 @@ returns-in-Some-clause-comes c = c.refuse.ensures.comes (call.Wait c.args.sessio
 
 record Looked (v : World) (job : Option ℕ) (over : Bool) (replies : Replies) : Type 0 where
   told : wait_answer job over v ≡ makes replies.told v
-  twice : replies.kept ≡ replies.told
+  twice : replies.recorded ≡ replies.told
 
 looked-some : (v : World) (job : Option ℕ) (over : Bool) (replies : Replies) → IsLooked job over (Some replies) → Looked v job over replies
-looked-some v (Some job) over replies is = record { told = ap (λ (r : Reply). makes r v) (sym is.told); twice = is.kept ∙ sym is.told }
-looked-some v None true replies is = record { told = ap (λ (r : Reply). makes r v) (sym is.told); twice = is.kept ∙ sym is.told }
+looked-some v (Some job) over replies is = record { told = ap (λ (r : Reply). makes r v) (sym is.told); twice = is.recorded ∙ sym is.told }
+looked-some v None true replies is = record { told = ap (λ (r : Reply). makes r v) (sym is.told); twice = is.recorded ∙ sym is.told }
 looked-some v None false replies is = absurd (cc)
 
 looked-none : (v : World) (job : Option ℕ) (over : Bool) → IsLooked job over None → wait_answer job over v ≡ not_yet

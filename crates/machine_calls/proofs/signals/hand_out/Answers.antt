@@ -11,13 +11,13 @@ pub returns-clause-world : goal.returns-clause-world
 returns-clause-world c =
     (let w = world_of c.args.store.now in
     ap (λ (p : Plan). counted (record w { plan = p }))
-    (signal-done w c.args.at c.args.next c.requires.next c.requires.within c.take_signal.new.self.plan c.take_signal.result c.take_signal.ensures.meets c.take_signal.ensures.memory))
+    (signal-done w c.args.at c.next_occasion-occasion.result c.next_occasion-occasion.ensures.next c.args.next c.requires.next c.requires.within c.take_signal.new.self.plan c.take_signal.result c.take_signal.ensures.meets (c.take_signal.ensures.memory c.next_occasion-occasion.ensures.memory)))
 
 pub returns-clause-place : goal.returns-clause-place
 returns-clause-place c =
     (let w = world_of c.args.store.now in
     let same = ap (λ (p : Plan). reports_to_come p.rows)
-    (signal-done w c.args.at c.args.next c.requires.next c.requires.within c.take_signal.new.self.plan c.take_signal.result c.take_signal.ensures.meets c.take_signal.ensures.memory) in
+    (signal-done w c.args.at c.next_occasion-occasion.result c.next_occasion-occasion.ensures.next c.args.next c.requires.next c.requires.within c.take_signal.new.self.plan c.take_signal.result c.take_signal.ensures.meets (c.take_signal.ensures.memory c.next_occasion-occasion.ensures.memory)) in
     let less = advance-due (w.entries + 1) c.args.at w.plan in
     let room = c.requires.room in
     omega (arith, same, less, room))
@@ -26,7 +26,7 @@ pub returns-clause-spare : goal.returns-clause-spare
 returns-clause-spare c =
     (let w = world_of c.args.store.now in
     let same = ap (λ (p : Plan). reports_to_come p.rows)
-    (signal-done w c.args.at c.args.next c.requires.next c.requires.within c.take_signal.new.self.plan c.take_signal.result c.take_signal.ensures.meets c.take_signal.ensures.memory) in
+    (signal-done w c.args.at c.next_occasion-occasion.result c.next_occasion-occasion.ensures.next c.args.next c.requires.next c.requires.within c.take_signal.new.self.plan c.take_signal.result c.take_signal.ensures.meets (c.take_signal.ensures.memory c.next_occasion-occasion.ensures.memory)) in
     let less = advance-due (w.entries + 1) c.args.at w.plan in
     let kept = c.take_signal.ensures.spare in
     omega (arith, same, less, kept))

@@ -18,7 +18,7 @@ returns-in-Err-clause-comes c =
     (let w = world_of c.args.store.now in
     let asked = call.RequestReservation c.args.session c.args.template.now in
     let size = c.size_with.ensures in
-    hindered w w c.args.at asked c.size_with.result c.hindrance.result (planned w c.args.at asked c.requires.kept.consistent refl) (omega (arith, size)) c.hindrance.ensures.full c.hindrance.ensures.short refl)
+    hindered w w c.args.at asked c.size_with.result c.hindrance.result (planned w c.args.at asked c.requires.store.consistent refl) (omega (arith, size)) c.hindrance.ensures.full c.hindrance.ensures.short refl)
 
 pub returns-in-Ok-clause-comes : goal.returns-in-Ok-clause-comes
 returns-in-Ok-clause-comes c =

@@ -12,10 +12,10 @@ returns-in-Some c =
     ap (λ (n : ℕ). ltb n c.number-in-Some.result) c.number.ensures.value
     ∙ ap (λ (n : ℕ). ltb m n) c.number-in-Some.ensures.value
     ∙ ap (λ (o : Option Accepted). option_map_or (lasts m) o false) (c.in-Some.ensures {u = tt})
-    ∙ sym (found-passing reservation_number c.args.number.0 (lasts m) c.args.rs.now.items c.requires.order)
+    ∙ sym (found-passing reservation_number c.args.number.0 (lasts m) c.args.rs.now.items c.requires.sorted)
 
 pub returns-in-None : goal.returns-in-None
 returns-in-None c =
     let m = c.args.moment in
     ap (λ (o : Option Accepted). option_map_or (lasts m) o false) (c.in-None.ensures {u = tt})
-    ∙ sym (found-passing reservation_number c.args.number.0 (lasts m) c.args.rs.now.items c.requires.order)
+    ∙ sym (found-passing reservation_number c.args.number.0 (lasts m) c.args.rs.now.items c.requires.sorted)

@@ -9,10 +9,10 @@ pub returns-clause-found : goal.returns-clause-found
 returns-clause-found c =
     let facts = c.binary_search_by_key.ensures in
     let by_job = facts.position (λ (r : Accepted). r.reservation.0) (answers_always _ _ _ (λ f a r g called. search rules)) in
-    rw (← c.deref.ensures.value) ((searched reservation_number c.deref.result.now (rw c.deref.ensures.value c.requires.order) c.args.number.0 c.binary_search_by_key.result facts.bound by_job).found)
+    rw (← c.deref.ensures.value) ((searched reservation_number c.deref.result.now (rw c.deref.ensures.value c.requires.sorted) c.args.number.0 c.binary_search_by_key.result facts.bound by_job).found)
 
 pub returns-clause-absent : goal.returns-clause-absent
 returns-clause-absent c =
     let facts = c.binary_search_by_key.ensures in
     let by_job = facts.position (λ (r : Accepted). r.reservation.0) (answers_always _ _ _ (λ f a r g called. search rules)) in
-    rw (← c.deref.ensures.value) ((searched reservation_number c.deref.result.now (rw c.deref.ensures.value c.requires.order) c.args.number.0 c.binary_search_by_key.result facts.bound by_job).absent)
+    rw (← c.deref.ensures.value) ((searched reservation_number c.deref.result.now (rw c.deref.ensures.value c.requires.sorted) c.args.number.0 c.binary_search_by_key.result facts.bound by_job).absent)

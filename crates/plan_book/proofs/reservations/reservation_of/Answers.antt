@@ -7,4 +7,4 @@ use Rattle.plan_book.proofs.reservations.reservation_of.Goals as goal
 pub returns-in-Ok : goal.returns-in-Ok
 returns-in-Ok c =
     ap (λ (r : Accepted). Some r) c.index.ensures
-    ∙ sym (find-at reservation_number c.args.number.0 c.args.rs.now.items c.in-Ok.place c.index.result.now c.requires.order (c.in-Ok.ensures {u = tt}).found)
+    ∙ sym (find-at reservation_number c.args.number.0 c.args.rs.now.items c.in-Ok.place c.index.result.now c.requires.sorted (c.in-Ok.ensures {u = tt}).found)

@@ -6,8 +6,8 @@ use Rattle.plan_book.specs.Spans.{IsInSpan, span_number}
 use Rattle.plan_book.proofs.SpanLaws.{insert-order, insert-keeps, insert-has, widen-rising, widen-keeps, widen-has}
 use Rattle.plan_book.proofs.spans.put_number.Goals as goal
 
-pub returns-in-Ok-clause-order : goal.returns-in-Ok-clause-order
-returns-in-Ok-clause-order c =
+pub returns-in-Ok-clause-sorted : goal.returns-in-Ok-clause-sorted
+returns-in-Ok-clause-sorted c =
     let xs = c.args.spans.now.items in
     let i = c.in-Ok.place in
     subst (λ (s : Span). IsRising span_number (set xs i s)) (sym c.widened.ensures) (widen-rising c.args.group c.args.job xs i c.index.result.now c.requires (c.in-Ok.ensures {u = tt}).found c.index.ensures)
@@ -24,8 +24,8 @@ returns-in-Ok-clause-member c = λ e.
     let i = c.in-Ok.place in
     subst (λ (s : Span). IsInSpan c.args.group c.args.job (set xs i s)) (sym c.widened.ensures) (widen-has c.args.group c.args.job xs i c.index.result.now c.requires (c.in-Ok.ensures {u = tt}).found c.index.ensures))
 
-pub returns-in-Err-clause-order : goal.returns-in-Err-clause-order
-returns-in-Err-clause-order c =
+pub returns-in-Err-clause-sorted : goal.returns-in-Err-clause-sorted
+returns-in-Err-clause-sorted c =
     let xs = c.args.spans.now.items in
     let place = c.in-Err.ensures {u = tt} in
     subst (IsRising span_number) (sym c.insert.ensures.items) (insert-order c.args.group c.args.job xs c.in-Err.place c.span_at.result c.span_at.ensures place.absent c.requires place.below place.above (is_ok c.insert.result))

@@ -17,6 +17,6 @@ pub returns-in-Err-clause-err : goal.returns-in-Err-clause-err
 returns-in-Err-clause-err c =
     let a = c.args.asker.now in
     let e = c.in-Err.ensures in
-    unanswered a c.args.template c.args.machine.now.ledger c.apply.new.self.ledger c.in-Err.fault c.refusal_for.result
+    unanswered a c.args.template c.args.machine.now.ledger c.apply.new.self.ledger c.in-Err.fault c.from.result
     (makes-none (now_of c.args.machine.now.ledger) a.at (asking a c.args.template) (Err c.in-Err.fault) (record { waits = e.waits; finds_nothing = e.finds_nothing; full = e.full; above = e.above; reports = e.reports }))
-    e.err c.refusal_for.ensures.memory c.refusal_for.ensures.full
+    e.err c.from.ensures

@@ -4,13 +4,13 @@ use Rattle.drmaa_model.specs.declared.configs.Config.{Config}
 use Rattle.drmaa_model.specs.declared.entries.Entry.{Entry}
 use Rattle.drmaa_model.specs.declared.replies.Reply.{Reply}
 use Rattle.drmaa_model.specs.History.{Ledger, replay}
-use Rattle.drmaa_model.specs.KeptCalls.{kept}
+use Rattle.drmaa_model.specs.RecordedCalls.{recorded}
 use Rattle.journal_check.specs.FaultLaws.{fault_not_legal}
 use Rattle.journal_check.specs.Faults.{FirstFault}
 use Rattle.journal_check.specs.declared.checks.Replayed.TheVariants as replayed
 use Rattle.std.specs.List.{AllByRecursion}
 use Rattle.revival.specs.Stopping.{IsStopped}
-use Rattle.revival.specs.StoppingLaws.{stops-kept}
+use Rattle.revival.specs.StoppingLaws.{stops-recorded}
 use Rattle.revival.specs.declared.revives.ReviveFault.{ReviveFault}
 use Rattle.revival.specs.declared.revives.ReviveFault.TheVariants as fault
 use Rattle.revival.proofs.revives.revive.Goals as goal
@@ -20,10 +20,10 @@ stopped_of : (config : Config) (entries : List Entry) (first last : Ledger) → 
     → IsStopped (record { config = config; history = entries }) last
 stopped_of config entries first last is stopped = subst (λ (l : Ledger). IsStopped l last) is stopped
 
-still_kept : (config : Config) (entries : List Entry) (last : Ledger) → IsStopped (record { config = config; history = entries }) last → AllByRecursion (λ (e : Entry). kept e.call ≡ e.call) entries
-    → AllByRecursion (λ (e : Entry). kept e.call ≡ e.call) last.history
-still_kept config entries last stopped before =
-    subst (λ (l : Ledger). AllByRecursion (λ (e : Entry). kept e.call ≡ e.call) l.history) (sym stopped.is) (stops-kept entries (replay config entries) before)
+still_recorded : (config : Config) (entries : List Entry) (last : Ledger) → IsStopped (record { config = config; history = entries }) last → AllByRecursion (λ (e : Entry). recorded e.call ≡ e.call) entries
+    → AllByRecursion (λ (e : Entry). recorded e.call ≡ e.call) last.history
+still_recorded config entries last stopped before =
+    subst (λ (l : Ledger). AllByRecursion (λ (e : Entry). recorded e.call ≡ e.call) l.history) (sym stopped.is) (stops-recorded entries (replay config entries) before)
 
 pub returns-in-Legal : goal.returns-in-Legal
 returns-in-Legal c =
@@ -35,7 +35,7 @@ returns-in-Legal c =
       ok = after.is;
       legal = made.replays.0;
       legal_still = after.legal;
-      kept = still_kept config entries c.stopped.result.ledger after made.kept;
+      recorded = still_recorded config entries c.stopped.result.ledger after made.recorded;
       fault = λ number given machine same. absurd (cc);
       only_legal = λ legal. inl refl;
       only_fault = λ number given machine first. absurd (fault_not_legal config entries number given machine first made.replays.0);

@@ -31,7 +31,7 @@ returns-clause-may c =
     let most : IsMost _ row.wants n = c.slots_at-slots.ensures in
     let booked : c.booking_of.result ≡ launch_booking row m n (planned_end row.wants m) = c.booking_of.ensures ∙ ap (launch_booking row m n) c.planned_end-planned.ensures in
     subst (MayMake c.args.book.now.calendar) (sym booked)
-    (launch-may c.args.book.now.calendar p m row n c.requires.kept.fit c.requires.kept.tied c.requires.later c.requires.limit c.requires.fresh (seen-ready p m row c.requires.ready).queued most.has)
+    (launch-may c.args.book.now.calendar p m row n c.requires.book.fit c.requires.book.tied c.requires.later c.requires.limit c.requires.fresh (seen-ready p m row c.requires.ready).queued most.has)
 
 pub returns-clause-launch : goal.returns-clause-launch
 returns-clause-launch c =
@@ -50,7 +50,7 @@ returns-clause-launch c =
     ap (λ (b : Course). mk b c.launched-after.result c.booking_of.result) before ∙ ap (λ (a : Course). mk course a c.booking_of.result) after ∙ ap (mk course (launched m n (planned_end row.wants m) course)) booked in
     let told : Course → List (List ℕ) → Launch = λ b words. record { job = row.job; attempt = b.attempt + 1; slots = n; words = words } in
     let next : Next = record { m = mk c.course_then-before.result c.launched-after.result c.booking_of.result; launch = told c.course_then-before.result c.in_ok-words_of.field-0 } in
-    subst (λ (k : ℕ). IsLaunchOf (record row { course = course }) m k next) (sym (seen-slots p m row n c.requires.ready c.requires.order c.slots_at-slots.ensures))
+    subst (λ (k : ℕ). IsLaunchOf (record row { course = course }) m k next) (sym (seen-slots p m row n c.requires.ready c.requires.range c.slots_at-slots.ensures))
     (record {
       move_is = move;
       launch_is = ap (λ (b : Course). told b c.in_ok-words_of.field-0) before ∙ ap (told course) (c.in_ok-words_of.ensures {u = tt});

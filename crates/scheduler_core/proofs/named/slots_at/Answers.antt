@@ -17,11 +17,11 @@ returns-in-Some c =
     let m = max c.args.book.now.moment c.args.at in
     let rs = c.args.book.now.reservations.items in
     ap (option_map (λ (a : Accepted). a.slots))
-    (c.in-Some.ensures {u = tt} ∙ lasting-same m c.args.number rs c.requires.kept.fit.accepted.rising (sym (c.if-not-is_accepted_at.ensures {u = tt})))
+    (c.in-Some.ensures {u = tt} ∙ lasting-same m c.args.number rs c.requires.book.fit.accepted.rising (sym (c.if-not-is_accepted_at.ensures {u = tt})))
 
 pub returns-in-None : goal.returns-in-None
 returns-in-None c =
     let m = max c.args.book.now.moment c.args.at in
     let rs = c.args.book.now.reservations.items in
     ap (option_map (λ (a : Accepted). a.slots))
-    (c.in-None.ensures {u = tt} ∙ lasting-same m c.args.number rs c.requires.kept.fit.accepted.rising (sym (c.if-not-is_accepted_at.ensures {u = tt})))
+    (c.in-None.ensures {u = tt} ∙ lasting-same m c.args.number rs c.requires.book.fit.accepted.rising (sym (c.if-not-is_accepted_at.ensures {u = tt})))

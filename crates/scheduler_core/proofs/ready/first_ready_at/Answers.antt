@@ -3,7 +3,7 @@ use Rattle.std.specs.Prelude.{ℤ, int_lt}
 use Rattle.std.proofs.lemmas.Int.{to_z-of_z}
 use Rattle.std.specs.Option.{option_copied, option_map, option_map_or}
 use Rattle.drmaa_model.specs.declared.rows.Row.{Row}
-use Rattle.drmaa_model.specs.Order.{first_in_order}
+use Rattle.drmaa_model.specs.NextLaunch.{best_of}
 use Rattle.drmaa_model.specs.Time.{lasts}
 use Rattle.drmaa_model.specs.TimeLaws.{timed-wants}
 use Rattle.plan_book.specs.Book.{plan_of}
@@ -16,10 +16,10 @@ use Rattle.scheduler_core.proofs.ready.first_ready_at.Goals as goal
 pub returns-then-used-total : goal.returns-then-used-total
 returns-then-used-total c =
     let p = plan_of c.args.book.now in
-    sym (ap first_in_order (none-free c.args.moment p p.rows (omega (arith, c.requires.used, c.total.ensures, c.if-used-total.true)) c.requires.kept.fit.sound))
+    sym (ap best_of (none-free c.args.moment p p.rows (omega (arith, c.requires.used, c.total.ensures, c.if-used-total.true)) c.requires.book.fit.sound))
 
 pub loop-row-init : goal.loop-row-init
-loop-row-init c = (refl, c.new-known.ensures (plan_of c.args.book.now).rows)
+loop-row-init c = (refl, c.new-known.ensures (plan_of c.args.book.now).rows, tt)
 
 pub loop-row-preserved : goal.loop-row-preserved
 loop-row-preserved c =
@@ -34,14 +34,15 @@ loop-row-preserved c =
     let within : i < length xs = omega arith in
     let front : drop i xs ≡ row ∷ rest =
     (let e : suc i ≡ i + 1 = omega arith in drop-cons xs i row within ∙ ap (λ (r : Row). r ∷ drop (suc i) xs) (sym c.row-item.is) ∙ ap (λ n. row ∷ drop n xs) e) in
-    let before : first_of (option_map at best) (first_in_order (filter test (map at (row ∷ rest)))) ≡ first_in_order (filter test (map at xs)) =
-    ap (λ (ys : List Row). first_of (option_map at best) (first_in_order (filter test (map at ys)))) (sym front) ∙ c.loop-row.invariant.0 in
-    let after = λ (o : Option Row). first_of (option_map at o) (first_in_order (filter test (map at rest))) in (
-      (elim (test (at row)) as (λ (t : Bool). test (at row) ≡ t → after (option_copied c.best_with-best.result) ≡ first_in_order (filter test (map at xs))) [
+    let before : first_of (option_map at best) (best_of (filter test (map at (row ∷ rest)))) ≡ best_of (filter test (map at xs)) =
+    ap (λ (ys : List Row). first_of (option_map at best) (best_of (filter test (map at ys)))) (sym front) ∙ c.loop-row.invariant.0 in
+    let after = λ (o : Option Row). first_of (option_map at o) (best_of (filter test (map at rest))) in (
+      (elim (test (at row)) as (λ (t : Bool). test (at row) ≡ t → after (option_copied c.best_with-best.result) ≡ best_of (filter test (map at xs))) [
         | true ↦ λ h. ap after (c.best_with-best.ensures.may h) ∙ chosen at (timed-wants c.args.moment (filter (lasts c.args.moment) p.reservations)) test best row rest h ∙ before
         | false ↦ λ h. ap after (c.best_with-best.ensures.not h) ∙ passed at test best row rest h ∙ before
       ]) refl,
       c.best_with-best.ensures.known,
+      c.best_with-best.ensures.unmet,
     )
 
 -- no job that is left has a greater priority

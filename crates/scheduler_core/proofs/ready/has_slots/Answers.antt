@@ -1,7 +1,7 @@
 use Rattle.std.proofs.Common.{Option, sym, ◌∙◌, ap}
 use Rattle.std.specs.Option.{option_map_or}
 use Rattle.drmaa_types.specs.declared.identifiers.ReservationId.{ReservationId}
-use Rattle.drmaa_model.specs.Order.{has_slots_in}
+use Rattle.drmaa_model.specs.NextLaunch.{has_slots_in}
 use Rattle.plan_book.specs.Book.{plan_of}
 use Rattle.scheduler_core.specs.Launches.{free_of, seen}
 use Rattle.scheduler_core.proofs.ready.has_slots.Goals as goal

@@ -16,14 +16,14 @@ few c =
     let rs = c.args.book.now.reservations.items in
     sym (c.is_full.ensures ∙ ap (λ (m : ℕ). leb most_reservations (length (filter (lasts m) rs))) c.moment_at.ensures) ∙ c.if-is_full.false
 
-pub returns-in-None-clause-offer : goal.returns-in-None-clause-offer
-returns-in-None-clause-offer c =
+pub returns-in-None : goal.returns-in-None
+returns-in-None c =
     let p = plan_of c.args.book.now in
     ap (λ (o : Option ℕ). let r : Result Offer Refusal = Err (DeniedByDrms o) in r) c.denied_at.ensures
     ∙ offer-denied c.args.at p c.args.t.now c.args.frame.now c.requires.frame_of c.requires.frame.since (few c.before.before) (sym c.in-None.is ∙ c.start_in.ensures)
 
-pub returns-in-Some-clause-offer : goal.returns-in-Some-clause-offer
-returns-in-Some-clause-offer c =
+pub returns-in-Some : goal.returns-in-Some
+returns-in-Some c =
     let p = plan_of c.args.book.now in
     ap (λ (o : Offer). let r : Result Offer Refusal = Ok o in r) c.offer_from.ensures
     ∙ offer-made c.args.at p c.args.t.now c.args.frame.now c.requires.frame_of c.requires.frame.since (few c.before.before) c.in-Some.from (sym c.in-Some.is ∙ c.start_in.ensures)

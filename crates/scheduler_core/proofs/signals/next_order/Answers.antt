@@ -7,4 +7,4 @@ pub returns-in-Some : goal.returns-in-Some
 returns-in-Some c = next-asked c.args.at (plan_of c.args.book.now) c.in-Some.order (c.in-Some.ensures {u = tt})
 
 pub returns-in-None : goal.returns-in-None
-returns-in-None c = c.kill_due.ensures ∙ next-killed c.args.at (plan_of c.args.book.now) c.requires.kept.fit (c.in-None.ensures {u = tt})
+returns-in-None c = c.kill_due.ensures ∙ next-killed c.args.at (plan_of c.args.book.now) c.requires.book.fit (c.in-None.ensures {u = tt})

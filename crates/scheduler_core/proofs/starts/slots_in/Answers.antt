@@ -18,7 +18,7 @@ returns-in-Some c =
     let book = c.args.book.now in
     let f = c.args.frame.now in
     let found = c.in-Some.ensures {u = tt} in
-    sym (largest-is book.calendar (plan_of book) c.requires.kept.fit c.requires.kept.tied f c.args.from c.in-Some.slots (later c.before) found.range.0 found.range.1
+    sym (largest-is book.calendar (plan_of book) c.requires.book.fit c.requires.book.tied f c.args.from c.in-Some.slots (later c.before) found.range.0 found.range.1
     (subst (λ (u : ℕ). Fits book.calendar c.in-Some.slots c.args.from (At u)) c.requires.until found.fits)
     (λ k within fits. found.greatest k within (subst (λ (u : ℕ). Fits book.calendar k c.args.from (At u)) (sym c.requires.until) fits)))
 
@@ -26,5 +26,5 @@ pub returns-in-None : goal.returns-in-None
 returns-in-None c =
     let book = c.args.book.now in
     let f = c.args.frame.now in
-    let fits = to-calendar book.calendar (plan_of book) c.requires.kept.fit c.requires.kept.tied f.min c.args.from (At (c.args.from + f.span)) (later c.before) (start c.before).fit in
+    let fits = to-calendar book.calendar (plan_of book) c.requires.book.fit c.requires.book.tied f.min c.args.from (At (c.args.from + f.span)) (later c.before) (start c.before).fit in
     absurd ((c.in-None.ensures {u = tt}).none.0 refl (subst (λ (u : ℕ). Fits book.calendar f.min c.args.from (At u)) (sym c.requires.until) fits))

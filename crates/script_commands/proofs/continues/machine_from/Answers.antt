@@ -2,7 +2,8 @@ use Rattle.std.proofs.Common.{Result, Ok, Err, subst}
 use Rattle.std.specs.Prelude.{IfOk, OnOk}
 use Rattle.drmaa_model.specs.History.{Ledger, IsLegal}
 use Rattle.script_text.specs.declared.scripts.Mode.TheVariants as mode
-use Rattle.script_commands.proofs.Continuing.{KeepTheirs, continued_printable}
+use Rattle.journal_commands.specs.Replays.{AreRecorded}
+use Rattle.script_commands.proofs.Continuing.{continued_printable}
 use Rattle.script_commands.proofs.continues.machine_from.Goals as goal
 
 -- what three things that are true of a value that was made say together
@@ -18,4 +19,4 @@ returns-clause-printable c =
     let j = c.args.journal in
     on_three c.revive.result _ _ _ _ (λ m is legal keep.
     continued_printable j c.args.script.now c.requires.spelled.0 c.requires.spelled.1 c.requires.same c.requires.writable
-    (subst (λ (l : Ledger). IsLegal l.config l.history) is legal) (subst (λ (l : Ledger). KeepTheirs l.history) is keep)) c.revive.ensures.ok c.revive.ensures.legal_still c.revive.ensures.kept
+    (subst (λ (l : Ledger). IsLegal l.config l.history) is legal) (subst (λ (l : Ledger). AreRecorded l.history) is keep)) c.revive.ensures.ok c.revive.ensures.legal_still c.revive.ensures.recorded

@@ -7,7 +7,7 @@ use Rattle.journal_commands.specs.declared.status.Status.{Status}
 use Rattle.journal_commands.specs.declared.status.Status.TheVariants.{Text, ReadFault, Memory}
 use Rattle.journal_commands.specs.StatusLaws.{unread_words, unread_reads, unread_written, unread_writes, unread_refused, err_is}
 use Rattle.script_commands.specs.Continuing.{ContinueEnds, ContinueIsWhole, Continues}
-use Rattle.script_commands.proofs.Kept.{kept_same}
+use Rattle.script_commands.proofs.Returned.{returned_same}
 use Rattle.journal_commands.proofs.Somes.{some_both, some_all}
 use Rattle.script_commands.proofs.Went.{text_ends, ends_no_fault, unread_continues}
 use Rattle.script_commands.proofs.continues.run_continue.Goals as goal
@@ -73,5 +73,5 @@ returns-in-Err-clause-whole g c = λ calm quiet.
       other = λ none. unread_refused c.in-Err.status c.in-Err.ensures.causes (λ e. calm (c.in-Err.ensures.fault (err_is c.in-Err.status ReadFault e)));
     })
 
-pub returns-in-Err-clause-kept : goal.returns-in-Err-clause-kept
-returns-in-Err-clause-kept g c = kept_same g.B.Callback.counted g.B.Callback.told c.args.callbacks
+pub returns-in-Err-clause-returned : goal.returns-in-Err-clause-returned
+returns-in-Err-clause-returned g c = returned_same g.B.Callback.counted g.B.Callback.told c.args.callbacks

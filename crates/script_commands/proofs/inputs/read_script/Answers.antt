@@ -1,6 +1,6 @@
 use Rattle.std.proofs.Common.{◌≤◌, length, arith}
 use Rattle.std.proofs.lemmas.Option.{IfSome_then}
-use Rattle.text_lines.specs.Lines.{whole_lines, kept}
+use Rattle.text_lines.specs.Lines.{whole_lines, unskipped_lines}
 use Rattle.journal_commands.specs.FrontLaws.{front_as, own_front, read_as, short_as, refused_at, read_out}
 use Rattle.script_commands.proofs.inputs.read_script.Goals as goal
 
@@ -11,7 +11,7 @@ returns-in-Ok-read_first-clause-spelled g c =
     let len = c.as_slice.ensures.len in
     let few : length read ≤ 16_777_216 = omega arith in
     let text = c.in-Ok-read_first.ensures.found read (own_front 16_777_216 read c.in-Ok.input.whole c.in-Ok-read_first.ensures.whole few) in
-    (kept (whole_lines read), text.spelled.spelled)
+    (unskipped_lines (whole_lines read), text.spelled.spelled)
 
 pub returns-in-Ok-read_first-clause-found : goal.returns-in-Ok-read_first-clause-found
 returns-in-Ok-read_first-clause-found g c =

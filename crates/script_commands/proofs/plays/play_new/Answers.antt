@@ -5,7 +5,7 @@ use Rattle.script_play.specs.CallbackLaws.{front-after-none}
 use Rattle.script_play.specs.Callbacks.{HearFront, HearFrontAfter}
 use Rattle.script_play.specs.View.{start_of}
 use Rattle.script_commands.specs.Plays.{play_behind}
-use Rattle.script_commands.proofs.Kept.{same_front}
+use Rattle.script_commands.proofs.Returned.{same_front}
 use Rattle.script_commands.proofs.plays.play_new.Goals as goal
 
 pub returns-in-Ok-clause-heard_front : goal.returns-in-Ok-clause-heard_front

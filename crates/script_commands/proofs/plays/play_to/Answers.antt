@@ -3,17 +3,17 @@ use Rattle.notify_hub.specs.Ears.{Listening}
 use Rattle.notify_hub.specs.Places.{registrations_of}
 use Rattle.script_play.specs.View.{start_of}
 use Rattle.script_commands.specs.Outcomes.{PlayedEnds}
-use Rattle.script_commands.specs.Registers.{AreKept}
+use Rattle.script_commands.specs.Registers.{AreReturned}
 use Rattle.script_commands.specs.Plays.{play_behind, served_behind, own_behind}
-use Rattle.script_commands.proofs.Kept.{hear_current, hear_front, kept_heard, kept_same}
+use Rattle.script_commands.proofs.Returned.{hear_current, hear_front, returned_heard, returned_same}
 use Rattle.script_commands.proofs.plays.play_to.Goals as goal
 
 -- no script was played
 pub returns-in-Err-clause-heard_front : goal.returns-in-Err-clause-heard_front
 returns-in-Err-clause-heard_front g c = λ want. inl c.in-Err.ensures.err
 
-pub returns-in-Err-clause-kept : goal.returns-in-Err-clause-kept
-returns-in-Err-clause-kept g c = subst (λ (bs : List g.row.B.Denot). AreKept g.B.Callback.counted g.B.Callback.told c.args.callbacks bs) (sym c.in-Err.ensures.err) (kept_same g.B.Callback.counted g.B.Callback.told c.args.callbacks)
+pub returns-in-Err-clause-returned : goal.returns-in-Err-clause-returned
+returns-in-Err-clause-returned g c = subst (λ (bs : List g.row.B.Denot). AreReturned g.B.Callback.counted g.B.Callback.told c.args.callbacks bs) (sym c.in-Err.ensures.err) (returned_same g.B.Callback.counted g.B.Callback.told c.args.callbacks)
 
 pub returns-in-Err-clause-whole : goal.returns-in-Err-clause-whole
 returns-in-Err-clause-whole g c = λ _. inr refl
@@ -38,7 +38,7 @@ returns-clause-heard_front g c = λ want.
     inr (hear_front g.B.Callback.counted g.B.Callback.told before.config (start_of before) (play_behind before c.args.script.now).entries c.write_play-status.new.ears c.args.callbacks c.take_back.result
     (c.write_play-status.ensures.front want) (c.write_play-status.ensures.begun ∙ ap (λ (e : Listening g.row.B.Denot). e.begun) c.in-Ok.ensures.ok) c.take_back.ensures.callbacks)
 
-pub returns-clause-kept : goal.returns-clause-kept
-returns-clause-kept g c =
-    kept_heard g.B.Callback.counted g.B.Callback.told c.write_play-status.new.ears c.args.callbacks c.take_back.result c.write_play-status.ensures.heard
+pub returns-clause-returned : goal.returns-clause-returned
+returns-clause-returned g c =
+    returned_heard g.B.Callback.counted g.B.Callback.told c.write_play-status.new.ears c.args.callbacks c.take_back.result c.write_play-status.ensures.heard
     (c.write_play-status.ensures.begun ∙ ap (λ (e : Listening g.row.B.Denot). e.begun) c.in-Ok.ensures.ok) c.take_back.ensures.callbacks

@@ -10,7 +10,7 @@ use Rattle.journal_commands.specs.declared.status.Status.TheVariants.{Text, Read
 use Rattle.script_commands.specs.Outcomes.{SpellsScript, IsScriptText, IsWritten, PlayIsWhole, own_of}
 use Rattle.script_commands.specs.Plays.{new_machine}
 use Rattle.script_commands.specs.Registers.{end_of}
-use Rattle.script_commands.proofs.Kept.{kept_same, same_front}
+use Rattle.script_commands.proofs.Returned.{returned_same, same_front}
 use Rattle.journal_commands.specs.StatusLaws.{unread_words, unread_reads, unread_written, unread_writes, unread_refused, err_is}
 use Rattle.script_commands.proofs.Played.{played_ends, read_no_fault, unread_ends, unread_play, unread_played, unread_possible}
 use Rattle.journal_commands.proofs.Somes.{some_both, some_all}
@@ -61,8 +61,8 @@ returns-in-Err-clause-heard_front g c = λ want.
     IfSome_then (g.R.Source.left c.args.source.now) c.in-Err.ensures.only (λ bytes only s t.
     same_front g.B.Callback.counted g.B.Callback.told s.config (serial_play s).entries c.args.callbacks c.args.callbacks refl)
 
-pub returns-in-Err-clause-kept : goal.returns-in-Err-clause-kept
-returns-in-Err-clause-kept g c = kept_same g.B.Callback.counted g.B.Callback.told c.args.callbacks
+pub returns-in-Err-clause-returned : goal.returns-in-Err-clause-returned
+returns-in-Err-clause-returned g c = returned_same g.B.Callback.counted g.B.Callback.told c.args.callbacks
 
 pub returns-in-Ok-clause-ends : goal.returns-in-Ok-clause-ends
 returns-in-Ok-clause-ends g c =

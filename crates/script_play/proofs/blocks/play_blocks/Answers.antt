@@ -1,10 +1,10 @@
 use Rattle.std.proofs.Common.{length, sym, subst, ◌∙◌}
+use Rattle.std.proofs.lemmas.Result.{on_err_weaker, on_ok_weaker}
 use Rattle.script_text.specs.Follows.{lines_of}
 use Rattle.script_asks.specs.Plays as plays
 use Rattle.script_play.specs.View.{playing}
 use Rattle.script_play.proofs.Along.{setup-part, setup-whole, blocks-along, blocks-part}
 use Rattle.script_play.proofs.Fronts.{Begins, clients-begin, front-of, front-on, on_err}
-use Rattle.script_play.proofs.Whole.{err_so, ok_so}
 use Rattle.script_play.proofs.blocks.play_blocks.Goals as goal
 
 -- what the setup block makes is a beginning of all
@@ -39,11 +39,11 @@ returns-in_err-names-clause-part g c =
 pub returns-clause-along : goal.returns-clause-along
 returns-clause-along g c =
     let setup = c.in_ok-play_setup.ensures in
-    ok_so c.play_clients.result _ _ c.play_clients.ensures.along (blocks-along g.B.Callback.counted g.B.Callback.told c.args.script.now c.args.player.now c.play_setup.new.player c.in_ok-names.names c.args.ears.now c.play_setup.new.ears c.play_clients.new.ears
-    setup.played (c.in_ok-names.ensures ∙ c.names.ensures) setup.along)
+    on_ok_weaker c.play_clients.result (blocks-along g.B.Callback.counted g.B.Callback.told c.args.script.now c.args.player.now c.play_setup.new.player c.in_ok-names.names c.args.ears.now c.play_setup.new.ears c.play_clients.new.ears
+    setup.played (c.in_ok-names.ensures ∙ c.names.ensures) setup.along) c.play_clients.ensures.along
 
 pub returns-clause-part : goal.returns-clause-part
 returns-clause-part g c =
     let setup = c.in_ok-play_setup.ensures in
-    err_so c.play_clients.result _ _ c.play_clients.ensures.part (blocks-part g.B.Callback.counted g.B.Callback.told c.args.script.now c.args.player.now c.play_setup.new.player c.in_ok-names.names c.args.ears.now c.play_setup.new.ears c.play_clients.new.ears
-    setup.played (c.in_ok-names.ensures ∙ c.names.ensures) setup.along)
+    on_err_weaker c.play_clients.result (blocks-part g.B.Callback.counted g.B.Callback.told c.args.script.now c.args.player.now c.play_setup.new.player c.in_ok-names.names c.args.ears.now c.play_setup.new.ears c.play_clients.new.ears
+    setup.played (c.in_ok-names.ensures ∙ c.names.ensures) setup.along) c.play_clients.ensures.part

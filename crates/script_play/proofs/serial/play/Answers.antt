@@ -1,4 +1,5 @@
 use Rattle.std.proofs.Common.{[], IfOk, OnErr, refl, subst}
+use Rattle.std.proofs.lemmas.Result.{on_err_weaker}
 use Rattle.drmaa_model.specs.History.{Ledger, now_of}
 use Rattle.script_asks.specs.Plays.{serial_play, serial_play_from}
 use Rattle.notify_hub.specs.Places.{registrations_of}
@@ -7,7 +8,6 @@ use Rattle.script_play.specs.Callbacks.{HaveFrontAfter}
 use Rattle.script_play.specs.View.{start_of}
 use Rattle.script_play.proofs.Along.{part-none}
 use Rattle.script_play.proofs.Fronts.{front-first, front-none, on_err}
-use Rattle.script_play.proofs.Whole.{err_so}
 use Rattle.script_play.proofs.serial.play.Goals as goal
 
 -- no machine was made
@@ -19,9 +19,9 @@ returns-in_err-machine-clause-front g c =
 pub returns-clause-front : goal.returns-clause-front
 returns-clause-front g c =
     let none : Ledger = record { config = c.args.script.now.config; history = [] } in
-    err_so c.play_on.result _ _
-    (subst (λ (l : Ledger). OnErr c.play_on.result (HaveFrontAfter g.B.Callback.counted g.B.Callback.told l.config (start_of l) (serial_play_from (now_of l) c.args.script.now).entries c.play_on.new.ears)) c.in_ok-machine.ensures c.play_on.ensures.front)
+    on_err_weaker c.play_on.result
     (front-none g.B.Callback.counted g.B.Callback.told none.config (start_of none) (serial_play c.args.script.now).entries c.play_on.new.ears refl)
+    (subst (λ (l : Ledger). OnErr c.play_on.result (HaveFrontAfter g.B.Callback.counted g.B.Callback.told l.config (start_of l) (serial_play_from (now_of l) c.args.script.now).entries c.play_on.new.ears)) c.in_ok-machine.ensures c.play_on.ensures.front)
 
 -- no line was played
 pub returns-in_err-machine-clause-part : goal.returns-in_err-machine-clause-part

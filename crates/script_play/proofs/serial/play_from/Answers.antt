@@ -1,10 +1,11 @@
 use Rattle.std.proofs.Common.{subst}
+use Rattle.std.proofs.lemmas.Result.{on_err_weaker}
 use Rattle.script_play.specs.Callbacks.{AreCurrentAfter}
 use Rattle.script_asks.specs.Plays.{Playing}
 use Rattle.script_play.specs.Along.{after_block_lines, histories, HeardAlong, HeardPart}
 use Rattle.script_play.specs.Served.{IsServed}
 use Rattle.script_play.specs.View.{Start, View}
-use Rattle.script_play.proofs.Whole.{opens, served, noted_first, whole_front, made_ok, made_err, err_so, both_ok}
+use Rattle.script_play.proofs.Whole.{opens, served, noted_first, whole_front, made_ok, made_err, both_ok}
 use Rattle.script_play.proofs.serial.play_from.Goals as goal
 
 pub play_blocks-done-requires-clause-noted : goal.play_blocks-done-requires-clause-noted
@@ -25,7 +26,7 @@ returns-clause-current g c =
 pub returns-clause-front : goal.returns-clause-front
 returns-clause-front g c =
     made_err c.play_blocks-done.result c.unless_failed.result c.play_blocks-done.new.player _ c.unless_failed.ensures
-    (err_so c.play_blocks-done.result _ _ c.play_blocks-done.ensures.front (whole_front g.B.Callback.counted g.B.Callback.told c.args.script.now c.args.player c.play_blocks-done.new.ears c.requires.new))
+    (on_err_weaker c.play_blocks-done.result (whole_front g.B.Callback.counted g.B.Callback.told c.args.script.now c.args.player c.play_blocks-done.new.ears c.requires.new) c.play_blocks-done.ensures.front)
 
 pub returns-clause-along : goal.returns-clause-along
 returns-clause-along g c =
@@ -37,5 +38,5 @@ pub returns-clause-part : goal.returns-clause-part
 returns-clause-part g c =
     let v = c.args.player in
     made_err c.play_blocks-done.result c.unless_failed.result c.play_blocks-done.new.player _ c.unless_failed.ensures
-    (err_so c.play_blocks-done.result _ _ c.play_blocks-done.ensures.part
-    (λ h. subst (λ (p : Playing). HeardPart g.B.Callback.counted g.B.Callback.told v.start.callbacks v.ledger.config (histories v.start.entries (after_block_lines c.args.script.now p)) c.args.ears.now c.play_blocks-done.new.ears) (opens v c.requires.new) h))
+    (on_err_weaker c.play_blocks-done.result
+    (λ h. subst (λ (p : Playing). HeardPart g.B.Callback.counted g.B.Callback.told v.start.callbacks v.ledger.config (histories v.start.entries (after_block_lines c.args.script.now p)) c.args.ears.now c.play_blocks-done.new.ears) (opens v c.requires.new) h) c.play_blocks-done.ensures.part)

@@ -1,4 +1,4 @@
-use Rattle.text_lines.specs.Lines.{kept, whole_lines}
+use Rattle.text_lines.specs.Lines.{unskipped_lines, whole_lines}
 use Rattle.script_text.specs.declared.scripts.Mode.TheVariants.{Serial}
 use Rattle.script_text.specs.ScriptLaws.{one_script}
 use Rattle.soak_script.specs.Lines.{soak_text}
@@ -13,4 +13,4 @@ pub returns-clause-text : goal.returns-clause-text
 returns-clause-text c = soak_is_text
 
 pub returns-clause-one : goal.returns-clause-one
-returns-clause-one c = λ steps seed script h t. one_script Serial (kept (whole_lines (soak_text steps seed))) script (soak_of steps seed) t.spelled.spelled (soak_is_text steps seed h).spelled.spelled
+returns-clause-one c = λ steps seed script h t. one_script Serial (unskipped_lines (whole_lines (soak_text steps seed))) script (soak_of steps seed) t.spelled.spelled (soak_is_text steps seed h).spelled.spelled

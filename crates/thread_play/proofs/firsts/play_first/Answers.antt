@@ -30,7 +30,7 @@ returns g c =
     let u = c.pump_once.ensures in
     let r = c.retire.ensures in
     let mid = c.play_setup-played.new.desk.client in
-    let client = c.pump_once.new.pass.client in
+    let client = c.pump_once.new.hub_seat.client in
     let own = mine_of client in
     let hub = c.pump_once.new.hub in
     let one : retired_of c.open_client.new.opener ≡ None ∷ [] = o.retired ∙ ap (λ (l : List (Option (List Entry))). l ++ None ∷ []) c.requires.fresh in
@@ -62,10 +62,10 @@ returns g c =
       };
       hears = record {
         follows = subst (λ (es : List Entry). FollowsAll c.args.shared.now es hub) all u.follows;
-        placed = subst (λ (ps : List (Option ℕ)). HavePlaces own ps) (sym u.on.kept.places)
+        placed = subst (λ (ps : List (Option ℕ)). HavePlaces own ps) (sym u.on.keeps.places)
             (subst (λ (es : List Entry). HavePlaces es c.play_setup-played.new.hub.ears.places) same
             (p.hub.placed (subst (λ (es : List Entry). HavePlaces es c.args.hub.now.ears.places) (sym o.mine) tt)));
-        begun = u.on.kept.begun ∙ p.hub.begun;
-        heard = λ h. u.on.kept.heard (p.hub.heard h);
+        begun = u.on.keeps.begun ∙ p.hub.begun;
+        heard = λ h. u.on.keeps.heard (p.hub.heard h);
       };
     }

@@ -62,7 +62,7 @@ returns-clause-others g c =
     let pb = c.play_beside-attended.result.0.pair in
     let pc : Pair g.row.K-One.Denot = record pb { launcher = c.dismiss-ended.new.launcher } in
     let pd = c.end_others-pair.result.0 in
-    let pass = c.pump_last.new.pass in
+    let hub_seat = c.pump_last.new.hub_seat in
     let at0 = get c.new-reaper.result.children in
     let none : (k : ℕ) → at0 k ≡ None = no-child c.new-reaper.result.children c.new-reaper.ensures.children in
     let laws = c.nothing_is_kept.ensures in
@@ -78,15 +78,15 @@ returns-clause-others g c =
     subst (λ (p : Pair g.row.K-One.Denot). c.release.new.clocks.items ≡ (c.dismiss-ended.new.clocks.items ++ p.launcher_clock ∷ []) ++ p.reaping_clock ∷ []) last.pair c.release.ensures.clocks in
     IfOk-weaker c.full_of.result _ _ (λ full is.
     heard-made g.K.One.Clock.given g.K.One.Clock.least g.S.One.Child.told c.args.script.now c.args.names.now shared
-    c.args.opener.now c.hire.new.opener c.open_client.new.opener c.open_client-2.new.opener c.open_client-3.new.opener c.dismiss-ended.new.opener c.release.new.opener c.end_pass.new.opener
-    c.open_client-3.result pass.client
+    c.args.opener.now c.hire.new.opener c.open_client.new.opener c.open_client-2.new.opener c.open_client-3.new.opener c.dismiss-ended.new.opener c.release.new.opener c.end_hub_seat.new.opener
+    c.open_client-3.result hub_seat.client
     c.in_ok-workers.workers.items c.play_beside-attended.new.workers.items pa pb pc pd
     (g.S.Spawner.asked c.args.spawner.now) (g.S.Spawner.asked c.play_beside-attended.new.spawner) (g.S.Spawner.asked c.end_others-pair.new.spawner)
     (g.S.Spawner.fate c.args.spawner.now) (g.S.Spawner.fate c.play_beside-attended.new.spawner) (g.S.Spawner.fate c.end_others-pair.new.spawner)
     at0 (get c.play_beside-attended.new.reaper.children) (get c.end_others-pair.new.reaper.children)
     c.new-reaper.result.order c.play_beside-attended.new.reaper.order c.end_others-pair.new.reaper.order
     c.play_beside-attended.result.0.ended c.stopped_by.result c.dismiss-ended.result c.end_others-pair.result.1
-    c.args.given.now.items c.dismiss-ended.new.clocks.items c.release.new.clocks.items c.end_pass.new.clocks.items pass.clock c.clock-3.result
+    c.args.given.now.items c.dismiss-ended.new.clocks.items c.release.new.clocks.items c.end_hub_seat.new.clocks.items hub_seat.clock c.clock-3.result
     c.requires.first c.in_ok-workers.ensures.hired (let n = c.in_ok-workers.ensures.count in omega arith)
     (c.clock.ensures.caller ∙ ap Some (let n = ap length c.as_slice.ensures in omega arith)) (c.clock-2.ensures.caller ∙ ap Some (let n = ap length c.as_slice.ensures in omega arith)) (c.clock-3.ensures.caller ∙ ap Some (let n = ap length c.as_slice.ensures in omega arith))
     (record { opener = ol.opener; retired = ol.retired; seen = ol.seen; number = ol.number; begins = ol.begins; mine = ol.mine; own = ol.own })
@@ -96,9 +96,9 @@ returns-clause-others g c =
     c.new-reaper.ensures.order c.play_beside-attended.ensures.attended played c.stopped_by.ensures c.dismiss-ended.ensures.back refl refl refl
     (c.dismiss-ended.ensures.ended ∙ ap (λ (k : Option Stopped). worst k c.play_beside-attended.new.workers.items) c.worse.ensures)
     c.end_others-pair.ensures released c.dismiss-ended.ensures.clocks clocks
-    c.end_pass.ensures.back (last.on.still.number ∙ first.still.number) (last.on.still.mine ∙ first.still.mine) (λ caller t. last.timed caller (c.play_beside-attended.ensures.timed.timed caller t)) c.end_pass.ensures.clocks
+    c.end_hub_seat.ensures.back (last.on.still.number ∙ first.still.number) (last.on.still.mine ∙ first.still.mine) (λ caller t. last.timed caller (c.play_beside-attended.ensures.timed.timed caller t)) c.end_hub_seat.ensures.clocks
     c.pump_last.new.hub full is last.launcher last.reaping last.follows) c.full_of.ensures
 
-pub returns-clause-kept : goal.returns-clause-kept
-returns-clause-kept g c =
-    keeps-both g.B.Callback.counted g.B.Callback.told c.args.hub.now c.play_beside-attended.new.hub c.pump_last.new.hub c.play_beside-attended.ensures.hub.kept c.pump_last.ensures.on.kept
+pub returns-clause-keeps : goal.returns-clause-keeps
+returns-clause-keeps g c =
+    keeps-both g.B.Callback.counted g.B.Callback.told c.args.hub.now c.play_beside-attended.new.hub c.pump_last.new.hub c.play_beside-attended.ensures.hub.keeps c.pump_last.ensures.on.keeps

@@ -123,7 +123,7 @@ returns-in_ok-full-in-Ok-played-clause-hub g c =
     heard-run g.K.One.Clock.given g.S.One.Child.told s c.in-Ok-played.names c.in-Ok.shared c.play_first-clock.new.opener c.play_others.new.opener c.play_first-clock.result first names played
     (g.S.Spawner.asked c.args.spawner.now) (g.S.Spawner.asked c.play_others.new.spawner) (g.S.Spawner.fate c.play_others.new.spawner) c.play_others.new.given.items c.in_ok-full-in-Ok-played.full y.others
     c.close.result.ledger.history laws config closed
-    c.play_first-clock.new.hub c.play_others.new.hub nones r y.known y.launcher y.reaping y.follows hears.placed c.play_others.ensures.kept.places
+    c.play_first-clock.new.hub c.play_others.new.hub nones r y.known y.launcher y.reaping y.follows hears.placed c.play_others.ensures.keeps.places
 
 pub returns-in-Err-Full-clause-run : goal.returns-in-Err-Full-clause-run
 returns-in-Err-Full-clause-run g c =

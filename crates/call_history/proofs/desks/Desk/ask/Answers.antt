@@ -11,4 +11,4 @@ returns-in-Ok-clause-kind g c =
 
 pub returns-in-Err-clause-err : goal.returns-in-Err-clause-err
 returns-in-Err-clause-err g c =
-    refused-by c.args.self.now.shared.now.fixed _ c.args.self.now.client c.args.call _ c.call.new.self.client c.in-Err.fault c.refusal_for.result c.requires.answered c.refusal_for.ensures c.in-Err.ensures.err
+    refused-by c.args.self.now.shared.now.fixed _ c.args.self.now.client c.args.call _ c.call.new.self.client c.in-Err.fault c.from.result c.requires.answered c.from.ensures c.in-Err.ensures.err

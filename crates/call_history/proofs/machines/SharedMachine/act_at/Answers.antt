@@ -3,7 +3,7 @@ use Rattle.std.proofs.lemmas.Result.{IfErr-weaker}
 use Rattle.drmaa_model.specs.declared.configs.Config.{Config}
 use Rattle.drmaa_model.specs.declared.entries.Entry.{Entry}
 use Rattle.drmaa_model.specs.History.{IsLegal, replay}
-use Rattle.drmaa_model.specs.KeptCalls.{kept}
+use Rattle.drmaa_model.specs.RecordedCalls.{recorded}
 use Rattle.drmaa_machine.specs.ChronicleLaws.{history-told}
 use Rattle.drmaa_machine.specs.Chronicles.{history_of, MakesNone}
 use Rattle.turn_lock.specs.Tokens.{Named, IsFree}
@@ -40,8 +40,8 @@ returns-clause-fails c =
     let config : c.self.inside.lock.fixed ≡ ledger.config = ap (λ (n : Named Config). n.fixed) c.self.view_is ∙ sym c.requires.fixed_is in
     let seen : history_of c.args.client.now.view.seen ≡ ledger.history = ap history_of c.requires.seen ∙ history-told ledger.history in
     IfErr-weaker c.act.result _ _ (λ why f.
-    subst (λ (k : Config). MakesNone (replay k ledger.history) c.args.at (kept c.args.call) why) config
-    (subst (λ (l : List Entry). MakesNone (replay c.self.inside.lock.fixed l) c.args.at (kept c.args.call) why) seen f)) c.act.ensures.fails
+    subst (λ (k : Config). MakesNone (replay k ledger.history) c.args.at (recorded c.args.call) why) config
+    (subst (λ (l : List Entry). MakesNone (replay c.self.inside.lock.fixed l) c.args.at (recorded c.args.call) why) seen f)) c.act.ensures.fails
 
 pub returns-clause-config : goal.returns-clause-config
 returns-clause-config c = c.requires.fixed_is

@@ -2,7 +2,7 @@ use Rattle.std.proofs.Common.{◌≡◌, refl, ap, sym, subst, ◌∙◌, true, 
 use Rattle.std.proofs.lemmas.Result.{IfOk-weaker}
 use Rattle.drmaa_model.specs.declared.calls.Call.{Call}
 use Rattle.drmaa_model.specs.Effects.{not_yet}
-use Rattle.drmaa_model.specs.KeptCalls.{kept}
+use Rattle.drmaa_model.specs.RecordedCalls.{recorded}
 use Rattle.drmaa_model.specs.History.{IsLegal, now_of}
 use Rattle.drmaa_model.specs.Steps.{answer}
 use Rattle.drmaa_machine.specs.ChronicleLaws.{history-told}
@@ -71,14 +71,14 @@ returns-clause-look g c =
     }) c.act_at.ensures.ok)
     (err-three r _ _ _ _ c.act_at.ensures.err c.act_at.ensures.same c.act_at.ensures.fails (λ why more seen reason.
     unserved-now c.args.self.now.fixed _ c.args.client.now asked why _ c.act_at.new.client c.now-at.result ledger (record { told = c.now-at.ensures.given; least = c.now-at.ensures.least; rising = c.now-at.ensures.rising }) c.requires.fixed_is seen more
-    (subst (λ (call : Call). MakesNone (now_of ledger) c.now-at.result (kept call) why) c.into_call.ensures reason)))
+    (subst (λ (call : Call). MakesNone (now_of ledger) c.now-at.result (recorded call) why) c.into_call.ensures reason)))
 
 pub returns-clause-decided : goal.returns-clause-decided
 returns-clause-decided g c = λ is.
     let ledger = c.args.turn.value.ledger in
     let asked = call_of c.args.awaited in
     decided-now (now_of ledger) c.now-at.result asked c.act_at.result
-    (subst (λ (call : Call). IfErr c.act_at.result (MakesNone (now_of ledger) c.now-at.result (kept call))) c.into_call.ensures c.act_at.ensures.fails)
+    (subst (λ (call : Call). IfErr c.act_at.result (MakesNone (now_of ledger) c.now-at.result (recorded call))) c.into_call.ensures c.act_at.ensures.fails)
     (λ waits.
     let true_so : c.must_wait.result ≡ true = c.must_wait.ensures.1 (subst (λ (m : View). answer (now_of m.ledger) c.now-at.result asked ≡ not_yet) (sym c.value.ensures) waits) in
     let false_so : c.must_wait.result ≡ false = c.if-must_wait.false in absurd (cc))

@@ -23,7 +23,7 @@ opens s plan_is sessions_are registered entered items len least most =
     let same : world_of s ≡ opening_world s.config = cc in
     let due : reports_to_come s.core.plan.rows ≡ 0 = ap (λ (p : Plan). reports_to_come p.rows) plan_is in
     record {
-      kept = record {
+      store = record {
         consistent = subst IsConsistent (sym same) (opening-consistent s.config);
         within = subst (λ (w : World). size w ≤ s.config.journal) (sym same) (omega arith);
         journal = most;

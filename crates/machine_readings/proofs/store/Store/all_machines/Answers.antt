@@ -14,4 +14,4 @@ pub returns-in_ok-machine_info-in-None : goal.returns-in_ok-machine_info-in-None
 returns-in_ok-machine_info-in-None c =
     (let v = world_at c.args.at c.args.self.now in
     told c.args.self.now c.args.at (call.AllMachines c.args.session) _ (c.in-None.ensures {u = tt})
-    (ap (λ (r : Reply). makes r v) (ap reply.Machine (sym (c.in_ok-machine_info-in-None.ensures {u = tt})))))
+    (ap (λ (r : Reply). makes r v) (ap reply.Machine (sym (c.in_ok-machine_info-in-None.ensures {u = tt} c.args.at)))))

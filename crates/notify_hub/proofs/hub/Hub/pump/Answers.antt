@@ -8,7 +8,7 @@ use Rattle.notify_hub.specs.Hubs.{Following, noted, IsNoteOf}
 use Rattle.notify_hub.specs.Places.{changes_of, Follows}
 use Rattle.notify_hub.proofs.Growing.{begins-changes}
 use Rattle.notify_hub.proofs.Looking.{begins-of, learnt-more}
-use Rattle.notify_hub.proofs.Noting.{begins-on, may-be, follows-note, kept-follows}
+use Rattle.notify_hub.proofs.Noting.{begins-on, may-be, follows-note, hub-follows}
 use Rattle.notify_hub.proofs.hub.Hub.pump.Goals as goal
 
 pub hand_all-handed-requires-clause-begins : goal.hand_all-handed-requires-clause-begins
@@ -30,7 +30,7 @@ invariant_of-self g c =
     let recalled = subst (λ (o : Option Seat). BeginsWith (seen_of c.recall.new.client) (noted o)) c.take.ensures.value c.recall.ensures.recalled in
     let looked = begins-of c.recall.new.client c.hand_all-handed.new.client c.hand_all-handed.ensures.looks.more in
     let b = begins-on (noted c.self.inside.note) (seen_of c.recall.new.client) seen recalled looked in
-    let f = kept-follows shared ears c.self.inside.note c.self.inside.handed seen c.self.invariant own b c.hand_all-handed.ensures.looks.legal in
+    let f = hub-follows shared ears c.self.inside.note c.self.inside.handed seen c.self.invariant own b c.hand_all-handed.ensures.looks.legal in
     let now : Follows shared.fixed seen after = record {
       legal = f.legal;
       as_many = ap (λ (e : Listening g.row.B.Denot). length e.places) c.hand_all-handed.ensures.ears ∙ f.as_many;
@@ -51,5 +51,5 @@ returns-clause-more g c =
     (more-both old mid c.hand_all-handed.new.client (learnt-more old mid c.recall.ensures.knew c.recall.ensures.own c.recall.ensures.number c.recall.ensures.mine c.recall.ensures.begins)
     c.recall.ensures.number c.hand_all-handed.ensures.looks.more)
 
-pub returns-clause-kept : goal.returns-clause-kept
-returns-clause-kept g c = (invariant_of-self g c).follows
+pub returns-clause-follows : goal.returns-clause-follows
+returns-clause-follows g c = (invariant_of-self g c).follows

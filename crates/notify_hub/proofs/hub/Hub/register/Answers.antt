@@ -5,7 +5,7 @@ use Rattle.call_history.specs.Clients.{Seat, seen_of, SeesMore}
 use Rattle.notify_hub.specs.Hubs.{Following, noted, IsNoteOf, with_place}
 use Rattle.notify_hub.specs.Places.{place_of, Follows, AreCountable}
 use Rattle.notify_hub.proofs.Looking.{begins-of, learnt-more}
-use Rattle.notify_hub.proofs.Noting.{begins-on, may-be, follows-note, kept-follows, kept-ahead, kept-unplaced, legal-begins, place-ahead, placed-follows, placed-is, placed-handed, registered-both, unregistered-both, unregistered-at}
+use Rattle.notify_hub.proofs.Noting.{begins-on, may-be, follows-note, hub-follows, hub-ahead, hub-unplaced, legal-begins, place-ahead, placed-follows, placed-is, placed-handed, registered-both, unregistered-both, unregistered-at}
 use Rattle.notify_hub.proofs.hub.Hub.register.Goals as goal
 
 pub place_after-place-requires-clause-from : goal.place_after-place-requires-clause-from
@@ -17,7 +17,7 @@ place_after-place-requires-clause-from g c =
     let own = subst (λ (h : Following g.row.B.Denot). IsNoteOf shared h.note) (sym c.self.view_is) c.requires.note in
     let recalled = subst (λ (o : Option Seat). BeginsWith (seen_of c.recall.new.client) (noted o)) c.take.ensures.value c.recall.ensures.recalled in
     let b = begins-on (noted note) (seen_of c.recall.new.client) mid recalled c.register_next.ensures.begins in
-    kept-ahead shared ears note c.self.inside.handed mid c.self.invariant own b c.register_next.ensures.legal
+    hub-ahead shared ears note c.self.inside.handed mid c.self.invariant own b c.register_next.ensures.legal
 
 pub give_place-requires-clause-unplaced : goal.give_place-requires-clause-unplaced
 give_place-requires-clause-unplaced g c =
@@ -28,7 +28,7 @@ give_place-requires-clause-unplaced g c =
     let own = subst (λ (h : Following g.row.B.Denot). IsNoteOf shared h.note) (sym c.self.view_is) c.requires.note in
     let recalled = subst (λ (o : Option Seat). BeginsWith (seen_of c.recall.new.client) (noted o)) c.take.ensures.value c.recall.ensures.recalled in
     let b = begins-on (noted note) (seen_of c.recall.new.client) mid recalled c.register_next.ensures.begins in
-    kept-unplaced shared.fixed (noted note) (seen_of c.recall.new.client) ears c.in-Ok.n (c.self.invariant.follows shared.fixed (may-be shared note own)) recalled
+    hub-unplaced shared.fixed (noted note) (seen_of c.recall.new.client) ears c.in-Ok.n (c.self.invariant.follows shared.fixed (may-be shared note own)) recalled
     (legal-begins shared.fixed (seen_of c.recall.new.client) mid c.register_next.ensures.legal c.register_next.ensures.begins) c.in-Ok.ensures.new.unknown
 
 pub give_place-requires-clause-ahead : goal.give_place-requires-clause-ahead
@@ -40,7 +40,7 @@ give_place-requires-clause-ahead g c =
     let own = subst (λ (h : Following g.row.B.Denot). IsNoteOf shared h.note) (sym c.self.view_is) c.requires.note in
     let recalled = subst (λ (o : Option Seat). BeginsWith (seen_of c.recall.new.client) (noted o)) c.take.ensures.value c.recall.ensures.recalled in
     let b = begins-on (noted note) (seen_of c.recall.new.client) mid recalled c.register_next.ensures.begins in
-    let f = kept-follows shared ears note c.self.inside.handed mid c.self.invariant own b c.register_next.ensures.legal in
+    let f = hub-follows shared ears note c.self.inside.handed mid c.self.invariant own b c.register_next.ensures.legal in
     place-ahead shared.fixed ears mid (seen_of c.place_after-place.new.client) c.place_after-place.result f c.place_after-place.ensures.counted
 
 pub invariant_of-self : goal.invariant_of-self
@@ -55,7 +55,7 @@ invariant_of-self g c =
     let after = c.give_place.new.ears in
     let seen : List Entry = seen_of c.place_after-place.new.client in
     let looked = begins-of c.register_next.new.client c.place_after-place.new.client c.place_after-place.ensures.looks.more in
-    let f = kept-follows shared ears note c.self.inside.handed seen c.self.invariant own (begins-on (noted note) mid seen b looked) c.place_after-place.ensures.looks.legal in
+    let f = hub-follows shared ears note c.self.inside.handed seen c.self.invariant own (begins-on (noted note) mid seen b looked) c.place_after-place.ensures.looks.legal in
     let now = placed-follows shared.fixed ears after (seen_of c.recall.new.client) mid seen c.in-Ok.n c.place_after-place.result c.in-Ok.ensures.new looked f c.place_after-place.ensures.counted
     c.give_place.ensures.placed c.give_place.ensures.unknown in
     record {
@@ -73,7 +73,7 @@ invariant_of-self-in-Err g c =
     let own = subst (λ (h : Following g.row.B.Denot). IsNoteOf shared h.note) (sym c.self.view_is) c.requires.note in
     let recalled = subst (λ (o : Option Seat). BeginsWith (seen_of c.recall.new.client) (noted o)) c.take.ensures.value c.recall.ensures.recalled in
     let b = begins-on (noted note) (seen_of c.recall.new.client) mid recalled c.register_next.ensures.begins in
-    let now = kept-follows shared ears note c.self.inside.handed mid c.self.invariant own b c.register_next.ensures.legal in
+    let now = hub-follows shared ears note c.self.inside.handed mid c.self.invariant own b c.register_next.ensures.legal in
     record {
       counted = c.self.invariant.counted;
       follows = follows-note shared ears (Some c.note-in-Err.result) c.note-in-Err.result refl c.note-in-Err.ensures.note
@@ -101,8 +101,8 @@ returns-in-Ok-clause-place g c = λ few.
     ∙ ap (λ (s : Seat). with_place ears n (place_of shared.fixed (seen_of s) n)) (sym c.note.ensures.client)
     ∙ ap (λ (h : Following g.row.B.Denot). with_place h.ears n (place_of shared.fixed (seen_of c.note.new.client) n)) c.self.view_is
 
-pub returns-in-Ok-clause-kept : goal.returns-in-Ok-clause-kept
-returns-in-Ok-clause-kept g c = (invariant_of-self g c).follows
+pub returns-in-Ok-clause-follows : goal.returns-in-Ok-clause-follows
+returns-in-Ok-clause-follows g c = (invariant_of-self g c).follows
 
 pub returns-in-Err-clause-err : goal.returns-in-Err-clause-err
 returns-in-Err-clause-err g c =
@@ -112,5 +112,5 @@ returns-in-Err-clause-err g c =
     (unregistered-both old mid c.register_next.new.client (learnt-more old mid c.recall.ensures.knew c.recall.ensures.own c.recall.ensures.number c.recall.ensures.mine c.recall.ensures.begins)
     c.recall.ensures.number c.args.shared.now.fixed _ _ c.in-Err.why c.in-Err.ensures.err)
 
-pub returns-in-Err-clause-kept : goal.returns-in-Err-clause-kept
-returns-in-Err-clause-kept g c = (invariant_of-self-in-Err g c).follows
+pub returns-in-Err-clause-follows : goal.returns-in-Err-clause-follows
+returns-in-Err-clause-follows g c = (invariant_of-self-in-Err g c).follows

@@ -1,15 +1,15 @@
 use Rattle.std.proofs.Common.{◌≡◌, ◌∷◌, [], ◌++◌, max, refl, sym, ◌∙◌, ap, subst, arith}
 use Rattle.std.proofs.lemmas.Result.{err_from_is_err_and}
 use Rattle.drmaa_model.specs.Fit.{IsFit}
-use Rattle.drmaa_model.specs.Operation.Meets.{served}
 use Rattle.drmaa_model.specs.Plan.{Plan}
 use Rattle.drmaa_model.specs.Requests.{with_reservation}
 use Rattle.drmaa_model.specs.Size.{weight}
 use Rattle.drmaa_model.specs.TimeLaws.{weight-advance}
 use Rattle.reservation_calendar.specs.Schedules.{Schedule}
 use Rattle.plan_book.specs.Book.{plan_of, HasFewQueues}
-use Rattle.plan_book.specs.MeetLaws.{full-meets}
+use Rattle.plan_book.specs.MeetLaws.{barred-meets}
 use Rattle.plan_book.specs.Occasions.{plan_at}
+use Rattle.plan_book.specs.Occasions.Meets.{served, short}
 use Rattle.plan_book.specs.Ties.{IsTied, booked_for, let_go_of}
 use Rattle.plan_book.specs.TieLaws.{tied-reserved}
 use Rattle.plan_book.proofs.book.Book.accept.Goals as goal
@@ -21,7 +21,7 @@ plan c = c.put_reservation.ensures.plan ∙ ap (with_reservation c.args.accepted
 pub returns-clause-meets : goal.returns-clause-meets
 returns-clause-meets c =
     let size = weight-advance c.args.occasion.entry c.args.occasion.at (plan_of c.args.self.now) in
-    served (record { answered = refl; answers = tt; plan = plan c; within = omega (arith, size, c.weight.ensures, (c.in_ok-admit.ensures {u = tt}).within) })
+    served (record { answered = refl; plan = plan c; within = omega (arith, size, c.weight.ensures, (c.in_ok-admit.ensures {u = tt}).within); memory = (c.in_ok-admit.ensures {u = tt}).placed })
 
 tied : (c : After-put_reservation) → IsTied c.put_reservation.new.self.calendar (plan_of c.put_reservation.new.self)
 tied c =
@@ -36,16 +36,16 @@ tied c =
     ∙ ap (λ (x : Schedule). let t : Schedule = record x { bookings = x.bookings ++ booked_for c.args.accepted ∷ [] } in t) c.make_place.ensures.calendar) in
     subst (λ (t : Schedule). IsTied t (plan_of c.put_reservation.new.self)) (sym calendar)
     (subst (IsTied (let_go_of (max p.moment at) p.reservations booked)) (sym (plan c))
-    (tied-reserved s c.args.occasion.entry at p c.args.accepted c.requires.kept.fit c.requires.kept.tied c.requires.number))
+    (tied-reserved s c.args.occasion.entry at p c.args.accepted c.requires.book.fit c.requires.book.tied c.requires.number))
 
-pub returns-clause-kept : goal.returns-clause-kept
-returns-clause-kept c =
+pub returns-clause-book : goal.returns-clause-book
+returns-clause-book c =
     let size = weight-advance c.args.occasion.entry c.args.occasion.at (plan_of c.args.self.now) in
     record {
       room = c.put_reservation.ensures.room;
       fit = subst IsFit (sym (plan c)) c.requires.fit;
-      light = omega (arith, ap weight (plan c), size, c.requires.kept.light);
-      queues = subst HasFewQueues (sym (plan c)) c.requires.kept.queues;
+      light = omega (arith, ap weight (plan c), size, c.requires.book.light);
+      queues = subst HasFewQueues (sym (plan c)) c.requires.book.queues;
       tied = tied c;
       quiet = c.put_reservation.ensures.quiet;
     }
@@ -54,5 +54,18 @@ pub returns-in_err-admit-clause-meets : goal.returns-in_err-admit-clause-meets
 returns-in_err-admit-clause-meets c =
     let size = weight-advance c.args.occasion.entry c.args.occasion.at (plan_of c.args.self.now) in
     let e = err_from_is_err_and c.from_residual.result c.from_residual.ensures.1 in
-    let full = c.in_err-admit.ensures {u = tt} in
-    rw (e.1, e.2) (full-meets _ (plan_of c.args.self.now) c.args.occasion.entry c.args.occasion.limit _ _ full.above full.full (omega (arith, size, c.weight.ensures)))
+    let barred = c.in_err-admit.ensures {u = tt} in
+    rw (e.1, e.2) (barred-meets c.args.occasion tt _ (plan_of c.args.self.now) _ _ barred.full barred.short (omega (arith, size, c.weight.ensures)))
+
+pub returns-in_err-make_place-clause-meets : goal.returns-in_err-make_place-clause-meets
+returns-in_err-make_place-clause-meets c =
+    let size = weight-advance c.args.occasion.entry c.args.occasion.at (plan_of c.args.self.now) in
+    let e = err_from_is_err_and c.from_residual-in_err-make_place.result c.from_residual-in_err-make_place.ensures.1 in
+    rw (e.1, e.2) (short (record { answered = refl; within = omega (arith, size, c.weight.ensures, (c.in_ok-admit.ensures {u = tt}).within); plan = c.make_place.ensures.plan }))
+
+pub returns-in_err-book_accepted-clause-meets : goal.returns-in_err-book_accepted-clause-meets
+returns-in_err-book_accepted-clause-meets c =
+    let size = weight-advance c.args.occasion.entry c.args.occasion.at (plan_of c.args.self.now) in
+    let e = err_from_is_err_and c.from_residual-in_err-book_accepted.result c.from_residual-in_err-book_accepted.ensures.1 in
+    let lacks = (c.in_err-book_accepted.ensures {u = tt}).memory in
+    rw (e.1, e.2, lacks) (short (record { answered = refl; within = omega (arith, size, c.weight.ensures, (c.in_ok-admit.ensures {u = tt}).within); plan = c.make_place.ensures.plan }))

@@ -32,6 +32,6 @@ pub returns-clause-few : goal.returns-clause-few
 returns-clause-few c =
     let p = plan_of c.args.self.now in
     let q = advance_plan 0 c.args.at p in
-    let fit : IsFit q = advance-fit 0 c.args.at p c.requires.kept.fit in
+    let fit : IsFit q = advance-fit 0 c.args.at p c.requires.book.fit in
     let few = acted-promised c.args.target.now c.args.what q.rows fit.sound in
-    omega (arith, value c, few, weight-advance 0 c.args.at p, c.requires.kept.light)
+    omega (arith, value c, few, weight-advance 0 c.args.at p, c.requires.book.light)

@@ -5,11 +5,11 @@ use Rattle.drmaa_model.specs.declared.courses.Order.{Order}
 use Rattle.drmaa_model.specs.declared.rows.Row.{Row}
 use Rattle.drmaa_model.specs.Controlling.{control, control_step}
 use Rattle.drmaa_model.specs.Plan.{Plan}
-use Rattle.plan_book.specs.Book.{plan_of, owed, askable}
+use Rattle.plan_book.specs.Book.{plan_of, owed, owed_kills}
 use Rattle.plan_book.specs.Quiet.{IsLeftUntil}
 use Rattle.plan_book.proofs.AlarmLaws.{quiet-controlled}
 use Rattle.plan_book.proofs.MeantLaws.{noted-part, asked-part}
-use Rattle.plan_book.proofs.SweepLaws.{control-owed, control-askable}
+use Rattle.plan_book.proofs.SweepLaws.{control-owed, control-owed_kills}
 use Rattle.plan_book.proofs.book.Book.control_now.Goals as goal
 
 pub meant_rows-requires : goal.meant_rows-requires
@@ -25,10 +25,10 @@ note_controls-requires c =
     let notes = ap length (noted-part c.args.entry s.moment c.args.target.now c.args.what s.rows.items c.meant_rows.result.now c.meant_rows.ensures) in
     omega (arith, sum, notes, c.requires.room.changes, c.requires.changes)
 
-pub ask_controls-requires : goal.ask_controls-requires
-ask_controls-requires c =
+pub add_orders-requires : goal.add_orders-requires
+add_orders-requires c =
     let s = c.args.self.now in
-    let sum = control-askable s.moment c.args.target.now c.args.what s.rows.items in
+    let sum = control-owed_kills s.moment c.args.target.now c.args.what s.rows.items in
     let orders = ap length (asked-part c.args.target.now c.args.what s.rows.items c.meant_rows-2.result.now c.meant_rows-2.ensures) in
     omega (arith, sum, orders, c.requires.room.orders, c.requires.orders)
 
@@ -37,8 +37,8 @@ returns-clause-plan c =
     let s = c.args.self.now in
     let p = plan_of s in
     let f = control_step s.moment c.args.target.now c.args.what in
-    ap (λ (rs : List Row). let q : Plan = record p { rows = rs; orders = c.ask_controls.new.orders.items; changes = c.note_controls.new.changes.items } in q) c.control_rows.ensures
-    ∙ ap (λ (os : List Order). let q : Plan = record p { rows = map f p.rows; orders = os; changes = c.note_controls.new.changes.items } in q) (c.ask_controls.ensures.items ∙ ap (λ (os : List Order). s.orders.items ++ os) (asked-part c.args.target.now c.args.what s.rows.items c.meant_rows-2.result.now c.meant_rows-2.ensures))
+    ap (λ (rs : List Row). let q : Plan = record p { rows = rs; orders = c.add_orders.new.orders.items; changes = c.note_controls.new.changes.items } in q) c.control_rows.ensures
+    ∙ ap (λ (os : List Order). let q : Plan = record p { rows = map f p.rows; orders = os; changes = c.note_controls.new.changes.items } in q) (c.add_orders.ensures.items ∙ ap (λ (os : List Order). s.orders.items ++ os) (asked-part c.args.target.now c.args.what s.rows.items c.meant_rows-2.result.now c.meant_rows-2.ensures))
     ∙ ap (λ (cs : List Change). let q : Plan = record ((control c.args.target.now c.args.what).effect c.args.entry p) { changes = cs } in q)
     (c.note_controls.ensures.items ∙ ap (λ (cs : List Change). s.changes.items ++ cs) (noted-part c.args.entry s.moment c.args.target.now c.args.what s.rows.items c.meant_rows.result.now c.meant_rows.ensures))
 
@@ -46,12 +46,12 @@ pub returns-clause-room : goal.returns-clause-room
 returns-clause-room c =
     let s = c.args.self.now in
     let sum = control-owed c.args.entry s.moment c.args.target.now c.args.what s.rows.items in
-    let asks = control-askable s.moment c.args.target.now c.args.what s.rows.items in
+    let asks = control-owed_kills s.moment c.args.target.now c.args.what s.rows.items in
     let notes = ap length (noted-part c.args.entry s.moment c.args.target.now c.args.what s.rows.items c.meant_rows.result.now c.meant_rows.ensures) in
     let orders = ap length (asked-part c.args.target.now c.args.what s.rows.items c.meant_rows-2.result.now c.meant_rows-2.ensures) in
     record {
       changes = omega (arith, notes, ap owed c.control_rows.ensures, sum, c.requires.room.changes, c.requires.changes, c.note_controls.ensures.len, c.note_controls.ensures.capacity);
-      orders = omega (arith, orders, ap askable c.control_rows.ensures, asks, c.requires.room.orders, c.requires.orders, c.ask_controls.ensures.len, c.ask_controls.ensures.capacity);
+      orders = omega (arith, orders, ap owed_kills c.control_rows.ensures, asks, c.requires.room.orders, c.requires.orders, c.add_orders.ensures.len, c.add_orders.ensures.capacity);
     }
 
 pub returns-clause-spare : goal.returns-clause-spare

@@ -1,7 +1,6 @@
 use Rattle.std.proofs.Common.{◌≡◌, refl, sym, ◌∙◌, ap, subst, arith}
 use Rattle.drmaa_model.specs.Fit.{IsFit}
 use Rattle.drmaa_model.specs.FitLaws.{advance-fit, fewer-fit, expire-fit, call_in-fit}
-use Rattle.drmaa_model.specs.Operation.Meets.{served}
 use Rattle.drmaa_model.specs.Plan.{Plan}
 use Rattle.drmaa_model.specs.Requests.{without_reservation, is_other}
 use Rattle.drmaa_model.specs.Size.{weight}
@@ -10,8 +9,9 @@ use Rattle.drmaa_model.specs.TimeLaws.{weight-advance, weight-expire, weight-cal
 use Rattle.reservation_calendar.specs.declared.bookings.Key.TheVariants.{Reservation}
 use Rattle.reservation_calendar.specs.Schedules.{Schedule, without}
 use Rattle.plan_book.specs.Book.{plan_of, HasFewQueues}
-use Rattle.plan_book.specs.MeetLaws.{full-meets}
+use Rattle.plan_book.specs.MeetLaws.{barred-meets}
 use Rattle.plan_book.specs.Occasions.{plan_at}
+use Rattle.plan_book.specs.Occasions.Meets.{served}
 use Rattle.plan_book.specs.Ties.{IsTied}
 use Rattle.plan_book.specs.TieLaws.{tied-then, tied-ended, tied-passed}
 use Rattle.plan_book.proofs.book.Book.end_reservation.Goals as goal
@@ -31,24 +31,24 @@ size c =
 pub returns-clause-meets : goal.returns-clause-meets
 returns-clause-meets c =
     let same = size (goal.at.returns-clause-meets c).After-weight in
-    served (record { answered = refl; answers = tt; plan = plan c; within = omega (arith, same, (c.in_default.ensures {u = tt}).within) })
+    served (record { answered = refl; plan = plan c; within = omega (arith, same, (c.in_default.ensures {u = tt}).within); memory = (c.in_default.ensures {u = tt}).placed })
 
-pub returns-clause-kept : goal.returns-clause-kept
-returns-clause-kept c =
+pub returns-clause-book : goal.returns-clause-book
+returns-clause-book c =
     let p = plan_of c.args.self.now in
     let q = plan_at c.args.occasion p in
     let left = without_reservation c.args.reservation q in
-    let fit_q : IsFit q = advance-fit c.args.occasion.entry c.args.occasion.at p c.requires.kept.fit in
+    let fit_q : IsFit q = advance-fit c.args.occasion.entry c.args.occasion.at p c.requires.book.fit in
     let fit_left : IsFit left = fewer-fit q.moment (is_other c.args.reservation) q (omega arith) fit_q in
-    let same = size (goal.at.returns-clause-kept c).After-weight in
-    let tied_q : IsTied c.advance.new.self.calendar q = tied-then c.args.self.now.calendar c.advance.new.self.calendar c.args.occasion.entry c.args.occasion.at p q c.requires.kept.fit c.requires.kept.tied c.advance.ensures.calendar refl in
+    let same = size (goal.at.returns-clause-book c).After-weight in
+    let tied_q : IsTied c.advance.new.self.calendar q = tied-then c.args.self.now.calendar c.advance.new.self.calendar c.args.occasion.entry c.args.occasion.at p q c.requires.book.fit c.requires.book.tied c.advance.ensures.calendar refl in
     let calendar : c.sweep.new.self.calendar ≡ record c.advance.new.self.calendar { bookings = without (Reservation c.args.reservation) c.advance.new.self.calendar.bookings } =
     c.sweep.ensures.calendar ∙ c.drop_reservation.ensures.calendar in
     record {
       room = c.sweep.ensures.room;
       fit = subst IsFit (sym (plan c)) (call_in-fit (expire c.args.occasion.entry left) (expire-fit c.args.occasion.entry left fit_left));
-      light = omega (arith, ap weight (plan c), same, c.weight.ensures, c.requires.kept.light);
-      queues = subst HasFewQueues (sym (plan c)) c.requires.kept.queues;
+      light = omega (arith, ap weight (plan c), same, c.weight.ensures, c.requires.book.light);
+      queues = subst HasFewQueues (sym (plan c)) c.requires.book.queues;
       tied = subst (λ (s : Schedule). IsTied s (plan_of c.sweep.new.self)) (sym calendar)
           (subst (IsTied (record c.advance.new.self.calendar { bookings = without (Reservation c.args.reservation) c.advance.new.self.calendar.bookings })) (sym (plan c))
           (tied-passed _ c.args.occasion.entry left fit_left (tied-ended c.advance.new.self.calendar q c.args.reservation tied_q)));
@@ -57,6 +57,6 @@ returns-clause-kept c =
 
 pub returns-in-Err-clause-meets : goal.returns-in-Err-clause-meets
 returns-in-Err-clause-meets c =
-    let full = c.in-Err.ensures {u = tt} in
+    let barred = c.in-Err.ensures {u = tt} in
     let same = size (goal.at.returns-in-Err-clause-meets c).After-weight in
-    full-meets _ (plan_of c.args.self.now) c.args.occasion.entry c.args.occasion.limit _ _ full.above full.full (omega (arith, same))
+    barred-meets c.args.occasion tt _ (plan_of c.args.self.now) _ _ barred.full barred.short (omega (arith, same))

@@ -10,12 +10,12 @@ use Rattle.drmaa_model.specs.Size.{weight}
 use Rattle.drmaa_model.specs.Time.{advance_plan}
 use Rattle.drmaa_model.specs.TimeLaws.{weight-advance}
 use Rattle.drmaa_model.specs.WeightLaws.{forget-weight}
-use Rattle.plan_book.specs.Book.{plan_of, owed, askable, HasFewQueues}
+use Rattle.plan_book.specs.Book.{plan_of, owed, owed_kills, HasFewQueues}
 use Rattle.plan_book.specs.Quiet.{IsQuiet}
 use Rattle.plan_book.specs.Ties.{IsTied}
 use Rattle.plan_book.specs.TieLaws.{tied-then}
 use Rattle.plan_book.proofs.AlarmLaws.{quiet-forgotten}
-use Rattle.plan_book.proofs.ArrivalLaws.{forgot-owed, forgot-askable, tied-forgot}
+use Rattle.plan_book.proofs.ArrivalLaws.{forgot-owed, forgot-owed_kills, tied-forgot}
 use Rattle.plan_book.proofs.book.Book.forget_home.Goals as goal
 use Rattle.plan_book.proofs.book.Book.forget_home.Goals.{After-leave_reservations}
 
@@ -33,14 +33,14 @@ plan c =
     ∙ ap (forget_home c.args.home) c.advance.ensures.plan
 
 fit : (c : After-leave_reservations) → IsFit (advance_plan c.args.entry c.args.at (plan_of c.args.self.now))
-fit c = advance-fit c.args.entry c.args.at (plan_of c.args.self.now) c.requires.kept.fit
+fit c = advance-fit c.args.entry c.args.at (plan_of c.args.self.now) c.requires.book.fit
 
 fit-then : (c : After-leave_reservations) → IsFit (plan_of c.advance.new.self)
 fit-then c = subst IsFit (sym c.advance.ensures.plan) (fit c)
 
 pub drop_forgotten-requires : goal.drop_forgotten-requires
 drop_forgotten-requires c =
-    (let then : IsFit (plan_of c.advance.new.self) = subst IsFit (sym c.advance.ensures.plan) (advance-fit c.args.entry c.args.at (plan_of c.args.self.now) c.requires.kept.fit) in
+    (let then : IsFit (plan_of c.advance.new.self) = subst IsFit (sym c.advance.ensures.plan) (advance-fit c.args.entry c.args.at (plan_of c.args.self.now) c.requires.book.fit) in
     record { sound = then.sound })
 
 pub returns-clause-plan : goal.returns-clause-plan
@@ -54,8 +54,8 @@ returns-clause-size c =
     let same = forget-weight c.args.home q (fit c) in
     omega (arith, ap weight (plan c), size, same)
 
-pub returns-clause-kept : goal.returns-clause-kept
-returns-clause-kept c =
+pub returns-clause-book : goal.returns-clause-book
+returns-clause-book c =
     let p = plan_of c.args.self.now in
     let q = advance_plan c.args.entry c.args.at p in
     let sound = (fit-then c).sound in
@@ -65,14 +65,14 @@ returns-clause-kept c =
     record {
       room = record {
         changes = omega (arith, ap owed (rows c), forgot-owed c.args.home old sound, c.advance.ensures.room.changes);
-        orders = omega (arith, ap askable (rows c), forgot-askable c.args.home old sound, c.advance.ensures.room.orders);
+        orders = omega (arith, ap owed_kills (rows c), forgot-owed_kills c.args.home old sound, c.advance.ensures.room.orders);
       };
       fit = subst IsFit (sym (plan c)) (forget-fit c.args.home q (fit c));
-      light = omega (arith, ap weight (plan c), size, same, c.requires.kept.light);
-      queues = subst HasFewQueues (sym (plan c)) c.requires.kept.queues;
+      light = omega (arith, ap weight (plan c), size, same, c.requires.book.light);
+      queues = subst HasFewQueues (sym (plan c)) c.requires.book.queues;
       tied = subst (IsTied c.advance.new.self.calendar) (sym (plan c))
           (tied-forgot c.advance.new.self.calendar c.args.home q (fit c)
-          (tied-then c.args.self.now.calendar c.advance.new.self.calendar c.args.entry c.args.at p q c.requires.kept.fit c.requires.kept.tied c.advance.ensures.calendar refl));
+          (tied-then c.args.self.now.calendar c.advance.new.self.calendar c.args.entry c.args.at p q c.requires.book.fit c.requires.book.tied c.advance.ensures.calendar refl));
       quiet = subst (IsQuiet c.advance.new.self.alarm) (sym (plan c))
           (subst (λ (x : Plan). IsQuiet c.advance.new.self.alarm (forget_home c.args.home x)) c.advance.ensures.plan
           (quiet-forgotten c.advance.new.self.alarm c.args.home (plan_of c.advance.new.self) c.advance.ensures.quiet));

@@ -8,4 +8,4 @@ pub returns : goal.returns
 returns c is =
     let s = c.args.self.now in
     let ahead : is_past (max s.moment c.args.at) s.alarm ≡ false = ap (λ (m : ℕ). is_past m s.alarm) (sym c.moment_at.ensures) ∙ sym c.is_past.ensures ∙ not-true c.is_past.result is in
-    quiet-courses s.alarm c.args.at (plan_of s) c.requires.kept.quiet ahead
+    quiet-courses s.alarm c.args.at (plan_of s) c.requires.book.quiet ahead

@@ -6,11 +6,11 @@ use Rattle.drmaa_model.specs.declared.courses.Order.{Order}
 use Rattle.drmaa_model.specs.declared.rows.Row.{Row}
 use Rattle.drmaa_model.specs.Courses.{lesser_end}
 use Rattle.drmaa_model.specs.Plan.{Plan}
-use Rattle.plan_book.specs.Book.{plan_of, moved, owed, askable, owes, may_ask}
+use Rattle.plan_book.specs.Book.{plan_of, moved, owed, owed_kills, owes, owes_kill}
 use Rattle.plan_book.specs.Quiet.{IsLeftUntil, LastsUntil}
 use Rattle.plan_book.proofs.AlarmLaws.{quiet-put}
 use Rattle.plan_book.proofs.QuietLaws.{left-second, lasting-first}
-use Rattle.plan_book.proofs.MoveLaws.{moved-changes, moved-owed, moved-askable, part-of}
+use Rattle.plan_book.proofs.MoveLaws.{moved-changes, moved-owed, moved-owed_kills, part-of}
 use Rattle.plan_book.proofs.book.Book.move_now.Goals as goal
 
 pub push_change-requires : goal.push_change-requires
@@ -20,7 +20,7 @@ push_change-requires c =
 
 pub edit_orders-requires : goal.edit_orders-requires
 edit_orders-requires c =
-    let part = part-of c.args.entry (plan_of c.args.self.now) c.args.m.now c.requires.fit c.requires.move_is may_ask in
+    let part = part-of c.args.entry (plan_of c.args.self.now) c.args.m.now c.requires.fit c.requires.move_is owes_kill in
     omega (arith, part, c.requires.room.orders, c.requires.orders)
 
 pub returns-clause-plan : goal.returns-clause-plan
@@ -35,11 +35,11 @@ pub returns-clause-room : goal.returns-clause-room
 returns-clause-room c =
     let p = plan_of c.args.self.now in
     let sum = moved-owed c.args.entry p c.args.m.now c.requires.fit c.requires.move_is in
-    let asks = moved-askable c.args.entry p c.args.m.now c.requires.fit c.requires.move_is in
+    let asks = moved-owed_kills c.args.entry p c.args.m.now c.requires.fit c.requires.move_is in
     let rows = c.put_course.ensures in
     record {
       changes = omega (arith, ap owed rows, sum, c.requires.room.changes, c.requires.changes, c.push_change.ensures.len, c.push_change.ensures.capacity);
-      orders = omega (arith, ap askable rows, asks, c.requires.room.orders, c.requires.orders, c.edit_orders.ensures.len, c.edit_orders.ensures.capacity);
+      orders = omega (arith, ap owed_kills rows, asks, c.requires.room.orders, c.requires.orders, c.edit_orders.ensures.len, c.edit_orders.ensures.capacity);
     }
 
 pub returns-clause-spare : goal.returns-clause-spare

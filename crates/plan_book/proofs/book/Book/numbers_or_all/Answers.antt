@@ -13,4 +13,4 @@ returns-in-Some c = λ test has.
     subst (λ (o : Option NumberRange). IfSome o (HasNumbersOf test (plan_of c.args.self.now).rows)) some has)
 
 pub returns-in-None : goal.returns-in-None
-returns-in-None c = λ test has. numbers-of_all c.args.self.now.next_job (plan_of c.args.self.now).rows c.requires.kept.fit.jobs.below test
+returns-in-None c = λ test has. numbers-of_all c.args.self.now.next_job (plan_of c.args.self.now).rows c.requires.book.fit.jobs.below test

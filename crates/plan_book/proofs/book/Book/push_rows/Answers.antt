@@ -1,14 +1,14 @@
 use Rattle.std.proofs.Common.{◌≡◌, ◌+◌, max, refl, sym, ◌∙◌, ap, subst, arith}
 use Rattle.std.proofs.lemmas.Result.{err_from_is_err_and}
 use Rattle.drmaa_model.specs.Fit.{IsFit}
-use Rattle.drmaa_model.specs.Operation.Meets.{served}
 use Rattle.drmaa_model.specs.Plan.{Plan}
 use Rattle.drmaa_model.specs.Size.{weight}
 use Rattle.drmaa_model.specs.TimeLaws.{weight-advance}
 use Rattle.reservation_calendar.specs.Schedules.{Schedule}
 use Rattle.plan_book.specs.Book.{plan_of, joined, HasFewQueues}
-use Rattle.plan_book.specs.MeetLaws.{full-meets}
+use Rattle.plan_book.specs.MeetLaws.{barred-meets}
 use Rattle.plan_book.specs.Occasions.{plan_at}
+use Rattle.plan_book.specs.Occasions.Meets.{served, short}
 use Rattle.plan_book.specs.Ties.{IsTied, let_go_of}
 use Rattle.plan_book.specs.TieLaws.{tied-advance}
 use Rattle.plan_book.proofs.ArrivalLaws.{joined-weight, tied-joined}
@@ -27,7 +27,7 @@ size c =
 pub returns-clause-meets : goal.returns-clause-meets
 returns-clause-meets c =
     let same = size (goal.at.returns-clause-meets c).After-len in
-    served (record { answered = refl; answers = tt; plan = plan c; within = omega (arith, same, (c.in_ok-admit.ensures {u = tt}).within) })
+    served (record { answered = refl; plan = plan c; within = omega (arith, same, (c.in_ok-admit.ensures {u = tt}).within); memory = (c.in_ok-admit.ensures {u = tt}).placed })
 
 tied : (c : After-put_rows) → IsTied c.put_rows.new.self.calendar (plan_of c.put_rows.new.self)
 tied c =
@@ -40,16 +40,16 @@ tied c =
     ∙ ap (let_go_of (max p.moment at) p.reservations) c.make_seats.ensures.calendar in
     subst (λ (t : Schedule). IsTied t (plan_of c.put_rows.new.self)) (sym calendar)
     (subst (IsTied (let_go_of (max p.moment at) p.reservations s)) (sym (plan c))
-    (tied-joined (let_go_of (max p.moment at) p.reservations s) c.args.rows.items c.args.arrays (plan_at c.args.occasion p) c.requires.waits (tied-advance s c.args.occasion.entry at p c.requires.kept.fit c.requires.kept.tied)))
+    (tied-joined (let_go_of (max p.moment at) p.reservations s) c.args.rows.items c.args.arrays (plan_at c.args.occasion p) c.requires.waits (tied-advance s c.args.occasion.entry at p c.requires.book.fit c.requires.book.tied)))
 
-pub returns-clause-kept : goal.returns-clause-kept
-returns-clause-kept c =
-    let same = size (goal.at.returns-clause-kept c).After-len in
+pub returns-clause-book : goal.returns-clause-book
+returns-clause-book c =
+    let same = size (goal.at.returns-clause-book c).After-len in
     record {
       room = c.put_rows.ensures.room;
       fit = subst IsFit (sym (plan c)) c.requires.fit;
       light = omega (arith, ap weight (plan c), same, (c.in_ok-admit.ensures {u = tt}).within, c.args.occasion.limited);
-      queues = subst HasFewQueues (sym (plan c)) c.requires.kept.queues;
+      queues = subst HasFewQueues (sym (plan c)) c.requires.book.queues;
       tied = tied c;
       quiet = c.put_rows.ensures.quiet;
     }
@@ -57,6 +57,12 @@ returns-clause-kept c =
 pub returns-in_err-admit-clause-meets : goal.returns-in_err-admit-clause-meets
 returns-in_err-admit-clause-meets c =
     let e = err_from_is_err_and c.from_residual.result c.from_residual.ensures.1 in
-    let full = c.in_err-admit.ensures {u = tt} in
+    let barred = c.in_err-admit.ensures {u = tt} in
     let same = size (goal.at.returns-in_err-admit-clause-meets c).After-len in
-    rw (e.1, e.2) (full-meets _ (plan_of c.args.self.now) c.args.occasion.entry c.args.occasion.limit _ _ full.above full.full (omega (arith, same)))
+    rw (e.1, e.2) (barred-meets c.args.occasion tt _ (plan_of c.args.self.now) _ _ barred.full barred.short (omega (arith, same)))
+
+pub returns-in_err-make_seats-clause-meets : goal.returns-in_err-make_seats-clause-meets
+returns-in_err-make_seats-clause-meets c =
+    let e = err_from_is_err_and c.from_residual-in_err-make_seats.result c.from_residual-in_err-make_seats.ensures.1 in
+    let same = size (goal.at.returns-in_err-make_seats-clause-meets c).After-len in
+    rw (e.1, e.2) (short (record { answered = refl; within = omega (arith, same, (c.in_ok-admit.ensures {u = tt}).within); plan = c.make_seats.ensures.plan }))

@@ -2,11 +2,11 @@ use Rattle.std.proofs.Common.{ap, sym, subst, arith}
 use Rattle.std.specs.List.{AllByRecursion}
 use Rattle.drmaa_types.specs.declared.moments.End.{End}
 use Rattle.drmaa_model.specs.Courses.{lesser_end}
-use Rattle.plan_book.specs.Book.{owed, askable}
+use Rattle.plan_book.specs.Book.{owed, owed_kills}
 use Rattle.plan_book.specs.Quiet.{IsLeftUntil, LastsUntil}
 use Rattle.plan_book.proofs.AlarmLaws.{quiet-joined}
 use Rattle.plan_book.proofs.QuietLaws.{lasting-first}
-use Rattle.plan_book.proofs.ArrivalLaws.{joined-owed, joined-askable}
+use Rattle.plan_book.proofs.ArrivalLaws.{joined-owed, joined-owed_kills}
 use Rattle.plan_book.proofs.book.Book.put_rows.Goals as goal
 
 pub returns-clause-room : goal.returns-clause-room
@@ -15,7 +15,7 @@ returns-clause-room c =
     let rows = c.args.rows.items in
     record {
       changes = omega (arith, ap owed c.append_rows.ensures, joined-owed old rows c.requires.waits, c.requires.room.changes, c.requires.changes);
-      orders = omega (arith, ap askable c.append_rows.ensures, joined-askable old rows c.requires.waits, c.requires.room.orders);
+      orders = omega (arith, ap owed_kills c.append_rows.ensures, joined-owed_kills old rows c.requires.waits, c.requires.room.orders);
     }
 
 pub returns-clause-spare : goal.returns-clause-spare

@@ -10,7 +10,7 @@ use Rattle.drmaa_model.specs.Plan.{Plan}
 use Rattle.drmaa_model.specs.Rows.{change_of}
 use Rattle.drmaa_model.specs.Time.{lapses, lapsed, is_due, called_in, kill_order}
 use Rattle.drmaa_model.specs.TimeLaws.{changes-lapsed, expiry, map-twice}
-use Rattle.plan_book.specs.Book.{plan_of, owed, askable}
+use Rattle.plan_book.specs.Book.{plan_of, owed, owed_kills}
 use Rattle.plan_book.specs.Lapses.{ends, kills_then}
 use Rattle.plan_book.specs.Quiet.{IsLeftUntil, LastsUntil}
 use Rattle.plan_book.proofs.LapseLaws.{filter-flat, kills-flat}
@@ -62,7 +62,7 @@ returns-clause-room c =
     let rows : swept.new.self.items ≡ map (called_in m rs) (map (lapsed m rs) old) = swept.ensures.items ∙ map-twice (called_in m rs) (lapsed m rs) old in
     record {
       changes = omega (arith, ap owed rows, c.requires.room.changes, swept.ensures.changes_len, swept.ensures.changes_capacity, count-ended c.args.entry m rs old, changes-expire m rs old, changes-called m rs (map (lapsed m rs) old));
-      orders = omega (arith, ap askable rows, c.requires.room.orders, swept.ensures.orders_len, swept.ensures.orders_capacity, count-asked m rs old, orders-expire m rs old, orders-called m rs (map (lapsed m rs) old));
+      orders = omega (arith, ap owed_kills rows, c.requires.room.orders, swept.ensures.orders_len, swept.ensures.orders_capacity, count-asked m rs old, orders-expire m rs old, orders-called m rs (map (lapsed m rs) old));
     }
 
 pub returns-clause-spare : goal.returns-clause-spare
@@ -83,7 +83,7 @@ returns-clause-spare_orders c =
     let old = s.rows.items in
     let swept = c.sweep_rows-soonest in
     let rows : swept.new.self.items ≡ map (called_in m rs) (map (lapsed m rs) old) = swept.ensures.items ∙ map-twice (called_in m rs) (lapsed m rs) old in
-    omega (arith, ap askable rows, c.requires.room.orders, swept.ensures.orders_len, swept.ensures.orders_capacity, count-asked m rs old, orders-expire m rs old, orders-called m rs (map (lapsed m rs) old))
+    omega (arith, ap owed_kills rows, c.requires.room.orders, swept.ensures.orders_len, swept.ensures.orders_capacity, count-asked m rs old, orders-expire m rs old, orders-called m rs (map (lapsed m rs) old))
 
 pub returns-clause-quiet : goal.returns-clause-quiet
 returns-clause-quiet c =

@@ -43,5 +43,5 @@ returns c =
     let until = c.args.places.until in
     let f = control_step c.args.moment c.args.target.now c.args.what in
     let few : until ≤ length (drop gone v.items) = subst (λ (w : Vec Row). until ≤ length w.items) (sym c.self.view_is) c.requires.within in
-    kept v c.deref_mut.result.now c.control_rows.new.rows gone from until f c.deref_mut.ensures.value c.requires.order (omega (arith, few, length-drop gone v.items, c.self.invariant)) c.control_rows.ensures
+    kept v c.deref_mut.result.now c.control_rows.new.rows gone from until f c.deref_mut.ensures.value c.requires.span (omega (arith, few, length-drop gone v.items, c.self.invariant)) c.control_rows.ensures
     ∙ ap (λ (w : Vec Row). take from w.items ++ (map f (take (until - from) (drop from w.items)) ++ drop until w.items)) c.self.view_is

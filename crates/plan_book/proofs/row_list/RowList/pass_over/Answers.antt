@@ -8,27 +8,27 @@ use Rattle.plan_book.proofs.GoneLaws.{passed-over}
 use Rattle.plan_book.proofs.PartLaws.{written-part}
 use Rattle.plan_book.proofs.row_list.RowList.pass_over.Goals as goal
 
--- what is kept once the rows up to the place have turned, and one more is forgotten
-module _ (v : Vec Row) (list turned : List Row) (gone place : ℕ) (same : list ≡ v.items) (within : gone + place < length v.items) where
+-- what is kept once the rows up to the place are rotated, and one more is forgotten
+module _ (v : Vec Row) (list rotated : List Row) (gone place : ℕ) (same : list ≡ v.items) (within : gone + place < length v.items) where
   abbrev part : List Row
   part = take (gone + place + 1 - gone) (drop gone list)
 
-  module _ (new : turned ≡ drop (length part - 1) part ++ take (length part - 1) part) where
+  module _ (new : rotated ≡ drop (length part - 1) part ++ take (length part - 1) part) where
     is : part ≡ take (place + 1) (drop gone v.items)
     is = ap (λ (n : ℕ). take n (drop gone list)) (omega arith) ∙ ap (λ (rows : List Row). take (place + 1) (drop gone rows)) same
 
     count : length part ≡ place + 1
     count = omega (arith, ap (λ (rows : List Row). length rows) is, length-take (place + 1) (drop gone v.items), length-drop gone v.items, within)
 
-    goes : turned ≡ drop place part ++ take place part
+    goes : rotated ≡ drop place part ++ take place part
     goes = new ∙ ap (λ (n : ℕ). drop n part ++ take n part) (omega (arith, count))
 
-    long : length turned ≡ gone + place + 1 - gone
+    long : length rotated ≡ gone + place + 1 - gone
     long = omega (arith, ap (λ (rows : List Row). length rows) goes, length-append (drop place part) (take place part), length-drop place part, length-take place part, count)
 
-    kept : drop (gone + 1) (with_items v (take gone list ++ (turned ++ drop (gone + place + 1 - gone) (drop gone list)))).items ≡ remove (drop gone v.items) place
+    kept : drop (gone + 1) (with_items v (take gone list ++ (rotated ++ drop (gone + place + 1 - gone) (drop gone list)))).items ≡ remove (drop gone v.items) place
     kept =
-        ap (drop (gone + 1)) (written-part v list turned gone (gone + place + 1) same (omega arith) (omega (arith, within)) long
+        ap (drop (gone + 1)) (written-part v list rotated gone (gone + place + 1) same (omega arith) (omega (arith, within)) long
         ∙ ap (λ (rows : List Row). take gone v.items ++ (rows ++ drop (gone + place + 1) v.items)) goes)
         ∙ passed-over v.items part gone place within is
 

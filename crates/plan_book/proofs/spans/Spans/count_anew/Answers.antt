@@ -4,4 +4,4 @@ pub put_rows-requires : goal.put_rows-requires
 put_rows-requires c = record { arrays = c.clear.ensures; homes = c.clear-2.ensures }
 
 pub returns : goal.returns
-returns c = record { order = c.put_rows.ensures.order; members = c.put_rows.ensures.members }
+returns c = record { sorted = c.put_rows.ensures.sorted; members = c.put_rows.ensures.members }

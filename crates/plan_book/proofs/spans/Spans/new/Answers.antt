@@ -1,4 +1,4 @@
 use Rattle.plan_book.proofs.spans.Spans.new.Goals as goal
 
 pub returns : goal.returns
-returns c = record { order = record { arrays = c.new.ensures; homes = c.new-2.ensures }; members = tt }
+returns c = record { sorted = record { arrays = c.new.ensures; homes = c.new-2.ensures }; members = tt }

@@ -12,7 +12,7 @@ loop-row-preserved c =
     let was = c.loop-row.self in
     let now = c.put_row.new.self in
     record {
-      order = c.put_row.ensures.order;
+      sorted = c.put_row.ensures.sorted;
       arrays = λ group job within. c.put_row.ensures.arrays group job (c.loop-row.invariant.arrays group job within);
       homes = λ group job within. c.put_row.ensures.homes group job (c.loop-row.invariant.homes group job within);
       members = all-more (IsSpanned now) xs i c.row-item.result c.loop-row-test.true c.row-item.is

@@ -3,7 +3,7 @@ use Rattle.std.specs.Option.{option_map}
 use Rattle.drmaa_model.specs.declared.replies.Launch.{Launch}
 use Rattle.drmaa_model.specs.declared.rows.Row.{Row}
 use Rattle.drmaa_model.specs.Launching.{launch_of, launch}
-use Rattle.drmaa_model.specs.Order.{next_launch}
+use Rattle.drmaa_model.specs.NextLaunch.{next_launch}
 use Rattle.drmaa_model.specs.Time.{advance_plan}
 use Rattle.plan_book.specs.Book.{plan_of}
 use Rattle.scheduler_core.specs.Launches.{IsNextIn}

@@ -3,14 +3,13 @@ use Rattle.std.proofs.lemmas.Bool.{false≢true}
 use Rattle.std.specs.Prelude.{◌≢◌, IsSome, Err}
 use Rattle.drmaa_types.specs.declared.infos.Reserved.{Reserved}
 use Rattle.drmaa_types.specs.declared.refusals.Refusal.{Refusal}
-use Rattle.drmaa_types.specs.declared.refusals.Refusal.TheVariants.{OutOfMemory}
+use Rattle.drmaa_model.specs.declared.faults.NoEntry.TheVariants.{OutOfMemory}
 use Rattle.drmaa_model.specs.declared.reservations.Accepted.{Accepted}
 use Rattle.drmaa_model.specs.Fit.{IsFit}
-use Rattle.drmaa_model.specs.Operation.{Outcome, outcome, Meets}
+use Rattle.drmaa_model.specs.Operation.{Outcome, outcome}
 use Rattle.drmaa_model.specs.Requests.{request, reserved_as, with_reservation}
 use Rattle.plan_book.specs.Book.{plan_of}
-use Rattle.plan_book.specs.MeetLaws.{refused-never}
-use Rattle.plan_book.specs.Occasions.{plan_at}
+use Rattle.plan_book.specs.Occasions.{Meets, plan_at}
 use Rattle.plan_book.specs.Ties.{IsFree, booked_for}
 use Rattle.scheduler_core.specs.Requesting.{accepted_of}
 use Rattle.scheduler_core.specs.View.{View}
@@ -34,18 +33,18 @@ pub accept-requires-clause-free : goal.accept-requires-clause-free
 accept-requires-clause-free c =
     let book = c.self.inside.book in
     subst (λ (a : Accepted). IsFree book.calendar (booked_for a)) (sym (accepted (goal.at.accept-requires-clause-free c).After-accepted_of-accepted))
-    (request-free c.args.occasion.entry c.args.occasion.at (plan_of book) c.self.invariant.fit c.args.home c.args.template c.in-Ok.offer (c.in-Ok.ensures {u = tt}).offer book.calendar c.self.invariant.tied)
+    (request-free c.args.occasion.entry c.args.occasion.at (plan_of book) c.self.invariant.fit c.args.home c.args.template c.in-Ok.offer (c.in-Ok.ensures {u = tt}) book.calendar c.self.invariant.tied)
 
 pub accept-requires-clause-fit : goal.accept-requires-clause-fit
 accept-requires-clause-fit c =
     let p = plan_of c.self.inside.book in
     subst (λ (a : Accepted). IsFit (with_reservation a (plan_at c.args.occasion p))) (sym (accepted (goal.at.accept-requires-clause-fit c).After-accepted_of-accepted))
-    (request-fit c.args.occasion.entry c.args.occasion.at p c.self.invariant.fit c.args.home c.args.template c.in-Ok.offer (c.in-Ok.ensures {u = tt}).offer)
+    (request-fit c.args.occasion.entry c.args.occasion.at p c.self.invariant.fit c.args.home c.args.template c.in-Ok.offer (c.in-Ok.ensures {u = tt}))
 
 pub returns-in-Err-clause-meets : goal.returns-in-Err-clause-meets
 returns-in-Err-clause-meets c =
-    seen-refused (request c.args.home c.args.template) c.args.occasion.entry c.args.occasion.at c.args.occasion.limit c.self.inside.book c.self.view_is c.in-Err.why c.refuse.result (plan_of c.refuse.new.self)
-    (request-refused c.args.occasion.entry c.args.occasion.at (plan_of c.self.inside.book) c.self.invariant.fit c.args.home c.args.template c.in-Err.why (c.in-Err.ensures {u = tt}).offer) c.refuse.ensures.refuses
+    seen-refused (request c.args.home c.args.template) c.args.occasion c.self.inside.book c.self.view_is c.in-Err.why c.refuse.result (plan_of c.refuse.new.self)
+    (request-refused c.args.occasion.entry c.args.occasion.at (plan_of c.self.inside.book) c.self.invariant.fit c.args.home c.args.template c.in-Err.why (c.in-Err.ensures {u = tt})) c.refuse.ensures.meets
 
 pub returns-in-Ok-clause-meets : goal.returns-in-Ok-clause-meets
 returns-in-Ok-clause-meets c =
@@ -53,19 +52,14 @@ returns-in-Ok-clause-meets c =
     let q = plan_at c.args.occasion p in
     let made : Accepted → Outcome Reserved = λ a. record { answer = Ok (reserved_as a); plan = with_reservation a q } in
     let comes : outcome (request c.args.home c.args.template) c.args.occasion.entry q ≡ made c.accepted_of-accepted.result =
-    request-comes c.args.occasion.entry c.args.occasion.at p c.self.invariant.fit c.args.home c.args.template c.in-Ok.offer (c.in-Ok.ensures {u = tt}).offer
+    request-comes c.args.occasion.entry c.args.occasion.at p c.self.invariant.fit c.args.home c.args.template c.in-Ok.offer (c.in-Ok.ensures {u = tt})
     ∙ ap made (sym (accepted (goal.at.returns-in-Ok-clause-meets c).After-accepted_of-accepted)) in
-    seen-meets (request c.args.home c.args.template) c.args.occasion.entry c.args.occasion.at c.args.occasion.limit c.self.inside.book c.self.view_is c.accept.result (plan_of c.accept.new.book)
-    (subst (λ (o : Outcome Reserved). Meets o p c.args.occasion.entry c.args.occasion.limit c.accept.result (plan_of c.accept.new.book)) (sym comes) c.accept.ensures.meets)
-
-pub returns-in-Err-clause-memory : goal.returns-in-Err-clause-memory
-returns-in-Err-clause-memory c = λ there.
-    (let p = plan_of c.self.inside.book in
-    refused-never c.args.occasion.entry c.args.occasion.limit p (plan_at c.args.occasion p) (plan_of c.refuse.new.self) c.in-Err.why c.refuse.result c.refuse.ensures.refuses)
+    seen-meets (request c.args.home c.args.template) c.args.occasion c.self.inside.book c.self.view_is c.accept.result (plan_of c.accept.new.book)
+    (subst (λ (o : Outcome Reserved). Meets c.args.occasion o.answer o.plan p c.accept.result (plan_of c.accept.new.book)) (sym comes) c.accept.ensures.meets)
 
 pub returns-in-Ok-clause-memory : goal.returns-in-Ok-clause-memory
-returns-in-Ok-clause-memory c =
-    subst (λ (v : View). IsSome ((request c.args.home c.args.template).refusal (plan_at c.args.occasion v.plan)) → c.accept.result ≢ Err OutOfMemory) c.self.view_is
+returns-in-Ok-clause-memory c = λ has.
+    (subst (λ (v : View). IsSome ((request c.args.home c.args.template).refusal (plan_at c.args.occasion v.plan)) → c.accept.result ≢ Err OutOfMemory) c.self.view_is
     (λ there.
-    (let free = request-passes c.args.occasion.entry c.args.occasion.at (plan_of c.self.inside.book) c.self.invariant.fit c.args.home c.args.template c.in-Ok.offer (c.in-Ok.ensures {u = tt}).offer in
-    absurd (false≢true (subst (λ (o : Option Refusal). IsSome o) free there))))
+    (let free = request-passes c.args.occasion.entry c.args.occasion.at (plan_of c.self.inside.book) c.self.invariant.fit c.args.home c.args.template c.in-Ok.offer (c.in-Ok.ensures {u = tt}) in
+    absurd (false≢true (subst (λ (o : Option Refusal). IsSome o) free there)))))

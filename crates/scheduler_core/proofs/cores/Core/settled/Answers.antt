@@ -1,6 +1,6 @@
 use Rattle.std.proofs.Common.{arith, ◌∙◌, ap}
 use Rattle.std.specs.Option.{option_copied}
-use Rattle.drmaa_model.specs.Order.{settled}
+use Rattle.drmaa_model.specs.NextLaunch.{settled}
 use Rattle.drmaa_model.specs.Time.{advance_plan}
 use Rattle.plan_book.specs.Book.{plan_of}
 use Rattle.scheduler_core.specs.View.{View}

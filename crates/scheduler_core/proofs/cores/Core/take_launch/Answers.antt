@@ -1,21 +1,21 @@
-use Rattle.std.proofs.Common.{◌≡◌, ◌≤◌, ℕ, Some, None, refl, sym, ◌∙◌, ap, subst, arith}
+use Rattle.std.proofs.Common.{◌≡◌, ◌≤◌, ℕ, Some, None, inl, inr, refl, sym, ◌∙◌, ap, subst, arith}
 use Rattle.std.proofs.lemmas.Bool.{false≢true}
-use Rattle.std.specs.Prelude.{IsSome, Ok, Err, Option}
+use Rattle.std.specs.Prelude.{IfOk, IsSome, Result, Ok, Err, Option}
+use Rattle.drmaa_model.specs.declared.faults.NoEntry.{NoEntry}
 use Rattle.drmaa_model.specs.declared.replies.Launch.{Launch}
 use Rattle.drmaa_model.specs.declared.rows.Row.{Row}
 use Rattle.drmaa_model.specs.FitLaws.{advance-fit}
 use Rattle.drmaa_model.specs.Launching.{launch}
-use Rattle.drmaa_model.specs.Operation.{Outcome, Meets}
-use Rattle.drmaa_model.specs.Operation.Meets.{short}
-use Rattle.drmaa_model.specs.Order.{next_launch}
+use Rattle.drmaa_model.specs.Operation.{Outcome}
+use Rattle.drmaa_model.specs.NextLaunch.{next_launch}
+use Rattle.drmaa_model.specs.Plan.{Plan}
 use Rattle.drmaa_model.specs.Time.{advance_plan}
 use Rattle.plan_book.specs.Book.{plan_of, moved, grows}
 use Rattle.plan_book.specs.MeetLaws.{ok-meets, err-meets}
-use Rattle.plan_book.specs.Occasions.{plan_at}
+use Rattle.plan_book.specs.Occasions.{Meets, TakesAt, plan_at}
 use Rattle.scheduler_core.specs.Launches.{IsNextIn}
 use Rattle.scheduler_core.specs.View.{View}
 use Rattle.scheduler_core.proofs.LaunchSteps.{Launches, looked, looked-fit, looked-may, looked-beside, looked-grows}
-use Rattle.scheduler_core.proofs.ViewSteps.{seen-meets}
 use Rattle.scheduler_core.proofs.cores.Core.take_launch.Goals as goal
 use Rattle.scheduler_core.proofs.cores.Core.take_launch.Goals.{In-Ok-Some, After-next_launch}
 
@@ -52,7 +52,7 @@ pub returns-in-Err-clause-left : goal.returns-in-Err-clause-left
 returns-in-Err-clause-left c = λ none. (let same = ap (λ (v : View). v.spare) c.self.view_is in cc)
 
 pub returns-in-Err-clause-meets : goal.returns-in-Err-clause-meets
-returns-in-Err-clause-meets c = λ some. (let same = ap (λ (v : View). v.plan) c.self.view_is in short (record { answered = refl; plan = (cc) }))
+returns-in-Err-clause-meets c = λ some. (let same = ap (λ (v : View). v.plan) c.self.view_is in inr (record { answered = refl; plan = (cc) }))
 
 pub returns-in-Ok-None-clause-nothing : goal.returns-in-Ok-None-clause-nothing
 returns-in-Ok-None-clause-nothing c = λ none. (let same = ap (λ (v : View). v.plan) c.self.view_is in (refl, (cc)))
@@ -83,23 +83,27 @@ pub returns-in-Err-make-clause-left : goal.returns-in-Err-make-clause-left
 returns-in-Err-make-clause-left c = λ none.
     (let e = finds-none (goal.at.returns-in-Err-make-clause-left c).After-next_launch none in let f = c.in-Ok-Some.is in let g = c.in-Ok-Some.field-0-is in absurd (cc))
 
+-- what the book has made of it, by what is told
+met : (c : In-Ok-Some) (result : Result (Option Launch) NoEntry) (new : Plan)
+    → Meets c.args.occasion (Some c.in-Ok-Some.next.launch) (moved c.args.occasion.entry c.in-Ok-Some.next.m (plan_at c.args.occasion (plan_of c.self.inside.book))) (plan_of c.self.inside.book) result new
+    → TakesAt c.args.occasion launch c.args.self.now.plan result new
+met c result new made =
+    subst (λ (v : View). TakesAt c.args.occasion launch v.plan result new) c.self.view_is
+    (subst (λ (o : Outcome (Option Launch)). IfOk o.answer (λ (told : Option Launch). Meets c.args.occasion told o.plan (plan_of c.self.inside.book) result new)) (sym (looks c).comes) made)
+
 pub returns-in_default-clause-meets : goal.returns-in_default-clause-meets
 returns-in_default-clause-meets c = λ some.
     (let p = plan_of c.self.inside.book in
-    let new = plan_of c.make.new.self in
     let told = c.in-Ok-Some.next.launch in
-    seen-meets launch c.args.occasion.entry c.args.occasion.at c.args.occasion.limit c.self.inside.book c.self.view_is (Ok (Some told)) new
-    (subst (λ (o : Outcome (Option Launch)). Meets o p c.args.occasion.entry c.args.occasion.limit (Ok (Some told)) new) (sym (looks (goal.at.returns-in_default-clause-meets c).In-Ok-Some).comes)
-    (ok-meets tt c.in_default.field-0 (Some told) c.args.occasion.entry c.args.occasion.limit p (moved c.args.occasion.entry c.in-Ok-Some.next.m (plan_at c.args.occasion p)) new c.make.result c.in_default.is c.make.ensures.meets)))
+    inl (met (goal.at.returns-in_default-clause-meets c).In-Ok-Some (Ok (Some told)) (plan_of c.make.new.self)
+    (ok-meets c.args.occasion tt c.in_default.field-0 (Some told) (moved c.args.occasion.entry c.in-Ok-Some.next.m (plan_at c.args.occasion p)) p (plan_of c.make.new.self) c.make.result c.in_default.is c.make.ensures.meets)))
 
 pub returns-in-Err-make-clause-meets : goal.returns-in-Err-make-clause-meets
 returns-in-Err-make-clause-meets c = λ some.
     (let p = plan_of c.self.inside.book in
-    let new = plan_of c.make.new.self in
-    let why = c.in-Err-make.why in
-    seen-meets launch c.args.occasion.entry c.args.occasion.at c.args.occasion.limit c.self.inside.book c.self.view_is (Err why) new
-    (subst (λ (o : Outcome (Option Launch)). Meets o p c.args.occasion.entry c.args.occasion.limit (Err why) new) (sym (looks (goal.at.returns-in-Err-make-clause-meets c).In-Ok-Some).comes)
-    (err-meets tt (Some c.in-Ok-Some.next.launch) why c.args.occasion.entry c.args.occasion.limit p (moved c.args.occasion.entry c.in-Ok-Some.next.m (plan_at c.args.occasion p)) new c.make.result c.in-Err-make.is c.make.ensures.meets)))
+    let fault = c.in-Err-make.fault in
+    inl (met (goal.at.returns-in-Err-make-clause-meets c).In-Ok-Some (Err fault) (plan_of c.make.new.self)
+    (err-meets c.args.occasion tt (Some c.in-Ok-Some.next.launch) fault (moved c.args.occasion.entry c.in-Ok-Some.next.m (plan_at c.args.occasion p)) p (plan_of c.make.new.self) c.make.result c.in-Err-make.is c.make.ensures.meets)))
 
 -- a launch wants room for two changes at most
 few : (c : In-Ok-Some) → grows c.in-Ok-Some.next.m ≤ 2

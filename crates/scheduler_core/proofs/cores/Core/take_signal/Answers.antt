@@ -1,21 +1,22 @@
 use Rattle.std.proofs.Common.{◌≡◌, Some, None, refl, sym, ◌∙◌, ap, subst}
 use Rattle.std.proofs.lemmas.Bool.{false≢true}
-use Rattle.std.specs.Prelude.{IsSome, Ok, Err, Option}
+use Rattle.std.specs.Prelude.{IfOk, IsSome, Result, Ok, Err, Option}
 use Rattle.drmaa_model.specs.declared.courses.Order.{Order}
+use Rattle.drmaa_model.specs.declared.faults.NoEntry.{NoEntry}
 use Rattle.drmaa_model.specs.declared.replies.Signal.{Signal}
 use Rattle.drmaa_model.specs.Fit.{IsFit}
 use Rattle.drmaa_model.specs.Launching.{next_signal, signal}
-use Rattle.drmaa_model.specs.Operation.{Outcome, Meets}
+use Rattle.drmaa_model.specs.Operation.{Outcome}
+use Rattle.drmaa_model.specs.Plan.{Plan}
 use Rattle.drmaa_model.specs.Time.{advance_plan}
 use Rattle.plan_book.specs.declared.moves.Move.{Move}
 use Rattle.plan_book.specs.Book.{plan_of, moved, IsMove}
 use Rattle.plan_book.specs.MeetLaws.{ok-meets, err-meets}
-use Rattle.plan_book.specs.Occasions.{plan_at}
+use Rattle.plan_book.specs.Occasions.{Meets, StepsAt, TakesAt, plan_at}
 use Rattle.plan_book.specs.Ties.{KeepsTie}
 use Rattle.scheduler_core.specs.Signals.{IsNext, signal_for, take_move}
 use Rattle.scheduler_core.specs.View.{View}
 use Rattle.scheduler_core.proofs.SignalLaws.{Takes, takes-then}
-use Rattle.scheduler_core.proofs.ViewSteps.{seen-meets}
 use Rattle.scheduler_core.proofs.cores.Core.take_signal.Goals as goal
 use Rattle.scheduler_core.proofs.cores.Core.take_signal.Goals.{In-Some}
 
@@ -58,17 +59,24 @@ returns-clause-nothing c = λ none. (let some = there (goal.at.returns-clause-no
 pub returns-in-Err-clause-nothing : goal.returns-in-Err-clause-nothing
 returns-in-Err-clause-nothing c = λ none. (let some = there (goal.at.returns-in-Err-clause-nothing c).In-Some in absurd (cc))
 
+-- what the book has made of it, by what is told
+met : (c : In-Some) (result : Result (Option Signal) NoEntry) (new : Plan)
+    → Meets c.args.occasion (Some (signal_for c.in-Some.next)) (moved c.args.occasion.entry (take_move c.in-Some.next) (plan_at c.args.occasion (plan_of c.self.inside.book))) (plan_of c.self.inside.book) result new
+    → TakesAt c.args.occasion signal c.args.self.now.plan result new
+met c result new made =
+    subst (λ (v : View). TakesAt c.args.occasion signal v.plan result new) c.self.view_is
+    (subst (λ (o : Outcome (Option Signal)). IfOk o.answer (λ (told : Option Signal). Meets c.args.occasion told o.plan (plan_of c.self.inside.book) result new)) (sym (takes c).comes) made)
+
 pub returns-clause-meets : goal.returns-clause-meets
 returns-clause-meets c = λ some.
     (let p = plan_of c.self.inside.book in
     let q = plan_at c.args.occasion p in
     let next = c.in-Some.next in
     let new = plan_of c.make.new.self in
-    let made = subst (λ (m : Move). Meets (record { answer = Ok tt; plan = moved c.args.occasion.entry m q }) p c.args.occasion.entry c.args.occasion.limit c.make.result new) c.take_move-m.ensures c.make.ensures.meets in
-    seen-meets signal c.args.occasion.entry c.args.occasion.at c.args.occasion.limit c.self.inside.book c.self.view_is (Ok (Some c.signal_for.result)) new
-    (subst (λ (o : Outcome (Option Signal)). Meets o p c.args.occasion.entry c.args.occasion.limit (Ok (Some c.signal_for.result)) new) (sym (takes (goal.at.returns-clause-meets c).In-Some).comes)
-    (subst (λ (s : Signal). Meets (record { answer = Ok (Some (signal_for next)); plan = moved c.args.occasion.entry (take_move next) q }) p c.args.occasion.entry c.args.occasion.limit (Ok (Some s)) new) (sym c.signal_for.ensures)
-    (ok-meets tt c.in_default-make.field-0 (Some (signal_for next)) c.args.occasion.entry c.args.occasion.limit p (moved c.args.occasion.entry (take_move next) q) new c.make.result c.in_default-make.is made))))
+    let made = subst (λ (m : Move). StepsAt c.args.occasion (moved c.args.occasion.entry m) p c.make.result new) c.take_move-m.ensures c.make.ensures.meets in
+    met (goal.at.returns-clause-meets c).In-Some (Ok (Some c.signal_for.result)) new
+    (subst (λ (s : Signal). Meets c.args.occasion (Some (signal_for next)) (moved c.args.occasion.entry (take_move next) q) p (Ok (Some s)) new) (sym c.signal_for.ensures)
+    (ok-meets c.args.occasion tt c.in_default-make.field-0 (Some (signal_for next)) (moved c.args.occasion.entry (take_move next) q) p new c.make.result c.in_default-make.is made)))
 
 pub returns-in-Err-clause-meets : goal.returns-in-Err-clause-meets
 returns-in-Err-clause-meets c = λ some.
@@ -76,7 +84,6 @@ returns-in-Err-clause-meets c = λ some.
     let q = plan_at c.args.occasion p in
     let next = c.in-Some.next in
     let new = plan_of c.make.new.self in
-    let made = subst (λ (m : Move). Meets (record { answer = Ok tt; plan = moved c.args.occasion.entry m q }) p c.args.occasion.entry c.args.occasion.limit c.make.result new) c.take_move-m.ensures c.make.ensures.meets in
-    seen-meets signal c.args.occasion.entry c.args.occasion.at c.args.occasion.limit c.self.inside.book c.self.view_is (Err c.in-Err.why) new
-    (subst (λ (o : Outcome (Option Signal)). Meets o p c.args.occasion.entry c.args.occasion.limit (Err c.in-Err.why) new) (sym (takes (goal.at.returns-in-Err-clause-meets c).In-Some).comes)
-    (err-meets tt (Some (signal_for next)) c.in-Err.why c.args.occasion.entry c.args.occasion.limit p (moved c.args.occasion.entry (take_move next) q) new c.make.result c.in-Err.is made)))
+    let made = subst (λ (m : Move). StepsAt c.args.occasion (moved c.args.occasion.entry m) p c.make.result new) c.take_move-m.ensures c.make.ensures.meets in
+    met (goal.at.returns-in-Err-clause-meets c).In-Some (Err c.in-Err.fault) new
+    (err-meets c.args.occasion tt (Some (signal_for next)) c.in-Err.fault (moved c.args.occasion.entry (take_move next) q) p new c.make.result c.in-Err.is made))

@@ -7,7 +7,7 @@ use Rattle.scheduler_core.proofs.sums.Known.in_array.Goals as goal
 
 pub in_array-sum-requires : goal.in_array-sum-requires
 in_array-sum-requires c =
-    let few = members-few c.args.array (plan_of c.args.book.now) c.requires.kept.fit in
+    let few = members-few c.args.array (plan_of c.args.book.now) c.requires.book.fit in
     let same = members-part c.args.array (plan_of c.args.book.now).rows c.meant_rows.result.now c.meant_rows.ensures in
     omega arith
 
