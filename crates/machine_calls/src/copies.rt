@@ -165,7 +165,11 @@ fn copied_machine(info: &MachineInfo) -> Result<MachineInfo, AllocError>
 }
 
 /// The same launch, which shares its words.
-fn copied_launch(launch: &Launch) -> Result<Launch, AllocError>
+///
+/// # Errors
+///
+/// Want of memory.
+pub(crate) fn copied_launch(launch: &Launch) -> Result<Launch, AllocError>
     ensures { IfOk result (λ copy. copy ≡ launch.now) }
 {
     let words = launch.words.clone()?;

@@ -50,10 +50,6 @@ RefusesAt o why old result new = Meets o (Err why) (plan_at o old) old result ne
 abbrev pub MeetsAt : {A : Type 0} → Occasion → Operation A → Plan → Result (Result A Refusal) NoEntry → Plan → Type 0
 MeetsAt o op old result new = Meets o (outcome op o.entry (plan_at o old)).answer (outcome op o.entry (plan_at o old)).plan old result new
 
--- an operation that nothing refuses is told and made then
-abbrev pub TakesAt : {A : Type 0} → Occasion → Operation A → Plan → Result A NoEntry → Plan → Type 0
-TakesAt o op old result new = Meets o (op.told (plan_at o old)) (op.effect o.entry (plan_at o old)) old result new
-
 -- Nothing changes, since memory ran out before it was known whether the journal has room.
 pub record IsUnsized {A : Type 0} (old : Plan) (result : Result A NoEntry) (new : Plan) : Type 0 where
   pub answered : result ≡ Err OutOfMemory

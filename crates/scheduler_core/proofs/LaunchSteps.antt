@@ -1,5 +1,4 @@
 -- What the launcher's look and move come to.
-use Rattle.drmaa_types.specs.declared.identifiers.JobId.{JobId}
 use Rattle.reservation_calendar.specs.Loads as calendar
 use Rattle.drmaa_types.specs.declared.moments.End.{End}
 use Rattle.reservation_calendar.specs.Fitting.{Fits}
@@ -23,7 +22,7 @@ use Rattle.plan_book.specs.TieLaws.{tied-fresh, fits-calendar, same-end, filter-
 use Rattle.plan_book.specs.declared.moves.Booked.TheVariants.{Same, Books}
 use Rattle.plan_book.specs.Ties.{IsTied, MayMake, IsBeside, KeepsTie, booking_of}
 use Rattle.std.proofs.Common.{◌≡◌, ℕ, ◌+◌, ◌-◌, ◌≤◌, Bool, true, false, cond, ◌&&◌, min, max, List, [], ◌∷◌, map, filter, Option, Some, None, refl, sym, ◌∙◌, ap, subst, arith, leb, not, length}
-use Rattle.std.specs.Prelude.{int_lt, Ok, IfSome, is_some}
+use Rattle.std.specs.Prelude.{int_lt, IfSome, is_some}
 use Rattle.std.specs.Option.{option_and_then, option_map, option_map_or}
 use Rattle.std.specs.List.{AllByRecursion}
 use Rattle.std.proofs.lemmas.Bool.Decides.{nat_tests}
@@ -31,20 +30,23 @@ use Rattle.drmaa_model.specs.declared.replies.Launch.{Launch}
 use Rattle.drmaa_model.specs.declared.rows.Row.{Row}
 use Rattle.drmaa_model.specs.Fit.{IsFit, IsSound}
 use Rattle.drmaa_model.specs.FitLaws.{advance-fit, not-using}
-use Rattle.drmaa_model.specs.Operation.{Outcome, outcome}
 use Rattle.drmaa_model.specs.Launching.{launch, launch_of}
-use Rattle.drmaa_model.specs.OperationLaws.{outcome-served, outcome-fit}
 use Rattle.drmaa_model.specs.LaunchFit.{launch-effect, launch-keeps}
 use Rattle.drmaa_model.specs.NextLaunch.{held, is_ready, may_come, has_slots, slots_for, better, best_of, next_launch, has_room_in, has_slots_in, is_within_bound, is_queued, is_reached}
 use Rattle.drmaa_model.specs.NextLaunchLaws.{IsNextLaunch, next_launch-is, ready-parts, ready-from, queued-may_launch}
 use Rattle.drmaa_model.specs.Plan.{Plan}
 use Rattle.drmaa_model.specs.RowLaws.{row_of-all}
 use Rattle.drmaa_model.specs.Time.{come_to, let_go, lasts, called_in, lapsed, advance_plan}
-use Rattle.drmaa_model.specs.TimeLaws.{timed, map-twice, lapsed-cases, called-cases, waits-not_started, row_of-advance, lapsed-job, called-job, timed-wants}
-use Rattle.scheduler_core.specs.declared.launches.Next.{Next}
+use Rattle.drmaa_model.specs.TimeLaws.{timed, map-twice, lapsed-cases, called-cases, waits-not_started, row_of-advance, timed-wants}
+use Rattle.plan_book.specs.declared.book.Book.{Book}
+use Rattle.plan_book.specs.declared.occasions.Occasion.{Occasion}
+use Rattle.plan_book.specs.Occasions.{plan_at}
+use Rattle.scheduler_core.specs.View.{View}
+use Rattle.scheduler_core.proofs.ViewSteps.{view_of}
+use Rattle.scheduler_core.specs.declared.launches.NextLaunch.{NextLaunch}
 use Rattle.plan_book.specs.declared.moves.Move.{Move}
-use Rattle.plan_book.specs.Book.{IsMove, moved, grows, owes}
-use Rattle.scheduler_core.specs.Launches.{may_launch, launch-move, IsLaunchOf, IsNext, IsNextIn, MayMakeNext, seen, seen_row, room_of, free_of, slots_of, queue_left, capped, IsMost, launch_booking}
+use Rattle.plan_book.specs.Book.{IsBook, IsMove, plan_of, moved, grows, owes}
+use Rattle.scheduler_core.specs.Launches.{may_launch, launch-move, IsLaunchOf, IsNext, IsNextIn, handed_out, seen, seen_row, room_of, free_of, slots_of, queue_left, capped, IsMost, launch_booking}
 use Rattle.scheduler_core.proofs.Priorities.{first_of}
 use Rattle.scheduler_core.proofs.SeenLaws.{tied-seen}
 
@@ -73,7 +75,7 @@ first-next q row fit first =
 pub none-next : (q : Plan) → best_of (filter (λ (r : Row). is_ready q r.wants.min r) q.rows) ≡ None → next_launch q ≡ None
 none-next q first = ap (option_map (λ (r : Row). (r, slots_for q r))) first
 
-pub launch-next : (q : Plan) (row : Row) (next : Next) → IsFit q → best_of (filter (λ (r : Row). is_ready q r.wants.min r) q.rows) ≡ Some row →
+pub launch-next : (q : Plan) (row : Row) (next : NextLaunch) → IsFit q → best_of (filter (λ (r : Row). is_ready q r.wants.min r) q.rows) ≡ Some row →
     IsLaunchOf row q.moment (slots_for q row) next → IsNext q next
 launch-next q row next fit first is = record { row = row; slots = slots_for q row; first = (first-next q row fit first).0; is = is }
 
@@ -203,13 +205,10 @@ queued-waits : (s : JobState) → is_queued s ≡ true → is_waiting s ≡ true
 queued-waits s is = (queued-may_launch s is).waits
 
 -- the booking of a launch may be made
-pub launch-may : (s : Schedule) (p : Plan) (m : ℕ) (row : Row) (n : ℕ) → IsFit p → IsTied s p → p.moment ≤ m → IfSome row.wants.limit (λ (seconds : ℕ). 1 ≤ seconds)
-    → is_booked s.bookings (Job row.job) ≡ false → is_queued (seen_row m p row).course.state ≡ true → slots_of (seen m p) n row.wants ≡ true
-    → MayMake s (launch_booking row m n (planned_end row.wants m))
-launch-may s p m row n fit tied later limit fresh queued has =
+launch-may : (s : Schedule) (p : Plan) (m : ℕ) (row : Row) (n : ℕ) → IsFit p → IsTied s p → p.moment ≤ m → ends_after m (planned_end row.wants m) ≡ true
+    → is_booked s.bookings (Job row.job) ≡ false → slots_of (seen m p) n row.wants ≡ true → MayMake s (launch_booking row m n (planned_end row.wants m))
+launch-may s p m row n fit tied later ahead fresh has =
     let planned = planned_end row.wants m in
-    let late = not-late m (filter (lasts m) p.reservations) row (queued-waits (seen_row m p row).course.state queued) in
-    let ahead : ends_after m planned ≡ true = planned-ahead row.wants m limit late in
     (elim row.wants.reservation as (λ o. option_map_or (has_slots_in (seen m p) n) o (free_of (seen m p) n row.wants) ≡ true
     → MayMake s (option_map_or (λ (r : ReservationId). Same) o (Books (record { key = Job row.job; slots = n; from = m; until = planned })))) [
       | Some r ↦ λ h. tt
@@ -228,21 +227,6 @@ not-started-before m rs r h =
 
 some-is : (a b : Row) → Some a ≡ Some b → a ≡ b
 some-is a b e = cc
-
--- the job that is launched next is not booked
-pub next-fresh : (s : Schedule) (at : ℕ) (p : Plan) (row : Row) → IsFit p → IsTied s p → (let q = advance_plan 0 at p in
-    row_of row.job q.rows ≡ Some (seen_row (max p.moment at) p row)) → is_started (seen_row (max p.moment at) p row).course.state ≡ false → is_booked s.bookings (Job row.job) ≡ false
-next-fresh s at p row fit tied kept idle =
-    let m = max p.moment at in
-    let rs = filter (lasts m) p.reservations in
-    let found : option_map (called_in m rs) (option_map (lapsed m rs) (row_of row.job p.rows)) ≡ Some (seen_row m p row) = sym (row_of-advance 0 at p row.job) ∙ kept in
-    (elim (row_of row.job p.rows) as (λ o. row_of row.job p.rows ≡ o → option_map (called_in m rs) (option_map (lapsed m rs) o) ≡ Some (seen_row m p row) → is_booked s.bookings (Job row.job) ≡ false) [
-      | None ↦ λ e h. absurd (cc)
-      | Some r ↦ λ e h.
-          (let same : timed m rs r ≡ seen_row m p row = some-is (timed m rs r) (seen_row m p row) h in
-          let stopped : is_started (timed m rs r).course.state ≡ false = subst (λ (x : Row). is_started x.course.state ≡ false) (sym same) idle in
-          tied-fresh s p row.job r fit tied e (not-using r (not-started-before m rs r stopped)))
-    ]) refl found
 
 -- what a job that is ready, as it will be, has
 pub record SeenReady (p : Plan) (m : ℕ) (row : Row) : Type 0 where
@@ -268,19 +252,17 @@ seen-slots p m row n ready order is =
     (subst (λ (w : Wants). w.min ≤ w.max) (sym same) order) (subst (λ (w : Wants). IsMost (seen m p) w n) (sym same) is)
 
 -- what is known of the job that is launched next
-pub record NextFacts (s : Schedule) (at m : ℕ) (p : Plan) (row : Row) : Type 0 where
+pub record NextFacts (at m : ℕ) (p : Plan) (row : Row) : Type 0 where
   pub first : next_launch (advance_plan 0 at p) ≡ Some (seen_row m p row, slots_for (advance_plan 0 at p) (seen_row m p row))
   pub ready : is_ready (seen m p) row.wants.min (seen_row m p row) ≡ true
   pub least : 1 ≤ row.wants.min
   pub range : row.wants.min ≤ row.wants.max
-  pub limit : IfSome row.wants.limit (λ (seconds : ℕ). 1 ≤ seconds)
-  pub fresh : is_booked s.bookings (Job row.job) ≡ false
   pub attempt : (seen_row m p row).course.attempt ≤ length (advance_plan 0 at p).changes
   pub slots : slots_for (seen m p) (seen_row m p row) ≡ slots_for (advance_plan 0 at p) (seen_row m p row)
 
-next-facts-at : (s : Schedule) (at : ℕ) (p : Plan) (row : Row) → IsFit p → IsTied s p
-    → best_of (filter (λ (r : Row). is_ready (advance_plan 0 at p) r.wants.min r) (advance_plan 0 at p).rows) ≡ Some (seen_row (max p.moment at) p row) → NextFacts s at (max p.moment at) p row
-next-facts-at s at p row fit tied first =
+next-facts-at : (at : ℕ) (p : Plan) (row : Row) → IsFit p
+    → best_of (filter (λ (r : Row). is_ready (advance_plan 0 at p) r.wants.min r) (advance_plan 0 at p).rows) ≡ Some (seen_row (max p.moment at) p row) → NextFacts at (max p.moment at) p row
+next-facts-at at p row fit first =
     let m = max p.moment at in
     let rs = filter (lasts m) p.reservations in
     let q = advance_plan 0 at p in
@@ -288,7 +270,6 @@ next-facts-at s at p row fit tied first =
     let r = seen_row m p row in
     let found = first-next q r fit_q first in
     let wants : r.wants ≡ row.wants = timed-wants m rs row in
-    let job : r.job ≡ row.job = called-job m rs (lapsed m rs row) ∙ lapsed-job m rs row in
     let sound : IsSound r.wants r.course = row_of-all (λ (x : Row). IsSound x.wants x.course) r.job q.rows r fit_q.sound found.1.kept in
     let alike = seen-advance 0 at p fit in
     record {
@@ -296,22 +277,20 @@ next-facts-at s at p row fit tied first =
       ready = subst (λ (w : Wants). is_ready (seen m p) w.min r ≡ true) wants (sym (ready-same q (let_go (come_to at p)) r.wants.min r alike) ∙ found.1.ready);
       least = subst (λ (w : Wants). 1 ≤ w.min) wants sound.least;
       range = subst (λ (w : Wants). w.min ≤ w.max) wants sound.range;
-      limit = subst (λ (w : Wants). IfSome w.limit (λ (seconds : ℕ). 1 ≤ seconds)) wants sound.limit;
-      fresh = next-fresh s at p row fit tied (subst (λ (j : JobId). row_of j q.rows ≡ Some r) job found.1.kept) found.1.state.idle;
       attempt = row_of-all (λ (x : Row). x.course.attempt ≤ length q.changes) r.job q.rows r fit_q.attempts found.1.kept;
       slots = sym (slots_for-same q (let_go (come_to at p)) r alike);
     }
 
-pub next-facts : (s : Schedule) (at m : ℕ) (p : Plan) (row : Row) → IsFit p → IsTied s p → m ≡ max p.moment at
-    → best_of (filter (λ (r : Row). is_ready (advance_plan 0 at p) r.wants.min r) (advance_plan 0 at p).rows) ≡ Some (seen_row m p row) → NextFacts s at m p row
-next-facts s at m p row fit tied m_is first =
-    subst (λ (n : ℕ). NextFacts s at n p row) (sym m_is) (next-facts-at s at p row fit tied
+pub next-facts : (at m : ℕ) (p : Plan) (row : Row) → IsFit p → m ≡ max p.moment at
+    → best_of (filter (λ (r : Row). is_ready (advance_plan 0 at p) r.wants.min r) (advance_plan 0 at p).rows) ≡ Some (seen_row m p row) → NextFacts at m p row
+next-facts at m p row fit m_is first =
+    subst (λ (n : ℕ). NextFacts at n p row) (sym m_is) (next-facts-at at p row fit
     (subst (λ (n : ℕ). best_of (filter (λ (r : Row). is_ready (advance_plan 0 at p) r.wants.min r) (advance_plan 0 at p).rows) ≡ Some (seen_row n p row)) m_is first))
 
 -- the move of a launch, in the plan that has come to its moment
-pub record Launches (entry : ℕ) (q : Plan) (next : Next) : Type 0 where
+pub record Launches (entry : ℕ) (q : Plan) (next : NextLaunch) : Type 0 where
   pub is : IsMove q next.m
-  pub comes : outcome launch entry q ≡ record { answer = Ok (Some next.launch); plan = moved entry next.m q }
+  pub leads : launch.effect entry q ≡ moved entry next.m q
   pub ties : KeepsTie next.m.booked next.m.job q (moved entry next.m q)
 
 -- a launch goes with its booking
@@ -333,17 +312,13 @@ launch-ties entry q row slots fit kept idle =
       }
     ]) refl
 
-pub launches : (entry : ℕ) (q : Plan) (next : Next) → IsFit q → IsNext q next → Launches entry q next
+launches : (entry : ℕ) (q : Plan) (next : NextLaunch) → IsFit q → IsNext q next → Launches entry q next
 launches entry q next fit is =
     let fact = next_launch-is q (is.row, is.slots) fit.jobs.rising is.first in
     let kept = fact.kept in
-    let told : launch.told q ≡ Some next.launch = ap (option_map (λ (n : Row × ℕ). launch_of n.0 n.1)) is.first ∙ ap (λ (l : Launch). Some l) (sym is.is.launch_is) in
     record {
       is = subst (IsMove q) (sym is.is.move_is) (record { row = is.row; found = kept; home = refl; before = refl });
-      comes = outcome-served launch entry q refl
-          ∙ ap (λ (t : Option Launch). let o : Outcome (Option Launch) = record { answer = Ok t; plan = launch.effect entry q } in o) told
-          ∙ ap (λ (p : Plan). let o : Outcome (Option Launch) = record { answer = Ok (Some next.launch); plan = p } in o)
-          (launch-effect entry q (is.row, is.slots) is.first ∙ ap (λ (m : Move). moved entry m q) (sym is.is.move_is));
+      leads = launch-effect entry q (is.row, is.slots) is.first ∙ ap (λ (m : Move). moved entry m q) (sym is.is.move_is);
       ties = subst (λ (m : Move). KeepsTie m.booked m.job q (moved entry m q)) (sym is.is.move_is) (launch-ties entry q is.row is.slots fit kept fact.state.idle);
     }
 
@@ -384,15 +359,53 @@ look-at at m p o fit m_is look =
     subst (λ (n : ℕ). option_map (seen_row n p) o ≡ best_of (filter (λ (r : Row). is_ready (advance_plan 0 at p) r.wants.min r) (advance_plan 0 at p).rows)) (sym m_is)
     (look-is at p o fit (subst (λ (n : ℕ). option_map (seen_row n p) o ≡ best_of (filter (may_launch n p) (map (seen_row n p) p.rows))) m_is look))
 
--- what the look says of the move, whatever the entry's number
-pub looked : (entry at : ℕ) (p : Plan) (o : Option Next) (next : Next) → IsFit p → o ≡ Some next → IsNextIn (advance_plan 0 at p) o → Launches entry (advance_plan entry at p) next
-looked entry at p o next fit is said =
-    let named : IsNext (advance_plan 0 at p) next = subst (IsNextIn (advance_plan 0 at p)) is said in
-    launches entry (advance_plan entry at p) next (advance-fit entry at p fit) (record { row = named.row; slots = named.slots; first = named.first; is = named.is })
+-- ---- the launch that is next in the plan that has come to a moment
 
-pub looked-fit : (entry at : ℕ) (p : Plan) (next : Next) → IsFit p → Launches entry (advance_plan entry at p) next → IsFit (moved entry next.m (advance_plan entry at p))
-looked-fit entry at p next fit launches =
-    subst (λ (o : Outcome (Option Launch)). IsFit o.plan) launches.comes (outcome-fit launch launch-keeps entry (advance_plan entry at p) (advance-fit entry at p fit))
+-- a job that time has come to, as it is kept
+pub record IsTimed (m : ℕ) (p : Plan) (row : Row) : Type 0 where
+  pub kept : Row
+  pub found : row_of row.job p.rows ≡ Some kept
+  pub same : timed m (filter (lasts m) p.reservations) kept ≡ row
+
+is-timed : (entry at : ℕ) (p : Plan) (row : Row) → row_of row.job (advance_plan entry at p).rows ≡ Some row → IsTimed (max p.moment at) p row
+is-timed entry at p row there =
+    let m = max p.moment at in
+    let rs = filter (lasts m) p.reservations in
+    let found : option_map (called_in m rs) (option_map (lapsed m rs) (row_of row.job p.rows)) ≡ Some row = sym (row_of-advance entry at p row.job) ∙ there in
+    (elim (row_of row.job p.rows) as (λ o. row_of row.job p.rows ≡ o → option_map (called_in m rs) (option_map (lapsed m rs) o) ≡ Some row → IsTimed m p row) [
+      | None ↦ λ e h. absurd (cc)
+      | Some r ↦ λ e h. record { kept = r; found = e; same = some-is (timed m rs r) row h }
+    ]) refl found
+
+-- a job that waits ends after the moment at which it is launched
+timed-ahead : (m : ℕ) (p : Plan) (row : Row) → IsTimed m p row → IfSome row.wants.limit (λ (seconds : ℕ). 1 ≤ seconds) → is_waiting row.course.state ≡ true → ends_after m (planned_end row.wants m) ≡ true
+timed-ahead m p row is limit waits =
+    let rs = filter (lasts m) p.reservations in
+    let wants : is.kept.wants ≡ row.wants = sym (timed-wants m rs is.kept) ∙ ap (λ (r : Row). r.wants) is.same in
+    let late = not-late m rs is.kept (subst (λ (r : Row). is_waiting r.course.state ≡ true) (sym is.same) waits) in
+    planned-ahead row.wants m limit (subst (λ (w : Wants). option_map_or (λ (deadline : ℕ). leb deadline m) w.deadline false ≡ false) wants late)
+
+-- a job that is not started has no booking
+timed-fresh : (s : Schedule) (m : ℕ) (p : Plan) (row : Row) → IsFit p → IsTied s p → IsTimed m p row → is_started row.course.state ≡ false → is_booked s.bookings (Job row.job) ≡ false
+timed-fresh s m p row fit tied is idle =
+    let rs = filter (lasts m) p.reservations in
+    let stopped : is_started (timed m rs is.kept).course.state ≡ false = subst (λ (r : Row). is_started r.course.state ≡ false) (sym is.same) idle in
+    tied-fresh s p row.job is.kept fit tied is.found (not-using is.kept (not-started-before m rs is.kept stopped))
+
+-- its booking may be made
+next-may : (s : Schedule) (entry at : ℕ) (p : Plan) (next : NextLaunch) → IsFit p → IsTied s p → IsNext (advance_plan entry at p) next → MayMake s next.m.booked
+next-may s entry at p next fit tied is =
+    let m = max p.moment at in
+    let q = advance_plan entry at p in
+    let fit_q : IsFit q = advance-fit entry at p fit in
+    let row = is.row in
+    let fact = next_launch-is q (row, is.slots) fit_q.jobs.rising is.first in
+    let sound : IsSound row.wants row.course = row_of-all (λ (x : Row). IsSound x.wants x.course) row.job q.rows row fit_q.sound fact.kept in
+    let ready : is_ready (seen m p) is.slots row ≡ true = sym (ready-same q (let_go (come_to at p)) is.slots row (seen-advance entry at p fit)) ∙ fact.ready_at in
+    let then = is-timed entry at p row fact.kept in
+    subst (λ (move : Move). MayMake s move.booked) (sym is.is.move_is)
+    (launch-may s p m row is.slots fit tied (omega arith) (timed-ahead m p row then sound.limit fact.state.waits) (timed-fresh s m p row fit tied then fact.state.idle)
+    (ready-parts (seen m p) is.slots row ready).has)
 
 -- the booking of a launch is not that of a reservation
 beside-of : (rs : List Accepted) (row : Row) (m n : ℕ) (planned : End) → IsBeside rs (launch_booking row m n planned)
@@ -402,13 +415,9 @@ beside-of rs row m n planned =
       | None ↦ λ moment. refl
     ]
 
-pub looked-beside : (rs : List Accepted) (p : Plan) (o : Option Next) (next : Next) → o ≡ Some next → IsNextIn p o → IsBeside rs next.m.booked
-looked-beside rs p o next is said =
-    let named : IsNext p next = subst (IsNextIn p) is said in
-    subst (λ (m : Move). IsBeside rs m.booked) (sym named.is.move_is) (beside-of rs named.row p.moment named.slots (planned_end named.row.wants p.moment))
-
-pub looked-may : (s : Schedule) (o : Option Next) (next : Next) → o ≡ Some next → MayMakeNext s o → MayMake s next.m.booked
-looked-may s o next is said = subst (MayMakeNext s) is said
+next-beside : (rs : List Accepted) (p : Plan) (next : NextLaunch) → IsNext p next → IsBeside rs next.m.booked
+next-beside rs p next is =
+    subst (λ (m : Move). IsBeside rs m.booked) (sym is.is.move_is) (beside-of rs is.row p.moment is.slots (planned_end is.row.wants p.moment))
 
 -- a launch wants no more room than one change and what a started job may still make
 launch-grows : (m : ℕ) (row : Row) (slots : ℕ) → is_waiting row.course.state ≡ true → grows (launch-move m row slots) ≤ 2
@@ -417,11 +426,43 @@ launch-grows m row slots waits =
     let change : cond {A = ℕ} (is_state row.course.state Running) 0 1 ≤ 1 = elim (is_state row.course.state Running) as (λ b. cond {A = ℕ} b 0 1 ≤ 1) [ true ↦ omega arith | false ↦ omega arith ] in
     omega (arith, one, change)
 
-pub looked-grows : (p : Plan) (o : Option Next) (next : Next) → IsFit p → o ≡ Some next → IsNextIn p o → grows next.m ≤ 2
-looked-grows p o next fit is said =
-    let named : IsNext p next = subst (IsNextIn p) is said in
-    let fact = next_launch-is p (named.row, named.slots) fit.jobs.rising named.first in
-    subst (λ (m : Move). grows m ≤ 2) (sym named.is.move_is) (launch-grows p.moment named.row named.slots fact.state.waits)
+next-grows : (p : Plan) (next : NextLaunch) → IsFit p → IsNext p next → grows next.m ≤ 2
+next-grows p next fit is =
+    let fact = next_launch-is p (is.row, is.slots) fit.jobs.rising is.first in
+    subst (λ (m : Move). grows m ≤ 2) (sym is.is.move_is) (launch-grows p.moment is.row is.slots fact.state.waits)
+
+-- what the book wants of the move, and what it comes to
+pub record MayGo (o : Occasion) (b : Book) (next : NextLaunch) : Type 0 where
+  pub may : MayMake b.calendar next.m.booked
+  pub beside : IsBeside b.reservations.items next.m.booked
+  pub is : IsMove (plan_at o (plan_of b)) next.m
+  pub fits : IsFit (moved o.entry next.m (plan_at o (plan_of b)))
+  pub ties : KeepsTie next.m.booked next.m.job (plan_at o (plan_of b)) (moved o.entry next.m (plan_at o (plan_of b)))
+  pub leads : launch.effect o.entry (plan_at o (plan_of b)) ≡ moved o.entry next.m (plan_at o (plan_of b))
+  pub few : grows next.m ≤ 2
+
+pub may-go : (o : Occasion) (b : Book) (v : View) (next : NextLaunch) → IsBook b → view_of b ≡ v → IsNext (plan_at o v.plan) next → MayGo o b next
+may-go o b v next is_book seen said =
+    let p = plan_of b in
+    let q = plan_at o p in
+    let fit = is_book.fit in
+    let is : IsNext q next = subst (λ (w : View). IsNext (plan_at o w.plan) next) (sym seen) said in
+    let fit_q : IsFit q = advance-fit o.entry o.at p fit in
+    let goes = launches o.entry q next fit_q is in
+    record {
+      may = next-may b.calendar o.entry o.at p next fit is_book.tied is;
+      beside = next-beside b.reservations.items q next is;
+      is = goes.is;
+      fits = subst IsFit goes.leads (launch-keeps.keeps o.entry q fit_q refl);
+      ties = goes.ties;
+      leads = goes.leads;
+      few = next-grows q next fit_q is;
+    }
+
+-- it hands out what the definition tells
+pub next-told : (p : Plan) (o : Option NextLaunch) → IsNextIn p o → option_map handed_out o ≡ launch.told p
+next-told p None is = sym (ap (option_map (λ (n : Row × ℕ). launch_of n.0 n.1)) is)
+next-told p (Some next) is = ap (λ (l : Launch). Some l) is.is.launch_is ∙ sym (ap (option_map (λ (n : Row × ℕ). launch_of n.0 n.1)) is.first)
 
 -- ---- where no slot is free, no job may be launched
 

@@ -1,14 +1,12 @@
 -- Which signal is next once time has come to a moment, and what its handing out comes to.
-use Rattle.std.proofs.Common.{◌≡◌, ℕ, ◌+◌, ◌-◌, Bool, true, false, cond, not, ◌&&◌, ◌==◌, List, [], ◌∷◌, ◌++◌, map, filter, find, max, Option, Some, None, refl, sym, ◌∙◌, ap, subst, arith, append-nil}
+use Rattle.std.proofs.Common.{◌≡◌, ℕ, Bool, true, false, cond, not, ◌&&◌, ◌==◌, List, [], ◌∷◌, ◌++◌, map, filter, find, max, Option, Some, None, refl, sym, ◌∙◌, ap, subst, append-nil}
 use Rattle.std.specs.List.{AllByRecursion, flat_map}
 use Rattle.std.specs.Option.{option_map, option_map_or}
-use Rattle.std.specs.Prelude.{Ok}
 use Rattle.std.proofs.lemmas.Bool.{and_parts, and_from, eqb-true, eq-eqb}
 use Rattle.drmaa_types.specs.States.{is_state, is_started, state_number}
 use Rattle.drmaa_types.specs.declared.changes.Change.{Change}
 use Rattle.drmaa_types.specs.declared.identifiers.JobId.{JobId}
 use Rattle.drmaa_types.specs.declared.states.JobState.{JobState}
-use Rattle.drmaa_model.specs.declared.courses.Course.{Course}
 use Rattle.drmaa_model.specs.declared.courses.Order.{Order}
 use Rattle.drmaa_model.specs.declared.replies.Signal.{Signal}
 use Rattle.drmaa_model.specs.declared.reservations.Accepted.{Accepted}
@@ -17,8 +15,7 @@ use Rattle.drmaa_model.specs.Courses.{is_unasked}
 use Rattle.drmaa_model.specs.Fit.{IsFit}
 use Rattle.drmaa_model.specs.FitLaws.{advance-fit}
 use Rattle.drmaa_model.specs.Launching.{is_alive, is_due_now, next_signal, signal, signal_of, take_first}
-use Rattle.drmaa_model.specs.Operation.{Outcome, outcome}
-use Rattle.drmaa_model.specs.OperationLaws.{outcome-served, own-job}
+use Rattle.drmaa_model.specs.OperationLaws.{own-job}
 use Rattle.drmaa_model.specs.Plan.{Plan}
 use Rattle.drmaa_model.specs.ReportLaws.{signal-keeps}
 use Rattle.drmaa_model.specs.Reporting.{signal_number}
@@ -26,13 +23,18 @@ use Rattle.drmaa_model.specs.RowLaws.{all-implied, rising-found, changes_with_co
 use Rattle.drmaa_model.specs.Rows.{row_of, is_of, with_course, change_of, go_on}
 use Rattle.drmaa_model.specs.Time.{kill_order, advance_plan, lasts, lapsed, called_in, is_due, come_to, let_go, rows_at}
 use Rattle.drmaa_model.specs.TimeLaws.{lapsed-cases, called-cases, lapsed-job, row_of-advance}
-use Rattle.plan_book.specs.Book.{IsMove, moved, is_order, grows, more_orders, owes, owes_kill}
+use Rattle.plan_book.specs.declared.book.Book.{Book}
+use Rattle.plan_book.specs.declared.occasions.Occasion.{Occasion}
+use Rattle.plan_book.specs.Occasions.{plan_at}
+use Rattle.plan_book.specs.Book.{IsBook, IsMove, plan_of, moved, is_order}
 use Rattle.plan_book.specs.Facts.{facts_of}
 use Rattle.plan_book.specs.TieLaws.{tied-same}
 use Rattle.plan_book.specs.Ties.{KeepsTie}
-use Rattle.scheduler_core.specs.declared.signals.Next.{Next}
-use Rattle.scheduler_core.specs.Signals.{is_killed, IsNext, signal_for, take_move}
+use Rattle.scheduler_core.specs.declared.signals.NextSignal.{NextSignal}
+use Rattle.scheduler_core.specs.Signals.{is_killed, IsNext, IsNextIn, signal_for, take_move}
 use Rattle.scheduler_core.specs.Targets.{row_then}
+use Rattle.scheduler_core.specs.View.{View}
+use Rattle.scheduler_core.proofs.ViewSteps.{view_of}
 
 -- ---- the first element that meets a test
 
@@ -205,35 +207,27 @@ go_on-same entry q row fit found =
 
 -- ---- what the handing out comes to
 
-pub record Takes (entry : ℕ) (q : Plan) (next : Next) : Type 0 where
+pub record Takes (entry : ℕ) (q : Plan) (next : NextSignal) : Type 0 where
   pub is : IsMove q (take_move next)
   pub fits : IsFit (moved entry (take_move next) q)
   pub ties : KeepsTie (take_move next).booked (take_move next).job q (moved entry (take_move next) q)
-  pub changes : grows (take_move next) ≡ 0
-  pub orders : more_orders (take_move next) ≡ 0
-  pub comes : outcome signal entry q ≡ record { answer = Ok (Some (signal_for next)); plan = moved entry (take_move next) q }
+  pub leads : signal.effect entry q ≡ moved entry (take_move next) q
 
-told-of : (q : Plan) (next : Next) → IsNext q next → signal_of q next.order ≡ signal_for next
+told-of : (q : Plan) (next : NextSignal) → IsNext q next → signal_of q next.order ≡ signal_for next
 told-of q next n =
     ap (λ (o : Option Row). let s : Signal = record { job = next.order.job; attempt = option_map_or (λ (row : Row). row.course.attempt) o 0; kind = next.order.kind } in s) n.found
     ∙ sym (ap (λ f. let s : Signal = record { job = next.order.job; attempt = f.course.attempt; kind = next.order.kind } in s) n.read)
 
-pub told-next : (q : Plan) (next : Next) → IsNext q next → signal.told q ≡ Some (signal_for next)
+told-next : (q : Plan) (next : NextSignal) → IsNext q next → signal.told q ≡ Some (signal_for next)
 told-next q next n = ap (option_map (signal_of q)) n.first ∙ ap (λ (s : Signal). Some s) (told-of q next n)
 
-same-grows : (c : Course) → (owes c + cond {A = ℕ} (is_state c.state c.state) 0 1) - owes c ≡ 0
-same-grows c = (let stay : cond {A = ℕ} (is_state c.state c.state) 0 1 ≡ 0 = ap (λ b. cond {A = ℕ} b 0 1) (state-same c.state) in omega (arith, stay))
-
-asks-same : (n : ℕ) → (n + 0) - n ≡ 0
-asks-same n = omega arith
-
-takes-next : (entry : ℕ) (q : Plan) (next : Next) → IsFit q → IsNext q next → Takes entry q next
+takes-next : (entry : ℕ) (q : Plan) (next : NextSignal) → IsFit q → IsNext q next → Takes entry q next
 takes-next entry q next fit n =
     let row = n.row in
     let order = next.order in
     let found = own-job order.job q row n.found in
-    let at : Next = record { order = order; facts = facts_of row } in
-    let same : at ≡ next = ap (λ f. let x : Next = record { order = order; facts = f } in x) (sym n.read) in
+    let at : NextSignal = record { order = order; facts = facts_of row } in
+    let same : at ≡ next = ap (λ f. let x : NextSignal = record { order = order; facts = f } in x) (sym n.read) in
     let m = take_move at in
     let due = find-meets (is_due_now q.rows) q.orders order n.first in
     let orders = take-same q.rows order due row.job (sym (row_of-is order.job q.rows row n.found)) q.orders n.first in
@@ -244,14 +238,15 @@ takes-next entry q next fit n =
       is = record { row = row; found = found; home = refl; before = refl };
       fits = subst IsFit effect (signal-keeps.keeps entry q fit refl);
       ties = record { keeps = λ s tied. tied-same row.job row.course q row fit found (moved entry m q) refl refl refl (λ f. refl) s tied };
-      changes = same-grows row.course;
-      orders = asks-same (owes_kill row.course);
-      comes = outcome-served signal entry q refl
-          ∙ ap (λ (s : Option Signal). let o : Outcome (Option Signal) = record { answer = Ok s; plan = signal.effect entry q } in o) (told-next q next n ∙ ap (λ (x : Next). Some (signal_for x)) (sym same))
-          ∙ ap (λ (x : Plan). let o : Outcome (Option Signal) = record { answer = Ok (Some (signal_for at)); plan = x } in o) effect;
+      leads = effect;
     })
 
--- of the order that is next in the plan that has come to its moment; the number of the entry makes no difference to that
-pub takes-then : (entry at : ℕ) (p : Plan) (next : Next) → IsFit p → IsNext (advance_plan 0 at p) next → Takes entry (advance_plan entry at p) next
-takes-then entry at p next fit n =
-    takes-next entry (advance_plan entry at p) next (advance-fit entry at p fit) (record { first = n.first; row = n.row; found = n.found; read = n.read })
+-- what the book wants of the move of an order that is next in the plan that has come to an occasion, and what it comes to
+pub takes-at : (o : Occasion) (b : Book) (v : View) (next : NextSignal) → IsBook b → view_of b ≡ v → IsNext (plan_at o v.plan) next → Takes o.entry (plan_at o (plan_of b)) next
+takes-at o b v next is_book seen said =
+    takes-next o.entry (plan_at o (plan_of b)) next (advance-fit o.entry o.at (plan_of b) is_book.fit) (subst (λ (w : View). IsNext (plan_at o w.plan) next) (sym seen) said)
+
+-- it hands out what the definition tells
+pub signal-told : (q : Plan) (o : Option NextSignal) → IsNextIn q o → option_map signal_for o ≡ signal.told q
+signal-told q None is = sym (ap (option_map (signal_of q)) is)
+signal-told q (Some next) is = sym (told-next q next is)

@@ -1,5 +1,5 @@
 -- What is made ready of a launch before anything changes.
-use Rattle.std.specs.Prelude.{◌≡◌, ℕ, ◌+◌, ◌-◌, ◌<◌, ◌≤◌, Bool, true, false, ◌&&◌, min, List, filter, Option, Some, None, MatchOption}
+use Rattle.std.specs.Prelude.{◌≡◌, ℕ, ◌+◌, ◌-◌, ◌<◌, ◌≤◌, Bool, true, false, ◌&&◌, min, filter, Option, Some, None, MatchOption}
 use Rattle.std.specs.Option.{option_and_then, option_map, option_map_or}
 use Rattle.drmaa_types.specs.Queues.{queue_at}
 use Rattle.drmaa_types.specs.declared.queues.QueueSpec.{QueueSpec}
@@ -10,16 +10,15 @@ use Rattle.drmaa_model.specs.Load.{in_queue, fits}
 use Rattle.drmaa_model.specs.Time.{lasts}
 use Rattle.drmaa_model.specs.TimeLaws.{timed}
 use Rattle.reservation_calendar.specs.declared.bookings.Key.TheVariants.{Job}
-use Rattle.reservation_calendar.specs.Schedules.{Schedule}
 use Rattle.plan_book.specs.declared.moves.Booked.{Booked}
 use Rattle.plan_book.specs.declared.moves.Booked.TheVariants.{Same, Books}
-use Rattle.plan_book.specs.Ties.{MayMake}
+use Rattle.drmaa_model.specs.declared.replies.Launch.{Launch}
 use Rattle.drmaa_model.specs.declared.rows.Row.{Row}
 use Rattle.drmaa_model.specs.Courses.{launched, planned_end}
 use Rattle.drmaa_model.specs.Launching.{launch_of}
 use Rattle.drmaa_model.specs.NextLaunch.{held, is_ready, has_room_in, has_slots_in, next_launch}
 use Rattle.drmaa_model.specs.Plan.{Plan}
-use Rattle.scheduler_core.specs.declared.launches.Next.{Next}
+use Rattle.scheduler_core.specs.declared.launches.NextLaunch.{NextLaunch}
 use Rattle.plan_book.specs.declared.moves.Move.{Move}
 use Rattle.plan_book.specs.declared.moves.Edit.TheVariants.{Keep}
 
@@ -79,20 +78,20 @@ launch-move moment row slots = record {
 }
 
 -- the launch of this row at a moment with so many slots
-pub record IsLaunchOf (row : Row) (moment slots : ℕ) (next : Next) : Type 0 where
+pub record IsLaunchOf (row : Row) (moment slots : ℕ) (next : NextLaunch) : Type 0 where
   pub move_is : next.m ≡ launch-move moment row slots
   pub launch_is : next.launch ≡ launch_of row slots
 
+-- what is handed out
+abbrev pub handed_out : NextLaunch → Launch
+handed_out next = next.launch
+
 -- the launch that is next in a plan
-pub record IsNext (p : Plan) (next : Next) : Type 0 where
+pub record IsNext (p : Plan) (next : NextLaunch) : Type 0 where
   pub row : Row
   pub slots : ℕ
   pub first : next_launch p ≡ Some (row, slots)
   pub is : IsLaunchOf row p.moment slots next
 
-abbrev pub IsNextIn : Plan → Option Next → Type 0
+abbrev pub IsNextIn : Plan → Option NextLaunch → Type 0
 IsNextIn p o = MatchOption o (next_launch p ≡ None) (IsNext p)
-
--- the booking of a launch that is next may be made
-abbrev pub MayMakeNext : Schedule → Option Next → Type 0
-MayMakeNext s o = MatchOption o (Unit {0}) (λ (next : Next). MayMake s next.m.booked)

@@ -1,14 +1,13 @@
 //! The next launch.
-ghost use Rattle.std.specs.Prelude.{true, false, IfSome, ◌≡◌, ◌+◌, ◌^◌, ◌<◌, ◌≤◌, ◌⊎◌, IfOk, OnErr, IsSome, None, Ok};
+ghost use Rattle.std.specs.Prelude.{true, ◌≡◌, ◌+◌, ◌^◌, ◌<◌, ◌≤◌, IfOk, OnErr, None, Ok};
+ghost use Rattle.std.specs.Option.{option_map};
 ghost use Rattle.job_template.specs.Launch.{launch_words};
 ghost use Rattle.drmaa_model.specs.Launching.{launch};
 ghost use Rattle.drmaa_model.specs.NextLaunch.{held, is_ready, slots_for, next_launch};
 ghost use Rattle.drmaa_model.specs.Time.{advance_plan};
-ghost use Rattle.plan_book.specs.Book.{plan_of, calendar_of, IsBook};
-ghost use Rattle.reservation_calendar.specs.Schedules.{is_booked};
-ghost use Rattle.plan_book.specs.Occasions.{plan_at, TakesAt, IsUnsized};
-ghost use Rattle.plan_book.specs.Ties.{MayMake};
-ghost use Rattle.scheduler_core.specs.Launches.{IsLaunchOf, IsNextIn, MayMakeNext, launch_booking, seen, seen_row};
+ghost use Rattle.plan_book.specs.Book.{plan_of, IsBook};
+ghost use Rattle.plan_book.specs.Occasions.{plan_at, StepsAt};
+ghost use Rattle.scheduler_core.specs.Launches.{IsLaunchOf, IsNext, IsNextIn, handed_out, launch_booking, seen, seen_row};
 
 use crate::cores::Core;
 use crate::ready::{first_ready_at, slots_at};
@@ -23,60 +22,45 @@ use std::alloc::{AllocError, Global};
 
 /// The job that is next in order: what its launch does, and what is handed out.
 #[derive(Drop)]
-pub struct Next {
+pub struct NextLaunch {
     pub m: Move,
     pub launch: Launch,
 }
 
 impl Core {
-    /// What would be launched at this moment. Where that is nothing it takes no memory.
+    /// The job that would be launched at this moment, if there is one. Where there is none it takes no memory.
     ///
     /// # Errors
     ///
-    /// Want of memory.
-    pub fn next_launch(&self, at: Moment) -> Result<Option<Launch>, AllocError>
-        ensures next { IfOk result (λ o. o ≡ launch.told (advance_plan 0 at self.now.plan)) }
+    /// Want of memory for the words of the launch.
+    pub fn next_launch(&self, at: Moment) -> Result<Option<NextLaunch>, AllocError>
+        ensures next { IfOk result (IsNextIn (advance_plan 0 at self.now.plan)) }
+        ensures told { IfOk result (λ o. option_map handed_out o ≡ launch.told (advance_plan 0 at self.now.plan)) }
         ensures nothing { next_launch (advance_plan 0 at self.now.plan) ≡ None → result ≡ Ok None }
     {
-        match next_launch(&self.book, self.alloc, at) {
-            Ok(Some(next)) => Ok(Some(next.launch)),
-            Ok(None) => Ok(None),
-            Err(fault) => Err(fault),
-        }
+        next_launch(&self.book, self.alloc, at)
     }
 
-    /// Hands out the job that is next in order, if there is one. Where there is none nothing changes, the moment neither.
+    /// Hands out the job that is next in order.
     ///
     /// # Errors
     ///
-    /// Want of memory for the words of the launch; else a journal that would be too large; else want of memory, for the entry or for
-    /// what the launch changes.
-    pub fn take_launch(&mut self, occasion: Occasion) -> Result<Option<Launch>, NoEntry>
-        ensures nothing { next_launch (plan_at occasion self.old.plan) ≡ None → (result ≡ Ok None) × (self.new.plan ≡ self.old.plan) }
-        ensures left { next_launch (plan_at occasion self.old.plan) ≡ None → self.new.spare ≡ self.old.spare }
-        ensures meets { IsSome (next_launch (plan_at occasion self.old.plan)) →
-            TakesAt occasion launch self.old.plan result self.new.plan ⊎ IsUnsized self.old.plan result self.new.plan }
+    /// A journal that would be too large, and else want of memory, for the entry or for what the launch changes. Nothing has changed
+    /// then.
+    pub fn take_launch(&mut self, occasion: Occasion, next: &NextLaunch) -> Result<(), NoEntry>
+        requires next { IsNext (plan_at occasion self.old.plan) next.now }
+        ensures meets { StepsAt occasion (launch.effect occasion.entry) self.old.plan result self.new.plan }
         ensures spare { self.old.spare ≤ self.new.spare + 2 }
         ensures err { OnErr result (self.old.spare ≤ self.new.spare) }
     {
-        match next_launch(&self.book, self.alloc, occasion.at) {
-            Err(_) => Err(NoEntry::OutOfMemory),
-            Ok(None) => Ok(None),
-            Ok(Some(next)) => {
-                if let Err(fault) = self.book.make(occasion, &next.m) {
-                    return Err(fault);
-                }
-                Ok(Some(next.launch))
-            }
-        }
+        self.book.make(occasion, &next.m)
     }
 }
 
 /// The job that would be launched at this moment.
-fn next_launch(book: &Book, alloc: Global, at: Moment) -> Result<Option<Next>, AllocError>
+fn next_launch(book: &Book, alloc: Global, at: Moment) -> Result<Option<NextLaunch>, AllocError>
     requires book { IsBook book.now }
     ensures next { IfOk result (IsNextIn (advance_plan 0 at (plan_of book.now))) }
-    ensures may { IfOk result (MayMakeNext (calendar_of book.now)) }
     ensures some { next_launch (advance_plan 0 at (plan_of book.now)) ≡ None → result ≡ Ok None }
 {
     let moment = book.moment_at(at);
@@ -93,18 +77,15 @@ fn next_of(
     row: &Row,
     moment: Moment,
     used: u32,
-) -> Result<Next, AllocError>
+) -> Result<NextLaunch, AllocError>
     requires book { IsBook book.now }
     requires later { (plan_of book.now).moment ≤ moment }
     requires used { used ≡ held (plan_of book.now).rows }
     requires ready { is_ready (seen moment (plan_of book.now)) row.now.wants.min (seen_row moment (plan_of book.now) row.now) ≡ true }
     requires range { row.now.wants.min ≤ row.now.wants.max }
     requires least { 1 ≤ row.now.wants.min }
-    requires limit { IfSome row.now.wants.limit (λ seconds. 1 ≤ seconds) }
-    requires fresh { is_booked (calendar_of book.now).bookings (Key.Job row.now.job) ≡ false }
     requires attempt { (seen_row moment (plan_of book.now) row.now).course.attempt + 1 < 2 ^ 32 }
-    ensures may { IfOk result (λ next. MayMake (calendar_of book.now) next.m.booked) }
-    ensures launch { IfOk result (IsLaunchOf (record row.now { course = (seen_row moment (plan_of book.now) row.now).course }) moment (slots_for (seen moment (plan_of book.now)) (seen_row moment (plan_of book.now) row.now))) }
+    ensures { IfOk result (IsLaunchOf (record row.now { course = (seen_row moment (plan_of book.now) row.now).course }) moment (slots_for (seen moment (plan_of book.now)) (seen_row moment (plan_of book.now) row.now))) }
 {
     let before = course_then(book, row, moment);
     let slots = slots_at(book, row, moment, used);
@@ -124,7 +105,7 @@ fn next_of(
         slots,
         words: words_of(alloc, row)?,
     };
-    Ok(Next { m, launch })
+    Ok(NextLaunch { m, launch })
 }
 
 /// The booking of a launch: an ordinary job takes slots of the calendar.

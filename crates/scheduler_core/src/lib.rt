@@ -31,3 +31,5 @@ pub use drmaa_model::{
     Accepted, Indices, Kill, Launch, Phase, Report, Signal, Started, Submitted, Target,
 };
 pub use facts::RowFacts;
+pub use launches::NextLaunch;
+pub use signals::NextSignal;

@@ -1,11 +1,11 @@
 //! The signal that is delivered next. It takes no memory.
-ghost use Rattle.std.specs.Prelude.{◌≡◌, ◌≢◌, ◌≤◌, find, true, Ok, Err, None, IsSome};
+ghost use Rattle.std.specs.Prelude.{◌≡◌, ◌≢◌, ◌≤◌, find, true, Err};
 ghost use Rattle.std.specs.Option.{option_map};
 ghost use Rattle.drmaa_model.specs.Launching.{is_alive, is_due_now, next_signal, signal};
 ghost use Rattle.drmaa_model.specs.Time.{advance_plan, rows_at, kill_order};
 ghost use Rattle.plan_book.specs.Book.{plan_of, IsBook};
-ghost use Rattle.plan_book.specs.Occasions.{plan_at, TakesAt};
-ghost use Rattle.scheduler_core.specs.Signals.{IsNextIn, is_killed, signal_for, take_move};
+ghost use Rattle.plan_book.specs.Occasions.{plan_at, StepsAt};
+ghost use Rattle.scheduler_core.specs.Signals.{IsNext, IsNextIn, is_killed, signal_for, take_move};
 
 use crate::cores::Core;
 use drmaa_model::{NoEntry, Order, Phase, Row, Signal};
@@ -15,48 +15,52 @@ use plan_book::{Book, Booked, Edit, Facts, Move, Occasion};
 
 /// The order that is delivered next, and what is known of its job then.
 #[derive(Clone, Copy)]
-pub struct Next {
+pub struct NextSignal {
     pub order: Order,
     pub facts: Facts,
 }
 
-impl Core {
-    /// The signal that would be handed out at this moment, if there is one. It takes no memory.
-    pub fn next_signal(&self, at: Moment) -> Option<Signal>
-        ensures { result ≡ signal.told (advance_plan 0 at self.now.plan) }
+impl NextSignal {
+    /// What is handed out.
+    pub fn signal(&self) -> Signal
+        ensures { result ≡ signal_for self.now }
     {
-        match next_of(&self.book, at) {
-            Some(next) => Some(signal_for(&next)),
-            None => None,
+        Signal {
+            job: self.order.job,
+            attempt: self.facts.course.attempt,
+            kind: self.order.kind,
         }
     }
+}
 
-    /// Hands out the signal that is next, if there is one: the first in order of asking that was not handed out and whose job
-    /// has a process. Where there is none nothing changes, the moment neither. It takes no memory.
+impl Core {
+    /// The signal that would be handed out at this moment, if there is one: the first in order of asking that was not handed out and
+    /// whose job has a process. It takes no memory.
+    pub fn next_signal(&self, at: Moment) -> Option<NextSignal>
+        ensures next { IsNextIn (advance_plan 0 at self.now.plan) result }
+        ensures told { option_map signal_for result ≡ signal.told (advance_plan 0 at self.now.plan) }
+    {
+        next_of(&self.book, at)
+    }
+
+    /// Hands out the signal that is next. It takes no memory.
     ///
     /// # Errors
     ///
-    /// A journal that would be too large, and else want of memory for the entry.
-    pub fn take_signal(&mut self, occasion: Occasion) -> Result<Option<Signal>, NoEntry>
-        ensures nothing { next_signal (plan_at occasion self.old.plan) ≡ None → (result ≡ Ok None) × (self.new.plan ≡ self.old.plan) × (self.new.spare ≡ self.old.spare) }
-        ensures meets { IsSome (next_signal (plan_at occasion self.old.plan)) →
-            TakesAt occasion signal self.old.plan result self.new.plan }
+    /// A journal that would be too large, and else want of memory for the entry. Nothing has changed then.
+    pub fn take_signal(&mut self, occasion: Occasion, next: &NextSignal) -> Result<(), NoEntry>
+        requires next { IsNext (plan_at occasion self.old.plan) next.now }
+        ensures meets { StepsAt occasion (signal.effect occasion.entry) self.old.plan result self.new.plan }
         ensures spare { self.old.spare ≤ self.new.spare }
         ensures memory { occasion.has_memory ≡ true → result ≢ Err NoEntry.OutOfMemory }
     {
-        let Some(next) = next_of(&self.book, occasion.at) else {
-            return Ok(None);
-        };
-        let m = take_move(&next);
-        if let Err(fault) = self.book.make(occasion, &m) {
-            return Err(fault);
-        }
-        Ok(Some(signal_for(&next)))
+        let m = take_move(next);
+        self.book.make(occasion, &m)
     }
 }
 
 /// The order that is next once time has come to this moment, with what is known of its job then.
-fn next_of(book: &Book, at: Moment) -> Option<Next>
+fn next_of(book: &Book, at: Moment) -> Option<NextSignal>
     requires book { IsBook book.now }
     ensures { IsNextIn (advance_plan 0 at (plan_of book.now)) result }
 {
@@ -64,7 +68,7 @@ fn next_of(book: &Book, at: Moment) -> Option<Next>
         return None;
     };
     match book.facts_at(at, order.job) {
-        Some(facts) => Some(Next { order, facts }),
+        Some(facts) => Some(NextSignal { order, facts }),
         None => None,
     }
 }
@@ -164,19 +168,8 @@ fn kill_order(row: &Row) -> Order
     }
 }
 
-/// What is handed out.
-fn signal_for(next: &Next) -> Signal
-    ensures { result ≡ signal_for next.now }
-{
-    Signal {
-        job: next.order.job,
-        attempt: next.facts.course.attempt,
-        kind: next.order.kind,
-    }
-}
-
 /// The order is handed out, and its job stays as it is.
-fn take_move(next: &Next) -> Move
+fn take_move(next: &NextSignal) -> Move
     ensures { result ≡ take_move next.now }
 {
     Move {

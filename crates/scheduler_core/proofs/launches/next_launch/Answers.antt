@@ -22,8 +22,8 @@ first c =
     let p = plan_of c.args.book.now in
     sym (look-at c.args.at c.moment_at-moment.result p (Some c.in-Some.row.now) c.requires.book.fit c.moment_at-moment.ensures (c.in-Some.ensures {u = tt}))
 
-facts : (c : In-Some) → NextFacts c.args.book.now.calendar c.args.at c.moment_at-moment.result (plan_of c.args.book.now) c.in-Some.row.now
-facts c = next-facts c.args.book.now.calendar c.args.at c.moment_at-moment.result (plan_of c.args.book.now) c.in-Some.row.now c.requires.book.fit c.requires.book.tied c.moment_at-moment.ensures (first c)
+facts : (c : In-Some) → NextFacts c.args.at c.moment_at-moment.result (plan_of c.args.book.now) c.in-Some.row.now
+facts c = next-facts c.args.at c.moment_at-moment.result (plan_of c.args.book.now) c.in-Some.row.now c.requires.book.fit c.moment_at-moment.ensures (first c)
 
 pub next_of-requires-clause-ready : goal.next_of-requires-clause-ready
 next_of-requires-clause-ready c = (facts c).ready
@@ -33,12 +33,6 @@ next_of-requires-clause-range c = (facts c).range
 
 pub next_of-requires-clause-least : goal.next_of-requires-clause-least
 next_of-requires-clause-least c = (facts c).least
-
-pub next_of-requires-clause-limit : goal.next_of-requires-clause-limit
-next_of-requires-clause-limit c = (facts c).limit
-
-pub next_of-requires-clause-fresh : goal.next_of-requires-clause-fresh
-next_of-requires-clause-fresh c = (facts c).fresh
 
 pub next_of-requires-clause-attempt : goal.next_of-requires-clause-attempt
 next_of-requires-clause-attempt c =
@@ -53,9 +47,6 @@ returns-in_err-next_of-in-Some-clause-some c = λ none. (let is = (facts c.befor
 pub returns-in_ok-next_of-in-Some-clause-some : goal.returns-in_ok-next_of-in-Some-clause-some
 returns-in_ok-next_of-in-Some-clause-some c = λ none. (let is = (facts c.before.before.before).first in absurd (cc))
 
-pub returns-in_ok-next_of-in-Some-clause-may : goal.returns-in_ok-next_of-in-Some-clause-may
-returns-in_ok-next_of-in-Some-clause-may c = (c.in_ok-next_of-in-Some.ensures {u = tt}).may
-
 pub returns-in_ok-next_of-in-Some-clause-next : goal.returns-in_ok-next_of-in-Some-clause-next
 returns-in_ok-next_of-in-Some-clause-next c =
     let p = plan_of c.args.book.now in
@@ -65,7 +56,7 @@ returns-in_ok-next_of-in-Some-clause-next c =
     let at = seen_row m p row in
     let next = c.in_ok-next_of-in-Some.field-0 in
     let known = facts c.before.before.before in
-    let made = subst (λ (r : Row). IsLaunchOf r m (slots_for (seen m p) at) next) (sym (timed-only m (filter (lasts m) p.reservations) row)) (c.in_ok-next_of-in-Some.ensures {u = tt}).launch in
+    let made = subst (λ (r : Row). IsLaunchOf r m (slots_for (seen m p) at) next) (sym (timed-only m (filter (lasts m) p.reservations) row)) (c.in_ok-next_of-in-Some.ensures {u = tt}) in
     launch-next q at next (advance-fit 0 c.args.at p c.requires.book.fit) (first c.before.before.before)
     (subst (λ (n : ℕ). IsLaunchOf at n (slots_for q at) next) c.moment_at-moment.ensures
     (subst (λ (n : ℕ). IsLaunchOf at m n next) known.slots made))
