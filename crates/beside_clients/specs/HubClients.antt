@@ -8,9 +8,9 @@ use Rattle.turn_lock.specs.Histories.{BeginsWith}
 use Rattle.turn_lock.specs.Tokens.{Named, IsFree}
 use Rattle.call_history.specs.Clients.{Seat, seen_of, mine_of, number_of}
 use Rattle.call_history.specs.Timed.{StaysTimed}
-use Rattle.notify_hub.specs.Ears.{HaveHeard}
+use Rattle.change_callbacks.specs.Ears.{HaveHeard}
 use Rattle.notify_hub.specs.Hubs.{Following, IsNoteOf, IsNoteAt, FollowsNote}
-use Rattle.notify_hub.specs.Places.{changes_of}
+use Rattle.change_callbacks.specs.Places.{changes_of}
 
 -- Between two calls of a hub no callback is lost, each heard what was handed over, and the places stay.
 pub record KeepsCallbacks {B : Type 0} (counted : B → ℕ) (told : B → Option (List Notification)) (old new : Following B) : Type 0 where

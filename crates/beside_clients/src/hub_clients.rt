@@ -10,8 +10,9 @@ ghost use Rattle.beside_clients.specs.HubClients.{FollowsAll, GoesOn, IsStillBes
 
 use attendant::{Done, Pair};
 use call_history::{Bell, Client, Pace, SharedMachine};
+use change_callbacks::Callback;
 use drmaa_types::{Clock, WaitKind};
-use notify_hub::{Callback, Hub};
+use notify_hub::Hub;
 use std::sync::Wait;
 use std::time::Clock as Pause;
 

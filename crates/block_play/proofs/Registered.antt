@@ -19,12 +19,12 @@ use Rattle.call_history.specs.Calls.{IsUnserved}
 use Rattle.call_history.specs.Clients.{Seat, seen_of, mine_of}
 use Rattle.call_history.specs.Clocks.{Dial}
 use Rattle.call_history.specs.Refused.{refusal_of}
-use Rattle.notify_hub.specs.Ears.{HaveHeard}
+use Rattle.change_callbacks.specs.Ears.{HaveHeard}
 use Rattle.notify_hub.specs.HubLaws.{registered-on, unregistered-on, others-on}
 use Rattle.notify_hub.specs.Hubs.{Following, IsNoteOf, IsNoteAt, FollowsNote, with_place, RegistersOn, IsRegistered, IsUnregistered}
 use Rattle.notify_hub.specs.Hubs.IsUnregistered.{by_entry, by_fault}
-use Rattle.notify_hub.specs.PlaceLaws.{countable}
-use Rattle.notify_hub.specs.Places.{place_of, AreCountable, HasPlace, HavePlaces}
+use Rattle.change_callbacks.specs.PlaceLaws.{countable}
+use Rattle.change_callbacks.specs.Places.{place_of, AreCountable, HasPlace, HavePlaces}
 use Rattle.script_lines.specs.declared.lines.Line.{Line}
 use Rattle.script_lines.specs.declared.lines.Line.TheVariants as line
 use Rattle.script_text.specs.declared.scripts.Script.{Script}

@@ -20,7 +20,7 @@ use Rattle.attendant.specs.declared.reaper.Held.{Held}
 use Rattle.attendant.specs.declared.reaper.Hand.{Hand}
 use Rattle.attendant.specs.Pairs.{launcher_at, reaping_at, HasAttended}
 use Rattle.notify_hub.specs.Hubs.{Following}
-use Rattle.notify_hub.specs.Places.{HavePlaces}
+use Rattle.change_callbacks.specs.Places.{HavePlaces}
 use Rattle.beside_clients.specs.HubClients.{FollowsAll, IsStillBeside, GoesOn}
 use Rattle.beside_clients.proofs.Tending.{Nothing, HaveTended, have-tended}
 use Rattle.drmaa.specs.declared.crews.Crew.{Crew}

@@ -14,12 +14,12 @@ use Rattle.call_history.specs.Calls.{entry_by}
 use Rattle.call_history.specs.Clients.{Seat, seen_of, mine_of, number_of, KnowsItsOwn}
 use Rattle.call_history.specs.Clocks.{Dial}
 use Rattle.call_history.specs.Refused.{refusal_of}
-use Rattle.notify_hub.specs.Ears.{HaveHeard}
+use Rattle.change_callbacks.specs.Ears.{HaveHeard}
 use Rattle.notify_hub.specs.HubLaws.{registered-on, registers-both, registers-none}
 use Rattle.notify_hub.specs.Hubs.{Following, IsNoteOf, IsNoteAt, FollowsNote, with_place, IsRegistered, IsUnregistered}
 use Rattle.notify_hub.specs.Hubs.IsUnregistered.{by_entry, by_fault}
-use Rattle.notify_hub.specs.PlaceLaws.{countable}
-use Rattle.notify_hub.specs.Places.{place_of, AreCountable}
+use Rattle.change_callbacks.specs.PlaceLaws.{countable}
+use Rattle.change_callbacks.specs.Places.{place_of, AreCountable}
 use Rattle.drmaa.specs.Closed.{IsShort, of_memory, of_journal, CannotBegin, short, callbacks, RegistersFrom}
 use Rattle.drmaa.specs.Hubs.{HasRegistered, HaveRegistered}
 

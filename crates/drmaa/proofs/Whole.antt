@@ -29,10 +29,10 @@ use Rattle.attendant.specs.Acts.{acts_of, Each, is_launched}
 use Rattle.attendant.specs.Runs.{is_ended}
 use Rattle.attendant.specs.Outside.{Keeps, AgreesOf, IsLaunchersEntry, IsReapersEntry}
 use Rattle.attendant.specs.Whole.{AgreesWithOutside, AreAlone}
-use Rattle.notify_hub.specs.Ears.{HaveHeard, place_at}
+use Rattle.change_callbacks.specs.Ears.{HaveHeard, place_at}
 use Rattle.notify_hub.specs.Hubs.{Following, MayBe, noted}
-use Rattle.notify_hub.specs.Places.{Follows, HavePlaces, changes_of, place_of}
-use Rattle.notify_hub.specs.Places as places
+use Rattle.change_callbacks.specs.Places.{Follows, HavePlaces, changes_of, place_of}
+use Rattle.change_callbacks.specs.Places as places
 use Rattle.beside_clients.specs.Starts.{AreAsked}
 use Rattle.beside_clients.proofs.Beginnings.{calls-begin, begins-shorter, nothing-after}
 use Rattle.beside_clients.proofs.Outside.{IsClosed, may-note, asked-of, outside-of}

@@ -20,7 +20,7 @@ use Rattle.call_history.specs.Callers.{calls_of}
 use Rattle.attendant.specs.Acts.{Other, acts_of, duty_of, Each, is_launched}
 use Rattle.attendant.specs.Outside.{IsLaunchersEntry, IsReapersEntry}
 use Rattle.attendant.specs.Runs.{is_ended}
-use Rattle.notify_hub.specs.Hearing.{HasHeard}
+use Rattle.change_callbacks.specs.Hearing.{HasHeard}
 use Rattle.drmaa.specs.Works.{caller_at}
 
 -- why launcher and reaper are refused: for want of memory, or since the journal would have this size

@@ -18,9 +18,9 @@ use Rattle.attendant.specs.declared.reaper.Held.{Held}
 use Rattle.attendant.specs.declared.reaper.Hand.{Hand}
 use Rattle.attendant.specs.Outside.{Tends, Keeps, AgreesOf, EndsSettled}
 use Rattle.attendant.specs.Posts.{Post}
-use Rattle.notify_hub.specs.Ears.{HaveHeard}
+use Rattle.change_callbacks.specs.Ears.{HaveHeard}
 use Rattle.notify_hub.specs.Hubs.{Following}
-use Rattle.notify_hub.specs.Places.{HavePlaces}
+use Rattle.change_callbacks.specs.Places.{HavePlaces}
 use Rattle.beside_clients.specs.declared.hub_clients.Seated.{Seated}
 use Rattle.beside_clients.specs.HubClients.{FollowsAll, IsStillBeside}
 use Rattle.drmaa.specs.declared.crews.Crew.{Crew}

@@ -8,8 +8,9 @@ ghost use Rattle.drmaa.specs.Hubs.{HasRegistered, HaveRegistered};
 
 use beside_clients::Seated;
 use call_history::SharedMachine;
+use change_callbacks::Callback;
 use drmaa_types::{Clock, Limit, Refusal};
-use notify_hub::{Callback, Hub};
+use notify_hub::Hub;
 use std::sync::Wait;
 
 /// Registers the callback with this number. A number that is given to another caller first is refused as too many callbacks are; the

@@ -12,6 +12,7 @@ mod seats;
 mod works;
 
 pub use call_history::{Bell, Call, Config, Desk, Entry, Machine, Reply};
+pub use change_callbacks::{Callback, Callbacks, ClosureCallback, MemoryCallback};
 pub use child_spawner::{Fate, FateList, LocalSpawner, MemorySpawner, Spawner};
 pub use client_sessions::{
     Job, JobArray, JobSession, MonitoringSession, Reservation, ReservationSession, SessionManager,
@@ -27,5 +28,4 @@ pub use job_template::{JobTemplate, ReservationTemplate, Start};
 pub use journal_text::{journal_bytes, print_journal};
 pub use local::{plain_config, with_local_clients, with_local_machine};
 pub use machines::{Ended, with_clients, with_machine};
-pub use notify_hub::{Callback, Callbacks, ClosureCallback, MemoryCallback};
 pub use system_clock::{SystemClock, SystemClocks};

@@ -12,9 +12,9 @@ ghost use Rattle.drmaa.specs.Works.{Begins, IsUnread, AreLent, AreLeft, HaveMade
 
 use crate::machines::{Ended, with_clients, with_machine};
 use call_history::{Config, Desk};
+use change_callbacks::{Callback, Callbacks};
 use child_spawner::LocalSpawner;
 use drmaa_types::{Clock, QueueList, Refusal, Text};
-use notify_hub::{Callback, Callbacks};
 use std::alloc::Global;
 use std::sync::Wait;
 use std::thread::Threads;

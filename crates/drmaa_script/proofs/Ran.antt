@@ -9,9 +9,9 @@ use Rattle.drmaa_types.specs.Readings.{Readings}
 use Rattle.drmaa_types.specs.declared.changes.Notification.{Notification}
 use Rattle.drmaa_model.specs.declared.configs.Config.{Config}
 use Rattle.drmaa_model.specs.declared.entries.Entry.{Entry}
-use Rattle.notify_hub.specs.Ears.{HaveHeard}
+use Rattle.change_callbacks.specs.Ears.{HaveHeard}
 use Rattle.notify_hub.specs.Hubs.{Following, MayBe, noted}
-use Rattle.notify_hub.specs.Places.{HaveHeardAll, changes_of}
+use Rattle.change_callbacks.specs.Places.{HaveHeardAll, changes_of}
 use Rattle.script_play.specs.Callbacks.{HearHistory}
 use Rattle.script_text.specs.declared.scripts.Mode.TheVariants as mode
 use Rattle.script_text.specs.declared.scripts.Script.{Script}

@@ -24,6 +24,7 @@ use crate::soaks::run_soak;
 use crate::threads::run_threads;
 use byte_streams::{Sink, Source};
 use call_history::Bell;
+use change_callbacks::{Callback, Callbacks};
 use child_spawner::Spawner;
 use command_words::{Command, command_of};
 use drmaa_types::{Clocks, TextList};
@@ -31,7 +32,6 @@ use journal_commands::{
     Check, Forecast, JournalCommand, Json, Migrate, OfLegal, Recur, Status, has_occurrences,
     run_journal,
 };
-use notify_hub::{Callback, Callbacks};
 use script_commands::{Ended, Output, run_continue, run_play};
 use std::alloc::{AllocError, Global};
 use std::sync::Wait;

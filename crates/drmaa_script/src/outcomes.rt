@@ -1,8 +1,8 @@
 //! What a run of a command leaves.
 ghost use Rattle.std.specs.Prelude.{◌≡◌, []};
 
+use change_callbacks::Callbacks;
 use journal_commands::Status;
-use notify_hub::Callbacks;
 use script_commands::Ended;
 use std::alloc::Global;
 use thread_play::ClockList;

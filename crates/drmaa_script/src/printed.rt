@@ -1,10 +1,10 @@
 //! Callbacks that print what they hear.
 ghost use Rattle.std.specs.Prelude.{◌≡◌, ℕ, ◌+◌, ◌∷◌, [], All, IfOk, IfSome, None, length, slice_get};
 ghost use Rattle.drmaa_types.specs.Readings.{counted_on};
-ghost use Rattle.notify_hub.specs.Hearing.{Hears};
+ghost use Rattle.change_callbacks.specs.Hearing.{Hears};
 
+use change_callbacks::{Callback, Callbacks};
 use drmaa_types::Notification;
-use notify_hub::{Callback, Callbacks};
 use std::alloc::AllocError;
 
 /// How many callbacks hear a run of the program.

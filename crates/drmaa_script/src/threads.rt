@@ -2,7 +2,7 @@
 ghost use Rattle.std.specs.Prelude.{◌≡◌, ◌<◌, ◌≤◌, ℕ, [], length, None, IfSome, IfOk, Ok};
 ghost use Rattle.std.specs.Io.KnownBytes.{IsAtEnd};
 ghost use Rattle.drmaa_types.specs.Counts.{Rose};
-ghost use Rattle.notify_hub.specs.Ears.{HaveHeard};
+ghost use Rattle.change_callbacks.specs.Ears.{HaveHeard};
 ghost use Rattle.script_play.specs.Callbacks.{HearHistory};
 ghost use Rattle.script_text.specs.declared.scripts.Mode.TheVariants as mode;
 ghost use Rattle.thread_play.specs.Hubs.{HearRun};
@@ -16,11 +16,12 @@ ghost use Rattle.journal_commands.specs.Statuses.{IsQuiet, HasRead, HasWritten, 
 use crate::outcomes::Outcome;
 use byte_streams::{Sink, Source, write_all};
 use call_history::Bell;
+use change_callbacks::{Callback, Callbacks};
 use child_spawner::Spawner;
 use drmaa_types::{Bytes, Clocks};
 use journal_commands::{Status, ended_as};
 use journal_text::journal_bytes;
-use notify_hub::{Callback, Callbacks, Hub};
+use notify_hub::Hub;
 use script_commands::{are_enough, read_script};
 use script_text::{Mode, Script};
 use std::alloc::{AllocError, Global};

@@ -6,8 +6,8 @@ use Rattle.std.proofs.lemmas.List.Sums.{sum_by-cons}
 use Rattle.std.proofs.Math.Seq.{drop-append_seam}
 use Rattle.drmaa_types.specs.declared.changes.Change.{Change}
 use Rattle.turn_lock.specs.Histories.{BeginsWith}
-use Rattle.notify_hub.specs.Ears.{from_place, due}
-use Rattle.notify_hub.proofs.Listens.{from_place-append}
+use Rattle.change_callbacks.specs.Ears.{from_place, due}
+use Rattle.change_callbacks.specs.PlaceLaws.{from_place-append}
 
 abbrev pub calls : List Change → List (Option ℕ) → ℕ
 calls changes places = sum_by (λ place. length (from_place changes place)) places

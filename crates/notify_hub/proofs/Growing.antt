@@ -14,7 +14,7 @@ use Rattle.drmaa_model.specs.StepLaws.{step-consistent, step-edges, step-entries
 use Rattle.drmaa_model.specs.Steps.{IsStep}
 use Rattle.drmaa_model.specs.World.{World, opening_world}
 use Rattle.turn_lock.specs.Histories.{BeginsWith}
-use Rattle.notify_hub.specs.Places.{changes_of, is_up_to}
+use Rattle.change_callbacks.specs.Places.{changes_of, is_up_to}
 
 -- of entries up to this one, and of later ones
 pub UpTo : ℕ → Change → Type 0

@@ -1,8 +1,6 @@
 mod Calls
 mod Growing
-mod Listens
 mod Looking
 mod Noting
 mod Pumping
 mod Registrations
-mod Unplaced

@@ -20,7 +20,7 @@ use Rattle.call_history.specs.Clocks.{Dial}
 use Rattle.call_history.specs.Timed.{StaysTimed}
 use Rattle.call_history.specs.TimedLaws.{timed-look}
 use Rattle.notify_hub.specs.Hubs.{LooksOn}
-use Rattle.notify_hub.specs.Places.{changes_of, is_up_to, AreCountable}
+use Rattle.change_callbacks.specs.Places.{changes_of, is_up_to, AreCountable}
 use Rattle.notify_hub.proofs.Growing.{changes-begin, begins-length, place-count}
 
 -- the client looked any number of times, or not at all

@@ -19,14 +19,14 @@ use Rattle.call_history.specs.Calls.{entry_by, IsServed, IsUnserved}
 use Rattle.call_history.specs.ClientLaws.{more-both, makes-both}
 use Rattle.call_history.specs.Clients.{Seat, seen_of, number_of, SeesMore, Makes}
 use Rattle.call_history.specs.Clocks.{Dial}
-use Rattle.notify_hub.specs.Ears.{Listening, place_at, silent}
+use Rattle.change_callbacks.specs.Ears.{Listening, place_at, silent}
 use Rattle.notify_hub.specs.Hubs.{noted, IsNoteOf, MayBe, FollowsNote, IsHub, with_place, IsRegistered, IsUnregistered}
 use Rattle.notify_hub.specs.Hubs.IsUnregistered.{by_entry, by_fault}
-use Rattle.notify_hub.specs.PlacedLaws.{none-there}
-use Rattle.notify_hub.specs.Places.{changes_of, place_of, registrations_of, Follows, AreCountable}
+use Rattle.change_callbacks.specs.PlacedLaws.{none-there}
+use Rattle.change_callbacks.specs.Places.{changes_of, place_of, registrations_of, Follows, AreCountable}
 use Rattle.notify_hub.specs.Registered.{IsNew, IsCounted}
 use Rattle.notify_hub.proofs.Growing.{changes-begin, begins-changes, begins-length}
-use Rattle.notify_hub.specs.RegisterLaws.{place-stays, placed-among}
+use Rattle.change_callbacks.specs.RegisterLaws.{place-stays, placed-among}
 use Rattle.notify_hub.proofs.Registrations.{fewer-begins}
 
 pub begins-nothing : (l : List Entry) → BeginsWith l []

@@ -8,9 +8,9 @@ use Rattle.drmaa_model.specs.declared.configs.Config.{Config}
 use Rattle.drmaa_model.specs.declared.entries.Entry.{Entry}
 use Rattle.drmaa_model.specs.History.{IsLegal}
 use Rattle.turn_lock.specs.Histories.{BeginsWith}
-use Rattle.notify_hub.specs.Ears.{Listening, HaveHeard, EachHeard, due, calls_for}
+use Rattle.change_callbacks.specs.Ears.{Listening, HaveHeard, EachHeard, due, calls_for}
 use Rattle.notify_hub.specs.Hubs.{calls_made}
-use Rattle.notify_hub.specs.Places.{changes_of, AreCountable}
+use Rattle.change_callbacks.specs.Places.{changes_of, AreCountable}
 use Rattle.notify_hub.proofs.Calls.{calls, calls-more, IsNextOf, next-of}
 use Rattle.notify_hub.proofs.Growing.{changes-begin, begins-changes, begins-length}
 

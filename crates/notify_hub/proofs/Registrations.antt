@@ -27,9 +27,9 @@ use Rattle.call_history.specs.Timed.{StaysTimed}
 use Rattle.call_history.specs.TimedLaws.{timed-served, timed-unserved}
 use Rattle.notify_hub.specs.Hubs.{IsUnregistered}
 use Rattle.notify_hub.specs.Hubs.IsUnregistered.{by_entry, by_fault}
-use Rattle.notify_hub.specs.Places.{changes_of, place_of, registrations_of}
+use Rattle.change_callbacks.specs.Places.{changes_of, place_of, registrations_of}
 use Rattle.notify_hub.specs.Registered.{IsRefusal, TellsNone, IsNew}
-use Rattle.notify_hub.specs.RegisterLaws.{run-no_fewer, step-registers, step-refuses, place-last}
+use Rattle.change_callbacks.specs.RegisterLaws.{run-no_fewer, step-registers, step-refuses, place-last}
 
 -- what is told of what was made
 pub ok-told : (made : Result (ℕ × Reply) NoEntry) (r : Result (ℕ × ℕ) Refusal) (P : ℕ → Reply → Type 0) → IfOk r (λ t. made ≡ Ok (t.0, reply.Callback t.1)) → IfOk made (λ m. P m.0 m.1)

@@ -18,12 +18,12 @@ use Rattle.call_history.specs.Calls.{entry_by}
 use Rattle.call_history.specs.ClientLaws.{begins-itself}
 use Rattle.call_history.specs.Clients.{Seat, seen_of, mine_of, number_of}
 use Rattle.call_history.specs.Clocks.{Dial}
-use Rattle.notify_hub.specs.Ears.{Listening, HaveHeard, place_at}
+use Rattle.change_callbacks.specs.Ears.{Listening, HaveHeard, place_at}
 use Rattle.notify_hub.specs.Hubs.{Following, noted, IsNoteOf, IsNoteAt, FollowsNote, with_place, RegistersOn, IsRegistered, IsUnregistered}
 use Rattle.notify_hub.specs.Hubs.IsUnregistered.{by_entry, by_fault}
-use Rattle.notify_hub.specs.Places.{HasPlace, HavePlaces, place_of}
-use Rattle.notify_hub.specs.PlacedLaws.{have-set}
-use Rattle.notify_hub.specs.RegisterLaws.{registers-own, step-registers}
+use Rattle.change_callbacks.specs.Places.{HasPlace, HavePlaces, place_of}
+use Rattle.change_callbacks.specs.PlacedLaws.{have-set}
+use Rattle.change_callbacks.specs.RegisterLaws.{registers-own, step-registers}
 
 begins-then : (a b c : List Entry) → BeginsWith b a → BeginsWith c b → BeginsWith c a
 begins-then a b c f s = record { rest = f.rest ++ s.rest; whole = s.whole ∙ (ap (λ (l : List Entry). l ++ s.rest) f.whole ∙ append_assoc a f.rest s.rest) }

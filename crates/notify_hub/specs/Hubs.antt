@@ -18,8 +18,8 @@ use Rattle.call_history.specs.Clients.{Seat, seen_of, mine_of, number_of, KnowsI
 use Rattle.call_history.specs.Clocks.{Dial}
 use Rattle.call_history.specs.Refused.{refusal_of}
 use Rattle.call_history.specs.Timed.{StaysTimed}
-use Rattle.notify_hub.specs.Ears.{Listening, HaveHeard, from_place}
-use Rattle.notify_hub.specs.Places.{registrations_of, Follows, HavePlaces}
+use Rattle.change_callbacks.specs.Ears.{Listening, HaveHeard, from_place}
+use Rattle.change_callbacks.specs.Places.{registrations_of, Follows, HavePlaces}
 
 -- a hub: its ears, and the note of what its calls have seen; none before the first one
 pub record Following (B : Type 0) : Type 0 where

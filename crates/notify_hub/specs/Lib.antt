@@ -1,12 +1,3 @@
-pub mod Ears
-pub mod Handed
-pub mod Hearing
-pub mod HearingLaws
 pub mod HubLaws
 pub mod Hubs
-pub mod Gathered
-pub mod PlaceLaws
-pub mod PlacedLaws
-pub mod Places
 pub mod Registered
-pub mod RegisterLaws

@@ -8,7 +8,7 @@ use Rattle.drmaa_model.specs.declared.replies.Reply.{Reply}
 use Rattle.drmaa_model.specs.declared.replies.Reply.TheVariants as reply
 use Rattle.drmaa_model.specs.Faults.{refusal_for}
 use Rattle.drmaa_model.specs.ReplyKinds.{kind_of_reply, a_callback, a_refusal}
-use Rattle.notify_hub.specs.Places.{changes_of, place_of, registrations_of, AreCountable}
+use Rattle.change_callbacks.specs.Places.{changes_of, place_of, registrations_of, AreCountable}
 
 -- a reply that is no callback's number is told as its refusal
 pub record IsRefusal (told : Reply) (why : Refusal) : Type 0 where

@@ -13,7 +13,7 @@ ghost use Rattle.call_history.specs.Clients.{seen_of, mine_of, number_of, KnowsI
 ghost use Rattle.call_history.specs.Clocks.{dial};
 ghost use Rattle.call_history.specs.Timed.{StaysTimed};
 ghost use Rattle.notify_hub.specs.Hubs.{noted, IsNoteOf, LooksOn, IsUnregistered};
-ghost use Rattle.notify_hub.specs.Places.{changes_of, is_up_to};
+ghost use Rattle.change_callbacks.specs.Places.{changes_of, is_up_to};
 ghost use Rattle.notify_hub.specs.Registered.{TellsNone, IsNew, IsCounted};
 
 use call_history::{Answer, Call, Client, NoEntry, Note, Question, Reply, SharedMachine};

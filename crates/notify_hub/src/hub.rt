@@ -8,15 +8,14 @@ ghost use Rattle.turn_lock.specs.Tokens.{IsFree};
 ghost use Rattle.call_history.specs.Clients.{seen_of, mine_of, number_of, KnowsItsOwn, SeesMore};
 ghost use Rattle.call_history.specs.Clocks.{dial};
 ghost use Rattle.call_history.specs.Timed.{StaysTimed};
-ghost use Rattle.notify_hub.specs.Ears.{HaveHeard, EachHeard, silent, from_place, place_at};
+ghost use Rattle.change_callbacks.specs.Ears.{HaveHeard, EachHeard, silent, from_place, place_at};
 ghost use Rattle.notify_hub.specs.Hubs.{Following, noted, IsNoteOf, IsNoteAt, MayBe, FollowsNote, IsHub, with_place, calls_made, LooksOn, IsRegistered, IsUnregistered};
-ghost use Rattle.notify_hub.specs.Places.{changes_of, place_of, AreCountable, HaveHeardAll};
+ghost use Rattle.change_callbacks.specs.Places.{changes_of, place_of, AreCountable, HaveHeardAll};
 ghost use Rattle.notify_hub.specs.Registered.{IsCounted};
 
-use crate::ears::Ears;
 use crate::following::{LOOK, changes_from, place_after, recall, register_next};
-use crate::{Callback, Callbacks};
 use call_history::{Client, Note, SharedMachine};
+use change_callbacks::{Callback, Callbacks, Ears};
 use drmaa_types::{Clock, Refusal};
 use std::alloc::Global;
 use std::marker::Model;

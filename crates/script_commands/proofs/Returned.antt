@@ -3,8 +3,8 @@ use Rattle.std.proofs.Common.{◌≡◌, ℕ, List, [], refl, sym, subst, Option
 use Rattle.drmaa_types.specs.declared.changes.Notification.{Notification}
 use Rattle.drmaa_model.specs.declared.configs.Config.{Config}
 use Rattle.drmaa_model.specs.declared.entries.Entry.{Entry}
-use Rattle.notify_hub.specs.Ears.{Listening, HaveHeard}
-use Rattle.notify_hub.specs.HearingLaws.{HasHeard-none}
+use Rattle.change_callbacks.specs.Ears.{Listening, HaveHeard}
+use Rattle.change_callbacks.specs.HearingLaws.{HasHeard-none}
 use Rattle.script_play.specs.CallbackLaws.{current-heard-after, front-heard-after, unheard-front}
 use Rattle.script_play.specs.Callbacks.{AreCurrentAfter, HearFront, HearHistoryAfter, HaveFrontAfter, HearFrontAfter}
 use Rattle.script_play.specs.View.{Start}

@@ -7,7 +7,7 @@ use Rattle.continued_text.specs.Texts.{Spells, IsContinued, byte_limit}
 use Rattle.continued_text.specs.declared.texts.Continued.{Continued}
 use Rattle.journal_check.specs.Faults.{FirstFault}
 use Rattle.journal_text.specs.declared.journals.Journal.{Journal}
-use Rattle.notify_hub.specs.Places.{registrations_of}
+use Rattle.change_callbacks.specs.Places.{registrations_of}
 use Rattle.revival.specs.Stops.{stops}
 use Rattle.revival.specs.declared.revives.ReviveFault.{ReviveFault}
 use Rattle.revival.specs.declared.revives.ReviveFault.TheVariants as fault

@@ -2,7 +2,7 @@
 use Rattle.std.specs.Prelude.{◌≡◌, ℕ, ◌+◌, ◌<◌, nat_lt, filter, List, length, sum_by, slice_index_or, Option, if◌then◌else◌}
 use Rattle.drmaa_types.specs.declared.changes.Notification.{Notification}
 use Rattle.drmaa_model.specs.History.{Ledger}
-use Rattle.notify_hub.specs.Hearing.{HasHeard}
+use Rattle.change_callbacks.specs.Hearing.{HasHeard}
 use Rattle.script_lines.specs.declared.lines.Line.{Line}
 use Rattle.script_text.specs.Follows.{lines_of, is_register}
 use Rattle.script_text.specs.declared.scripts.Script.{Script}

@@ -10,10 +10,10 @@ use Rattle.drmaa_types.specs.declared.changes.Notification.{Notification}
 use Rattle.drmaa_model.specs.declared.configs.Config.{Config}
 use Rattle.drmaa_model.specs.declared.entries.Entry.{Entry}
 use Rattle.drmaa_model.specs.History.{Ledger, now_of}
-use Rattle.notify_hub.specs.Ears.{Listening, EachHeard, due, notifications, place_at}
-use Rattle.notify_hub.specs.Hearing.{HasHeard}
-use Rattle.notify_hub.specs.HearingLaws.{HasHeard-none, HasHeard-then}
-use Rattle.notify_hub.specs.Places.{registrations_of}
+use Rattle.change_callbacks.specs.Ears.{Listening, EachHeard, due, notifications, place_at}
+use Rattle.change_callbacks.specs.Hearing.{HasHeard}
+use Rattle.change_callbacks.specs.HearingLaws.{HasHeard-none, HasHeard-then}
+use Rattle.change_callbacks.specs.Places.{registrations_of}
 use Rattle.script_lines.specs.declared.lines.Line.{Line}
 use Rattle.script_text.specs.declared.scripts.Script.{Script}
 use Rattle.script_text.specs.Follows.{lines_of}

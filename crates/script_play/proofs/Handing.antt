@@ -17,9 +17,9 @@ use Rattle.drmaa_model.specs.Size.{size}
 use Rattle.drmaa_model.specs.StepLaws.{legal-consistent, step-edges}
 use Rattle.drmaa_model.specs.Steps.{answer}
 use Rattle.drmaa_model.specs.World.{World}
-use Rattle.notify_hub.specs.Ears.{Listening, HaveHeard, place_at, silent}
-use Rattle.notify_hub.specs.PlacedLaws as hub_places
-use Rattle.notify_hub.specs.Places.{registrations_of}
+use Rattle.change_callbacks.specs.Ears.{Listening, HaveHeard, place_at, silent}
+use Rattle.change_callbacks.specs.PlacedLaws as hub_places
+use Rattle.change_callbacks.specs.Places.{registrations_of}
 use Rattle.text_codec.specs.Formats.{choose}
 use Rattle.script_lines.specs.declared.lines.Line.{Line}
 use Rattle.script_text.specs.declared.scripts.Script.{Script}

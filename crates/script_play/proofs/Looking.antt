@@ -15,7 +15,7 @@ use Rattle.drmaa_model.specs.Size.{size}
 use Rattle.drmaa_model.specs.Steps.{IsStep, answer}
 use Rattle.drmaa_model.specs.World.{World}
 use Rattle.drmaa_machine.specs.Applying.{served, IsTooLarge}
-use Rattle.notify_hub.specs.Places.{registrations_of}
+use Rattle.change_callbacks.specs.Places.{registrations_of}
 use Rattle.text_codec.specs.Formats.{choose}
 use Rattle.script_lines.specs.declared.lines.Line.{Line}
 use Rattle.script_text.specs.declared.scripts.Script.{Script}

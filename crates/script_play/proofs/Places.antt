@@ -10,10 +10,10 @@ use Rattle.drmaa_model.specs.Heard.{registers}
 use Rattle.drmaa_model.specs.History.{replay, IsLegal}
 use Rattle.drmaa_model.specs.HistoryLaws.{replay-push, replay_from-append, legal-last, legal-prefix, legal_from-back}
 use Rattle.drmaa_model.specs.World.{World, opening_world}
-use Rattle.notify_hub.specs.Ears.{place_at}
-use Rattle.notify_hub.specs.PlacedLaws.{none-there, place-other, unplaced}
-use Rattle.notify_hub.specs.Places.{changes_of, place_of, registrations_of}
-use Rattle.notify_hub.specs.RegisterLaws.{step-registers, run-no_fewer, place-last}
+use Rattle.change_callbacks.specs.Ears.{place_at}
+use Rattle.change_callbacks.specs.PlacedLaws.{none-there, place-other, unplaced}
+use Rattle.change_callbacks.specs.Places.{changes_of, place_of, registrations_of}
+use Rattle.change_callbacks.specs.RegisterLaws.{step-registers, run-no_fewer, place-last}
 use Rattle.script_play.specs.CallbackLaws.{choice-else, le-false}
 use Rattle.script_play.specs.Callbacks.{ArePlacedAfter, place_since}
 

@@ -6,7 +6,7 @@ use Rattle.drmaa_types.specs.declared.changes.Notification.{Notification}
 use Rattle.drmaa_model.specs.declared.configs.Config.{Config}
 use Rattle.drmaa_model.specs.declared.entries.Entry.{Entry}
 use Rattle.drmaa_model.specs.History.{Ledger, now_of}
-use Rattle.notify_hub.specs.Ears.{Listening}
+use Rattle.change_callbacks.specs.Ears.{Listening}
 use Rattle.script_text.specs.declared.scripts.Script.{Script}
 use Rattle.script_text.specs.Follows.{lines_of}
 use Rattle.script_asks.specs.Plays as plays

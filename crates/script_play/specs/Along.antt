@@ -6,8 +6,8 @@ use Rattle.drmaa_model.specs.declared.configs.Config.{Config}
 use Rattle.drmaa_model.specs.declared.entries.Entry.{Entry}
 use Rattle.drmaa_model.specs.History.{Ledger, now_of}
 use Rattle.drmaa_model.specs.World.{World}
-use Rattle.notify_hub.specs.Ears.{Listening, EachHeard, due}
-use Rattle.notify_hub.specs.Places.{registrations_of}
+use Rattle.change_callbacks.specs.Ears.{Listening, EachHeard, due}
+use Rattle.change_callbacks.specs.Places.{registrations_of}
 use Rattle.script_lines.specs.declared.lines.Line.{Line}
 use Rattle.script_text.specs.declared.scripts.Script.{Script}
 use Rattle.script_text.specs.Follows.{lines_of}

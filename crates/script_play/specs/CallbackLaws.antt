@@ -10,11 +10,11 @@ use Rattle.drmaa_model.specs.declared.entries.Entry.{Entry}
 use Rattle.drmaa_model.specs.Heard.{heard}
 use Rattle.drmaa_model.specs.History.{Ledger}
 use Rattle.text_codec.specs.StepLaws.{true_false}
-use Rattle.notify_hub.specs.Ears.{Listening, from_place, notifications, place_at}
-use Rattle.notify_hub.specs.Hearing.{HasHeard}
-use Rattle.notify_hub.specs.HearingLaws.{HasHeard-none}
-use Rattle.notify_hub.specs.PlaceLaws.{heard-all, heard-is}
-use Rattle.notify_hub.specs.Places.{changes_of, place_of}
+use Rattle.change_callbacks.specs.Ears.{Listening, from_place, notifications, place_at}
+use Rattle.change_callbacks.specs.Hearing.{HasHeard}
+use Rattle.change_callbacks.specs.HearingLaws.{HasHeard-none}
+use Rattle.change_callbacks.specs.PlaceLaws.{heard-all, heard-is}
+use Rattle.change_callbacks.specs.Places.{changes_of, place_of}
 use Rattle.script_play.specs.Callbacks.{AreCurrent, HearHistory, HaveFront, HearFront, AreCurrentAfter, HearHistoryAfter, HaveFrontAfter, HearFrontAfter, place_since, heard_since}
 use Rattle.script_play.specs.View.{Start}
 

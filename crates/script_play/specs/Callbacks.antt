@@ -7,9 +7,9 @@ use Rattle.drmaa_model.specs.declared.replies.Reply.{Reply}
 use Rattle.drmaa_model.specs.declared.replies.Reply.TheVariants as reply
 use Rattle.drmaa_model.specs.Heard.{heard}
 use Rattle.drmaa_model.specs.History.{Ledger, now_of}
-use Rattle.notify_hub.specs.Ears.{Listening, HaveHeard, place_at}
-use Rattle.notify_hub.specs.Hearing.{HasHeard}
-use Rattle.notify_hub.specs.Places.{ArePlaced, place_of, registrations_of}
+use Rattle.change_callbacks.specs.Ears.{Listening, HaveHeard, place_at}
+use Rattle.change_callbacks.specs.Hearing.{HasHeard}
+use Rattle.change_callbacks.specs.Places.{ArePlaced, place_of, registrations_of}
 use Rattle.script_play.specs.View.{Start}
 
 -- the number that a reply registers

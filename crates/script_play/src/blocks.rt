@@ -1,6 +1,6 @@
 //! The play of blocks.
 ghost use Rattle.std.specs.Prelude.{◌≡◌, ◌<◌, ◌≤◌, List, ◌∷◌, length, drop, IfOk, OnErr};
-ghost use Rattle.notify_hub.specs.Ears.{HaveHeard};
+ghost use Rattle.change_callbacks.specs.Ears.{HaveHeard};
 ghost use Rattle.script_lines.specs.declared.lines.Line.{Line};
 ghost use Rattle.script_text.specs.Follows.{lines_of};
 ghost use Rattle.script_asks.specs.Plays as plays;
@@ -15,7 +15,7 @@ use crate::hearing::hear;
 use crate::lines::play_line;
 use crate::names::Names;
 use crate::players::Player;
-use notify_hub::{Callback, Ears};
+use change_callbacks::{Callback, Ears};
 use script_text::{Block, Script};
 use std::alloc::AllocError;
 

@@ -1,13 +1,13 @@
 //! Callbacks that hear a play, line by line.
 ghost use Rattle.std.specs.Prelude.{◌≡◌, take, length};
 ghost use Rattle.drmaa_model.specs.History.{IsLegal, now_of};
-ghost use Rattle.notify_hub.specs.Ears.{HaveHeard, silent};
+ghost use Rattle.change_callbacks.specs.Ears.{HaveHeard, silent};
 ghost use Rattle.script_play.specs.Along.{IsHandedOn};
 ghost use Rattle.script_play.specs.Callbacks.{AreCurrentAfter, AreBehind};
 ghost use Rattle.script_play.specs.View.{start_of};
 
 use crate::players::{Counts, Player};
-use notify_hub::{Callback, Ears};
+use change_callbacks::{Callback, Ears};
 
 /// Hands over the changes from this place on, where those before it were handed over.
 fn hand_over<B: Callback>(player: &Player, from: usize, ears: &mut Ears<B>)

@@ -1,14 +1,14 @@
 //! Laws of plays. Each is the contract of a function that does nothing.
 ghost use Rattle.std.specs.Prelude.{ℕ, ◌<◌, List, length};
 ghost use Rattle.drmaa_model.specs.History.{Ledger, now_of};
-ghost use Rattle.notify_hub.specs.Ears.{Listening};
+ghost use Rattle.change_callbacks.specs.Ears.{Listening};
 ghost use Rattle.script_text.specs.declared.scripts.Mode.{Mode};
 ghost use Rattle.script_text.specs.declared.scripts.Script.{Script};
 ghost use Rattle.script_text.specs.Scripts.{Spells};
 ghost use Rattle.script_play.specs.Along.{along_play, HeardPlay, HeardBehind};
 ghost use Rattle.script_play.specs.Playable.{IsPlayable};
 
-use notify_hub::Callback;
+use change_callbacks::Callback;
 
 /// Each script that some lines spell can be played.
 pub fn each_script_can_be_played()

@@ -1,8 +1,8 @@
 //! The play of a script on one thread.
 ghost use Rattle.std.specs.Prelude.{◌≡◌, ◌≤◌, [], ◌++◌, length, Ok, Err, IfOk, OnErr, MatchResult};
 ghost use Rattle.drmaa_model.specs.History.{now_of};
-ghost use Rattle.notify_hub.specs.Ears.{HaveHeard, silent};
-ghost use Rattle.notify_hub.specs.Places.{registrations_of};
+ghost use Rattle.change_callbacks.specs.Ears.{HaveHeard, silent};
+ghost use Rattle.change_callbacks.specs.Places.{registrations_of};
 ghost use Rattle.script_asks.specs.Plays.{serial_play, serial_play_from, opening_in};
 ghost use Rattle.script_play.specs.Along.{after_block_lines, histories, HeardAlong, HeardPart, HeardPlay, HeardPlayPart};
 ghost use Rattle.script_play.specs.Callbacks.{AreCurrent, HaveFront, AreCurrentAfter, HaveFrontAfter};
@@ -13,10 +13,10 @@ ghost use Rattle.script_play.specs.View.{start_of, unplayed};
 use crate::blocks::play_blocks;
 use crate::hearing::pass_over;
 use crate::players::Player;
+use change_callbacks::{Callback, Ears};
 use drmaa_machine::Machine;
 use drmaa_model::Config;
 use drmaa_types::QueueList;
-use notify_hub::{Callback, Ears};
 use script_text::Script;
 use std::alloc::{AllocError, Global};
 

@@ -1,9 +1,9 @@
 //! What callbacks hear of a play on one thread, and of a run in threads.
 use crate::settings::{outcome, sink, source, spawner};
 use byte_streams::MemorySink;
+use change_callbacks::{Callback, Callbacks, MemoryCallback};
 use drmaa_script::Outcome;
 use drmaa_types::JobState;
-use notify_hub::{Callback, Callbacks, MemoryCallback};
 use std::alloc::Global;
 use std::sync::Wait;
 use std::test::Fail;

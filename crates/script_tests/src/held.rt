@@ -7,13 +7,13 @@ use crate::flags::Flags;
 use crate::settings::{is_legal, sink, source, times, words};
 use byte_streams::{MemorySink, MemorySource};
 use call_history::Bell;
+use change_callbacks::{Callback, Callbacks};
 use child_spawner::{Child, Spawner};
 use drmaa_script::{Outcome, run};
 use drmaa_types::{
     CallerId, CallersClock, Clock, Clocks, Exit, Failed, JobId, JobState, Moment, Notification,
     SignalKind, StepClock, TextList,
 };
-use notify_hub::{Callback, Callbacks};
 use std::alloc::Global;
 use std::sync::Wait;
 use std::thread::Threads;

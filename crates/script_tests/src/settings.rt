@@ -1,12 +1,12 @@
 //! What runs are made on, and what is asked of what a run leaves.
 use byte_streams::{MemorySink, MemorySource};
 use call_history::Bell;
+use change_callbacks::{Callbacks, MemoryCallback};
 use child_spawner::{Fate, FateList, MemorySpawner};
 use drmaa_script::{Outcome, run};
 use drmaa_types::{
     Bytes, CallerId, CallersClock, Clocks, Moment, PlaceList, StepClock, Text, TextList,
 };
-use notify_hub::{Callbacks, MemoryCallback};
 use std::alloc::Global;
 use std::process::Abort;
 use std::sync::Wait;

@@ -1,6 +1,6 @@
 //! Ears hand changes to callbacks: what each of them heard.
+use change_callbacks::{Callback, Callbacks, ClosureCallback, Ears, MemoryCallback};
 use drmaa_types::{Change, ChangeBatch, Event, JobId, JobState, Notification};
-use notify_hub::{Callback, Callbacks, ClosureCallback, Ears, MemoryCallback};
 use std::test::Fail;
 
 fn change(entry: u64, job: u64, from: JobState, to: JobState) -> Change {

@@ -1,8 +1,8 @@
 //! Hubs: who is registered, and what each callback heard.
 use crate::hub_calls::Ask;
 use crate::hub_steps::{Step, played};
+use change_callbacks::{Callback, Callbacks, MemoryCallback};
 use drmaa_types::{Control, Event, JobId, JobState, Notification};
-use notify_hub::{Callback, Callbacks, MemoryCallback};
 use std::alloc::Global;
 use std::test::Fail;
 

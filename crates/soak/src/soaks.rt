@@ -6,7 +6,7 @@ ghost use Rattle.soak.specs.Soaks as soaks;
 ghost use Rattle.soak.specs.Soaks.{IsSpelled, soak_summary};
 
 use crate::{Summary, summary_of};
-use notify_hub::{Callbacks, Ears, MemoryCallback};
+use change_callbacks::{Callbacks, Ears, MemoryCallback};
 use script_play::{each_script_can_be_played, play};
 use script_text::{Mode, Script, read_script};
 use soak_laws::{each_soak_is_one_script, no_soak_fills_the_journal};

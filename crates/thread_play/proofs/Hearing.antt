@@ -12,8 +12,8 @@ use Rattle.drmaa_model.specs.declared.entries.Entry.{Entry}
 use Rattle.turn_lock.specs.Tokens.{Named}
 use Rattle.call_history.specs.Callers.{calls_of}
 use Rattle.notify_hub.specs.Hubs.{Following, MayBe, noted}
-use Rattle.notify_hub.specs.PlacedLaws.{all-placed}
-use Rattle.notify_hub.specs.Places.{Follows, HasPlace, HavePlaces, changes_of}
+use Rattle.change_callbacks.specs.PlacedLaws.{all-placed}
+use Rattle.change_callbacks.specs.Places.{Follows, HasPlace, HavePlaces, changes_of}
 use Rattle.script_lines.specs.declared.lines.Line.{Line}
 use Rattle.script_text.specs.declared.scripts.Script.{Script}
 use Rattle.script_asks.specs.declared.given.Given.{Given}

@@ -36,7 +36,7 @@ use Rattle.call_history.specs.ClientLaws.{begins-itself, begins-both}
 use Rattle.call_history.specs.Clocks.{dial}
 use Rattle.call_history.specs.Timed.{HaveStood, IsTimed}
 use Rattle.notify_hub.specs.Hubs.{Following}
-use Rattle.notify_hub.specs.Places.{HavePlaces}
+use Rattle.change_callbacks.specs.Places.{HavePlaces}
 use Rattle.script_lines.specs.declared.lines.Line.{Line}
 use Rattle.script_text.specs.declared.scripts.Script.{Script}
 use Rattle.script_text.specs.Follows.{lines_of}

@@ -6,9 +6,9 @@ use Rattle.drmaa_model.specs.declared.entries.Entry.{Entry}
 use Rattle.turn_lock.specs.Histories.{BeginsWith}
 use Rattle.turn_lock.specs.Tokens.{Named, BelongsTo}
 use Rattle.call_history.specs.Clients.{Seat, seen_of, mine_of, number_of, retired_of}
-use Rattle.notify_hub.specs.Ears.{HaveHeard}
+use Rattle.change_callbacks.specs.Ears.{HaveHeard}
 use Rattle.notify_hub.specs.Hubs.{Following, noted, MayBe}
-use Rattle.notify_hub.specs.Places.{ArePlaced, HavePlaces, changes_of}
+use Rattle.change_callbacks.specs.Places.{ArePlaced, HavePlaces, changes_of}
 use Rattle.beside_clients.specs.HubClients.{FollowsAll}
 
 -- The client is back: the opener has its entries, and has seen what it had.

@@ -5,7 +5,7 @@ ghost use Rattle.drmaa_model.specs.History.{IsLegal};
 ghost use Rattle.turn_lock.specs.Tokens.{BelongsTo};
 ghost use Rattle.call_history.specs.Clients.{seen_of, retired_of};
 ghost use Rattle.attendant.specs.Pairs.{ArePlaced};
-ghost use Rattle.notify_hub.specs.Ears.{HaveHeard};
+ghost use Rattle.change_callbacks.specs.Ears.{HaveHeard};
 ghost use Rattle.notify_hub.specs.Hubs.{IsNoteOf};
 ghost use Rattle.beside_clients.specs.HubClients.{KeepsCallbacks};
 ghost use Rattle.thread_play.specs.Hubs.{HearRun};
@@ -21,12 +21,13 @@ use attendant::{Attended, Pair, Reaper, nothing_is_kept, settle, the_outside_agr
 use beside_clients::{Seated, pump_last};
 use block_play::{Names, Stopped};
 use call_history::{Bell, Machine, MachineOpener, SharedMachine};
+use change_callbacks::Callback;
 use child_spawner::Spawner;
 use drmaa_model::{
     a_legal_history_leads_to_a_consistent_world, a_settled_plan_is_quiet, each_prefix_is_legal,
 };
 use drmaa_types::{CallerId, Clock, Clocks, ListOf};
-use notify_hub::{Callback, Hub};
+use notify_hub::Hub;
 use script_journals::{no_client_asks_what_the_attendant_asks, no_client_registers};
 use script_play::{copy_of, each_script_can_be_played};
 use script_text::Script;

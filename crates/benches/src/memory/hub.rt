@@ -1,6 +1,7 @@
 //! Hubs that are made of the same callbacks, one after the other.
 use crate::command::Ending;
-use notify_hub::{Callback, Callbacks, Hub, MemoryCallback};
+use change_callbacks::{Callback, Callbacks, MemoryCallback};
+use notify_hub::Hub;
 use std::alloc::Global;
 use std::io;
 

@@ -1,5 +1,5 @@
 use Rattle.call_history.specs.Clients.{seen_of}
-use Rattle.notify_hub.specs.PlaceLaws.{countable}
+use Rattle.change_callbacks.specs.PlaceLaws.{countable}
 use Rattle.beside_clients.proofs.hub_clients.pump_once.Goals as goal
 
 pub returns-clause-follows : goal.returns-clause-follows

@@ -1,7 +1,7 @@
 use Rattle.std.proofs.Common.{◌≤◌, length, ap, sym, subst, ◌∙◌}
 use Rattle.std.specs.List.{prefix_len}
 use Rattle.call_history.specs.Clients.{seen_of}
-use Rattle.notify_hub.specs.Places.{is_up_to, changes_of}
+use Rattle.change_callbacks.specs.Places.{is_up_to, changes_of}
 use Rattle.notify_hub.proofs.Looking.{so-far-first, so-far-of, looks-then, count-is, counted-none, counted-some, counted-on}
 use Rattle.notify_hub.proofs.following.place_after.Goals as goal
 

@@ -1,7 +1,7 @@
 use Rattle.std.proofs.Common.{◌≤◌, length}
 use Rattle.call_history.specs.Clients.{seen_of}
 use Rattle.call_history.specs.Clocks.{dial}
-use Rattle.notify_hub.specs.Places.{changes_of}
+use Rattle.change_callbacks.specs.Places.{changes_of}
 use Rattle.notify_hub.proofs.Looking.{SoFar}
 use Rattle.notify_hub.proofs.following.place_after.Given as goal
 

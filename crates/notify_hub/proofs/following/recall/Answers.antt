@@ -4,7 +4,7 @@ use Rattle.turn_lock.specs.Histories.{BeginsWith}
 use Rattle.call_history.specs.Clients.{Seat}
 use Rattle.std.proofs.Common.{Option, refl}
 use Rattle.notify_hub.specs.Hubs.{noted}
-use Rattle.notify_hub.specs.Places.{changes_of}
+use Rattle.change_callbacks.specs.Places.{changes_of}
 use Rattle.notify_hub.proofs.Growing.{changes-begin}
 use Rattle.notify_hub.proofs.Noting.{begins-nothing}
 use Rattle.notify_hub.proofs.following.recall.Goals as goal

@@ -4,7 +4,7 @@ use Rattle.revival.specs.declared.revives.ReviveFault.{ReviveFault}
 use Rattle.journal_commands.specs.declared.status.Status.{Status}
 use Rattle.journal_commands.specs.declared.status.Status.TheVariants.{Memory}
 use Rattle.journal_commands.specs.Statuses.{ended_as}
-use Rattle.notify_hub.specs.Places.{registrations_of}
+use Rattle.change_callbacks.specs.Places.{registrations_of}
 use Rattle.script_play.specs.Callbacks.{HearHistoryAfter, HearFrontAfter}
 use Rattle.script_play.specs.View.{start_of}
 use Rattle.script_commands.specs.declared.plays.Output.TheVariants.{Journal as JournalOutput}

@@ -1,6 +1,6 @@
 use Rattle.std.proofs.Common.{ℕ, List, length, inl, inr, refl, sym, ap, subst, ◌∙◌}
-use Rattle.notify_hub.specs.Ears.{Listening}
-use Rattle.notify_hub.specs.Places.{registrations_of}
+use Rattle.change_callbacks.specs.Ears.{Listening}
+use Rattle.change_callbacks.specs.Places.{registrations_of}
 use Rattle.script_play.specs.View.{start_of}
 use Rattle.script_commands.specs.Outcomes.{PlayedEnds}
 use Rattle.script_commands.specs.Registers.{AreReturned}

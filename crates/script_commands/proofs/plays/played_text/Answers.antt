@@ -2,7 +2,7 @@ use Rattle.std.proofs.Common.{◌≡◌, ℕ, Result, Ok, Err, OnErr, sym, subst
 use Rattle.std.specs.Prelude.{OnOk}
 use Rattle.drmaa_model.specs.History.{Ledger}
 use Rattle.journal_text.specs.Printing.{IsPrintable}
-use Rattle.notify_hub.specs.Places.{registrations_of}
+use Rattle.change_callbacks.specs.Places.{registrations_of}
 use Rattle.script_play.specs.CallbackLaws.{current-front-after}
 use Rattle.script_play.specs.Callbacks.{AreCurrentAfter}
 use Rattle.script_play.specs.View.{start_of}

@@ -1,7 +1,7 @@
 use Rattle.std.proofs.Common.{◌≡◌, ◌+◌, List, ◌++◌, length, take, drop, refl, sym, ap, ◌∙◌, arith, length-take, length-drop}
 use Rattle.drmaa_types.specs.declared.changes.Change.{Change}
 use Rattle.drmaa_model.specs.History.{now_of}
-use Rattle.notify_hub.specs.Ears.{Listening}
+use Rattle.change_callbacks.specs.Ears.{Listening}
 use Rattle.script_play.proofs.Along.{on-none, on-then, on-batch}
 use Rattle.script_play.proofs.Handing.{take-both}
 use Rattle.script_play.proofs.hearing.hand_over.Goals as goal

@@ -1,6 +1,6 @@
 use Rattle.std.proofs.Common.{◌≡◌, ◌-◌, ◌≤◌, length, take}
 use Rattle.drmaa_model.specs.History.{now_of}
-use Rattle.notify_hub.specs.Ears.{HaveHeard}
+use Rattle.change_callbacks.specs.Ears.{HaveHeard}
 use Rattle.script_play.specs.Along.{IsHandedOn}
 use Rattle.script_play.proofs.hearing.hand_over.Given as goal
 

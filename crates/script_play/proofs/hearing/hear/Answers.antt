@@ -1,5 +1,5 @@
 use Rattle.std.proofs.Common.{◌≡◌, ℕ, ◌-◌, ◌≤◌, length, slice_set, Some, sym, ap, subst, ◌∙◌}
-use Rattle.notify_hub.specs.Ears.{Listening, HaveHeard}
+use Rattle.change_callbacks.specs.Ears.{Listening, HaveHeard}
 use Rattle.script_play.specs.Callbacks.{ArePlacedAfter}
 use Rattle.script_play.proofs.Along.{on-placed}
 use Rattle.script_play.proofs.Handing.{handed-first, nothing-registered, registered-now}

@@ -1,7 +1,7 @@
 use Rattle.std.proofs.Common.{◌<◌, sym, subst}
 use Rattle.std.proofs.lemmas.List.{length-map}
 use Rattle.drmaa_model.specs.History.{now_of}
-use Rattle.notify_hub.specs.Places.{registrations_of}
+use Rattle.change_callbacks.specs.Places.{registrations_of}
 use Rattle.script_play.specs.Along.{along_play, histories}
 use Rattle.script_play.proofs.Along.{heard-at}
 use Rattle.script_play.proofs.laws.each_beginning_is_heard.Goals as goal

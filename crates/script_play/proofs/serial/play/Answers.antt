@@ -2,7 +2,7 @@ use Rattle.std.proofs.Common.{[], IfOk, OnErr, refl, subst}
 use Rattle.std.proofs.lemmas.Result.{on_err_weaker}
 use Rattle.drmaa_model.specs.History.{Ledger, now_of}
 use Rattle.script_asks.specs.Plays.{serial_play, serial_play_from}
-use Rattle.notify_hub.specs.Places.{registrations_of}
+use Rattle.change_callbacks.specs.Places.{registrations_of}
 use Rattle.script_play.specs.Along.{along_play, histories, HeardPlay, HeardPlayPart}
 use Rattle.script_play.specs.Callbacks.{HaveFrontAfter}
 use Rattle.script_play.specs.View.{start_of}

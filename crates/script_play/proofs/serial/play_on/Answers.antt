@@ -1,6 +1,6 @@
 use Rattle.std.proofs.Common.{sym, ap, subst, ◌∙◌}
 use Rattle.drmaa_model.specs.History.{Ledger, now_of}
-use Rattle.notify_hub.specs.Places.{registrations_of}
+use Rattle.change_callbacks.specs.Places.{registrations_of}
 use Rattle.script_asks.specs.Plays.{serial_play_from}
 use Rattle.script_play.specs.Callbacks.{AreCurrentAfter, HaveFrontAfter}
 use Rattle.script_play.specs.Served.{IsServed}

@@ -1,5 +1,5 @@
 use Rattle.std.proofs.Common.{◌≡◌, sym, ap, subst, ◌∙◌}
-use Rattle.notify_hub.specs.Ears.{silent}
+use Rattle.change_callbacks.specs.Ears.{silent}
 use Rattle.script_text.specs.declared.scripts.Mode.TheVariants as mode
 use Rattle.soak.proofs.soaks.played.Goals as goal
 

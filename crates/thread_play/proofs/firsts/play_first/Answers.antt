@@ -6,7 +6,7 @@ use Rattle.call_history.specs.Callers.{calls_of}
 use Rattle.call_history.specs.Clients.{Seat, seen_of, mine_of, retired_of, number_of, KnowsItsOwn}
 use Rattle.call_history.specs.Timed.{IsTimed}
 use Rattle.notify_hub.specs.Hubs.{IsNoteOf}
-use Rattle.notify_hub.specs.Places.{HavePlaces}
+use Rattle.change_callbacks.specs.Places.{HavePlaces}
 use Rattle.script_text.specs.Follows.{lines_of}
 use Rattle.script_asks.specs.Plays.{setup_names}
 use Rattle.beside_clients.specs.HubClients.{FollowsAll}

@@ -3,9 +3,9 @@ use Rattle.drmaa_model.specs.declared.entries.Entry.{Entry}
 use Rattle.turn_lock.specs.Histories.{BeginsWith}
 use Rattle.call_history.specs.ClientLaws.{more-both}
 use Rattle.call_history.specs.Clients.{Seat, seen_of, SeesMore}
-use Rattle.notify_hub.specs.Ears.{Listening, place_at}
+use Rattle.change_callbacks.specs.Ears.{Listening, place_at}
 use Rattle.notify_hub.specs.Hubs.{Following, noted, IsNoteOf}
-use Rattle.notify_hub.specs.Places.{changes_of, Follows}
+use Rattle.change_callbacks.specs.Places.{changes_of, Follows}
 use Rattle.notify_hub.proofs.Growing.{begins-changes}
 use Rattle.notify_hub.proofs.Looking.{begins-of, learnt-more}
 use Rattle.notify_hub.proofs.Noting.{begins-on, may-be, follows-note, hub-follows}

@@ -3,7 +3,7 @@ use Rattle.drmaa_model.specs.declared.entries.Entry.{Entry}
 use Rattle.turn_lock.specs.Histories.{BeginsWith}
 use Rattle.call_history.specs.Clients.{Seat, seen_of, SeesMore}
 use Rattle.notify_hub.specs.Hubs.{Following, noted, IsNoteOf, with_place}
-use Rattle.notify_hub.specs.Places.{place_of, Follows, AreCountable}
+use Rattle.change_callbacks.specs.Places.{place_of, Follows, AreCountable}
 use Rattle.notify_hub.proofs.Looking.{begins-of, learnt-more}
 use Rattle.notify_hub.proofs.Noting.{begins-on, may-be, follows-note, hub-follows, hub-ahead, hub-unplaced, legal-begins, place-ahead, placed-follows, placed-is, placed-handed, registered-both, unregistered-both, unregistered-at}
 use Rattle.notify_hub.proofs.hub.Hub.register.Goals as goal

@@ -1,9 +1,9 @@
 use Rattle.std.proofs.Common.{sym, subst, length, take}
 use Rattle.drmaa_model.specs.declared.configs.Config.{Config}
-use Rattle.notify_hub.specs.Ears.{EachHeard, HaveHeard, from_place}
+use Rattle.change_callbacks.specs.Ears.{EachHeard, HaveHeard, from_place}
 use Rattle.notify_hub.specs.Hubs.{Following, noted, MayBe}
-use Rattle.notify_hub.specs.PlaceLaws.{heard-first, heard-all}
-use Rattle.notify_hub.specs.Places.{changes_of, HaveHeardAll}
+use Rattle.change_callbacks.specs.PlaceLaws.{heard-first, heard-all}
+use Rattle.change_callbacks.specs.Places.{changes_of, HaveHeardAll}
 use Rattle.std.proofs.Common.{◌≡◌}
 use Rattle.notify_hub.proofs.hub.Hub.take_back.Goals as goal
 

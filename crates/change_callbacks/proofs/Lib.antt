@@ -1,0 +1,2 @@
+mod Listens
+mod Unplaced

@@ -1,0 +1,9 @@
+pub mod Ears
+pub mod Gathered
+pub mod Handed
+pub mod Hearing
+pub mod HearingLaws
+pub mod PlaceLaws
+pub mod PlacedLaws
+pub mod Places
+pub mod RegisterLaws

@@ -1,5 +1,0 @@
-use Rattle.notify_hub.proofs.Listens.{EachHeard-begun}
-use Rattle.notify_hub.proofs.ears.Ears.new.Goals as goal
-
-pub returns-clause-heard : goal.returns-clause-heard
-returns-clause-heard g c = EachHeard-begun _ _ _ _ _ c.nothing.ensures c.of-begun.ensures c.into_vec.ensures
