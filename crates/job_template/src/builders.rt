@@ -5,9 +5,9 @@
 ghost use Rattle.std.specs.Prelude.{◌≡◌, ◌++◌, ◌∷◌, [], map, Some, true, IfOk, OnOk};
 ghost use Rattle.job_template.specs.Blanks.{blank_template, wallclock};
 
-use crate::additions::{push_texts, text_of};
+use crate::additions::{push_pair, push_text, push_texts, set_text, text_of, when_done};
 use crate::wants::WALLCLOCK_TIME;
-use crate::{JobTemplate, LimitList, Pair, ResourceLimit};
+use crate::{JobTemplate, LimitList, ResourceLimit};
 use drmaa_types::{ListOf, Moment, ReservationId, Text};
 use std::alloc::{AllocError, Global};
 
@@ -62,9 +62,8 @@ impl JobTemplate {
         ensures { IfOk result (λ t. t ≡ record self { args = self.args ++ word.now ∷ [] }) }
     {
         let mut template = self;
-        let text = template.text(word)?;
-        template.args.push(text)?;
-        Ok(template)
+        let done = push_text(&mut template.args, word);
+        when_done(done, template)
     }
 
     /// Adds arguments, in order, behind those that it has (`args`).
@@ -75,8 +74,8 @@ impl JobTemplate {
         ensures { IfOk result (λ t. t ≡ record self { args = self.args ++ map (λ word. word.now) words.now }) }
     {
         let mut template = self;
-        push_texts(&mut template.args, words)?;
-        Ok(template)
+        let done = push_texts(&mut template.args, words);
+        when_done(done, template)
     }
 
     /// Adds an environment variable and its value behind those that it has (`jobEnvironment`). A variable that stands
@@ -88,10 +87,8 @@ impl JobTemplate {
         ensures { IfOk result (λ t. t ≡ record self { job_environment = self.job_environment ++ (record { name = name.now; value = value.now }) ∷ [] }) }
     {
         let mut template = self;
-        let name = template.text(name)?;
-        let value = template.text(value)?;
-        template.job_environment.push(Pair { name, value })?;
-        Ok(template)
+        let done = push_pair(&mut template.job_environment, name, value);
+        when_done(done, template)
     }
 
     /// Sets the job's name (`jobName`).
@@ -102,8 +99,9 @@ impl JobTemplate {
         ensures { IfOk result (λ t. t ≡ record self { job_name = Some name.now }) }
     {
         let mut template = self;
-        template.job_name = Some(template.text(name)?);
-        Ok(template)
+        let alloc = template.args.allocator();
+        let done = set_text(&mut template.job_name, alloc, name);
+        when_done(done, template)
     }
 
     /// Sets the directory that the job runs in (`workingDirectory`).
@@ -114,8 +112,9 @@ impl JobTemplate {
         ensures { IfOk result (λ t. t ≡ record self { working_directory = Some path.now }) }
     {
         let mut template = self;
-        template.working_directory = Some(template.text(path)?);
-        Ok(template)
+        let alloc = template.args.allocator();
+        let done = set_text(&mut template.working_directory, alloc, path);
+        when_done(done, template)
     }
 
     /// Sets the file that its input is read from (`inputPath`).
@@ -126,8 +125,9 @@ impl JobTemplate {
         ensures { IfOk result (λ t. t ≡ record self { input_path = Some path.now }) }
     {
         let mut template = self;
-        template.input_path = Some(template.text(path)?);
-        Ok(template)
+        let alloc = template.args.allocator();
+        let done = set_text(&mut template.input_path, alloc, path);
+        when_done(done, template)
     }
 
     /// Sets the file that its output goes to (`outputPath`).
@@ -138,8 +138,9 @@ impl JobTemplate {
         ensures { IfOk result (λ t. t ≡ record self { output_path = Some path.now }) }
     {
         let mut template = self;
-        template.output_path = Some(template.text(path)?);
-        Ok(template)
+        let alloc = template.args.allocator();
+        let done = set_text(&mut template.output_path, alloc, path);
+        when_done(done, template)
     }
 
     /// Sets the file that its errors go to (`errorPath`); it is not used where they go to the output's file.
@@ -150,8 +151,9 @@ impl JobTemplate {
         ensures { IfOk result (λ t. t ≡ record self { error_path = Some path.now }) }
     {
         let mut template = self;
-        template.error_path = Some(template.text(path)?);
-        Ok(template)
+        let alloc = template.args.allocator();
+        let done = set_text(&mut template.error_path, alloc, path);
+        when_done(done, template)
     }
 
     /// Names the queue that it is of (`queueName`).
@@ -162,8 +164,9 @@ impl JobTemplate {
         ensures { IfOk result (λ t. t ≡ record self { queue_name = Some name.now }) }
     {
         let mut template = self;
-        template.queue_name = Some(template.text(name)?);
-        Ok(template)
+        let alloc = template.args.allocator();
+        let done = set_text(&mut template.queue_name, alloc, name);
+        when_done(done, template)
     }
 
     /// Limits how many seconds a launch of it may last (`resourceLimits`, `WALLCLOCK_TIME`). A limit of 0 seconds, or a
@@ -175,8 +178,8 @@ impl JobTemplate {
         ensures { IfOk result (λ t. t ≡ record self { resource_limits = self.resource_limits ++ wallclock seconds ∷ [] }) }
     {
         let mut template = self;
-        push_wallclock(&mut template.resource_limits, seconds)?;
-        Ok(template)
+        let done = push_wallclock(&mut template.resource_limits, seconds);
+        when_done(done, template)
     }
 
     /// Its errors go to the output's file (`joinFiles`).
@@ -251,13 +254,6 @@ impl JobTemplate {
         let mut template = self;
         template.deadline_time = Some(moment);
         template
-    }
-
-    /// The text of these characters, with memory from where the template has its own.
-    fn text(&self, characters: &str) -> Result<Text, AllocError>
-        ensures { IfOk result (λ text. text ≡ characters.now) }
-    {
-        text_of(self.args.allocator(), characters)
     }
 }
 

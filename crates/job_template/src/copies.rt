@@ -106,15 +106,15 @@ pub fn assembled(
     }
 }
 
-// In groups, since a copy that fails lets go of all that was copied before it.
+// In groups, and the largest last, since a copy that fails lets go of all that was copied before it.
 impl Clone for JobTemplate {
     ghost is_clone = { λ template copy. copy ≡ template };
 
     fn clone(&self) -> Result<JobTemplate, AllocError> {
-        let common = copied_common(self)?;
-        let paths = copied_paths(self)?;
         let args = copied_texts(&self.args)?;
         let environment = copied_pairs(&self.job_environment)?;
+        let paths = copied_paths(self)?;
+        let common = copied_common(self)?;
         Ok(assembled(self, common, paths, args, environment))
     }
 }

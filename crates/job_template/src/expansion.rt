@@ -35,10 +35,10 @@ fn member(alloc: Global, t: &JobTemplate, index: u32) -> Result<JobTemplate, All
 fn with_digits(alloc: Global, t: &JobTemplate, digits: &str) -> Result<JobTemplate, AllocError>
     ensures { IfOk result (λ member. member ≡ with_texts (replaced digits.now 0) t.now) }
 {
-    let common = copied_common(t)?;
-    let paths = expanded_paths(alloc, t, digits)?;
     let args = expanded_texts(alloc, &t.args, digits)?;
     let environment = expanded_pairs(alloc, &t.job_environment, digits)?;
+    let paths = expanded_paths(alloc, t, digits)?;
+    let common = copied_common(t)?;
     Ok(assembled(t, common, paths, args, environment))
 }
 

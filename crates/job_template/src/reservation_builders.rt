@@ -4,7 +4,7 @@
 ghost use Rattle.std.specs.Prelude.{◌≡◌, Some, IfOk};
 ghost use Rattle.job_template.specs.Blanks.{blank_reservation};
 
-use crate::additions::text_of;
+use crate::additions::{set_text, when_done};
 use crate::{ReservationTemplate, Start};
 use drmaa_types::{ListOf, Moment};
 use std::alloc::{AllocError, Global};
@@ -44,8 +44,9 @@ impl ReservationTemplate {
         ensures { IfOk result (λ t. t ≡ record self { reservation_name = Some name.now }) }
     {
         let mut template = self;
-        template.reservation_name = Some(text_of(template.others.allocator(), name)?);
-        Ok(template)
+        let alloc = template.others.allocator();
+        let done = set_text(&mut template.reservation_name, alloc, name);
+        when_done(done, template)
     }
 
     /// It begins at this moment (`startTime`); with an end and a duration, at this moment or later.
