@@ -28,7 +28,9 @@ use crate::applying::serve;
 use crate::looks::{look_in, must_wait_in, reserve_in};
 use crate::waits::Awaited;
 use drmaa_model::{Accepted, Answer, Call, Config, Entry, NoEntry, Question, Reply, Row, Started};
-use drmaa_types::{CallerId, Change, End, InfoList, JobId, Moment, Refusal, ReservationList, Text};
+use drmaa_types::{
+    CallerId, Change, End, InfoList, JobId, Moment, QueueList, Refusal, ReservationList, Text,
+};
 use machine_readings::Store;
 use scheduler_core::Core;
 use session_table::SessionTable;
@@ -227,7 +229,8 @@ impl Machine {
 
     /// The moment to which time has come. It takes no memory.
     pub fn moment(&self) -> Moment
-        ensures { result ≡ (now_of self.now.ledger).plan.moment }
+        ensures moment { result ≡ (now_of self.now.ledger).plan.moment }
+        ensures legal { IsLegal self.now.ledger.config self.now.ledger.history }
     {
         self.store.core.moment()
     }
@@ -244,6 +247,21 @@ impl Machine {
         ensures { result.now ≡ (now_of self.now.ledger).plan.reservations }
     {
         self.store.core.reservations()
+    }
+
+    /// The slots of the machine.
+    pub fn slots(&self) -> u32
+        ensures slots { result ≡ (now_of self.now.ledger).plan.total }
+        ensures consistent { IsConsistent (now_of self.now.ledger) }
+    {
+        self.store.config.slots
+    }
+
+    /// The queues of the machine, in order of place.
+    pub fn queues(&self) -> &QueueList
+        ensures { result.now ≡ (now_of self.now.ledger).plan.queues }
+    {
+        &self.store.config.queues
     }
 
     /// The slots that all jobs hold.
@@ -264,7 +282,9 @@ impl Machine {
     /// The started job of least number that is this one or above it, at the greater of this moment and the machine's. It takes
     /// no memory and makes no entry.
     pub fn started(&self, at: Moment, from: JobId) -> Option<Started>
-        ensures { result ≡ option_map started_of (started_from from.0 (advance (now_of self.now.ledger) at).plan.rows) }
+        ensures found { result ≡ option_map started_of (started_from from.0 (advance (now_of self.now.ledger) at).plan.rows) }
+        ensures legal { IsLegal self.now.ledger.config self.now.ledger.history }
+        ensures few { length self.now.ledger.history ≤ 4_000_000 }
     {
         self.store.core.started(at, from)
     }

@@ -35,8 +35,7 @@ pub fn end_asked(machine: &mut Machine, at: Moment)
 {
     let mut from = JobId(0);
     'jobs: while let Some(found) = machine.started(at, from) {
-        // The world is consistent, so that there is a number above this one.
-        let _entries = machine.entries();
+        // The history is legal, so that there is a number above this one.
         let next = JobId(found.job.0 + 1);
         end_one(machine, at, from, &found);
         from = next;

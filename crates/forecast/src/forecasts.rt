@@ -22,7 +22,6 @@ pub fn forecast(alloc: Global, mut machine: Machine) -> Result<PredictedList, Fo
     ensures ok { IfOk result (λ starts. AreForetold (now_of machine.ledger) starts) }
     ensures full { (size : ℕ) → result ≡ Err (ForecastFault.Journal size) → IsFull (now_of machine.ledger) size }
 {
-    let _entries = machine.entries();
     let mut starts = Vec::new(alloc);
     let mut at = machine.moment();
     'moments: loop {

@@ -42,12 +42,10 @@ fn end_one(machine: &mut Machine, at: Moment, from: JobId, found: &Started)
 pub(crate) fn end_started(machine: &mut Machine)
     ensures ends { IsStopped machine.old.ledger machine.new.ledger }
 {
-    let _entries = machine.entries();
     let at = machine.moment();
     let mut from = JobId(0);
     'jobs: while let Some(found) = machine.started(at, from) {
-        // The world is consistent, so that there is a number above this one.
-        let _entries = machine.entries();
+        // The history is legal, so that there is a number above this one.
         let next = JobId(found.job.0 + 1);
         end_one(machine, at, from, &found);
         from = next;

@@ -1,9 +1,8 @@
 //! The reasons of a job of a machine, as the machine is now.
 ghost use Rattle.std.specs.Prelude.{◌≡◌, ◌++◌, IfOk, OnOk, [], ◌∷◌};
 ghost use Rattle.std.specs.Option.{option_map_or};
-ghost use Rattle.drmaa_model.specs.Fit.{IsFit};
 ghost use Rattle.drmaa_model.specs.History.{now_of};
-ghost use Rattle.wait_reasons.specs.Sums.{IsKnown};
+ghost use Rattle.wait_reasons.specs.Sums.{IsKnown, IsSummable};
 ghost use Rattle.wait_reasons.specs.Reasons as reasons;
 
 use crate::conditions::{
@@ -13,27 +12,9 @@ use crate::reasons::{Reason, ReasonList};
 use crate::sums::{Known, Share};
 use drmaa_machine::Machine;
 use drmaa_model::{Accepted, Row, Wants};
-use drmaa_types::{ListOf, QueueList, ReservationId, queue_at};
+use drmaa_types::{ListOf, ReservationId, queue_at};
 use plan_book::courses::planned_end;
 use std::alloc::{AllocError, Global};
-
-/// The slots of a machine.
-fn total_of(machine: &Machine) -> u32
-    ensures total { result ≡ (now_of machine.now.ledger).plan.total }
-    ensures fit { IsFit (now_of machine.now.ledger).plan }
-{
-    // The world is consistent, so that it has the slots of its configuration.
-    let _entries = machine.entries();
-    machine.config().slots
-}
-
-/// The queues of a machine.
-pub(crate) fn queues_of(machine: &Machine) -> &QueueList
-    ensures { result.now ≡ (now_of machine.now.ledger).plan.queues }
-{
-    let _entries = machine.entries();
-    &machine.config().queues
-}
 
 /// As many members of its array hold slots as may.
 fn push_array(
@@ -42,6 +23,7 @@ fn push_array(
     wants: &Wants,
     known: &mut Known,
 ) -> Result<(), AllocError>
+    requires sums { IsSummable (now_of machine.now.ledger).plan }
     requires known { IsKnown (now_of machine.now.ledger).plan.rows known.old }
     ensures added { OnOk result (list.new.items ≡ list.old.items ++ reasons.array_reason (now_of machine.now.ledger).plan.rows wants.now) }
     ensures known { IsKnown (now_of machine.now.ledger).plan.rows known.new }
@@ -52,17 +34,20 @@ fn push_array(
     let Some(array) = wants.array else {
         return Ok(());
     };
-    // No more members hold slots than there are.
-    let _total = total_of(machine);
     let holding = known.sum(machine.rows(), Share::Array(array));
     push_unless(list, holding < bound, Reason::ArrayFull { holding, bound })
 }
 
 /// Fewer slots are free.
-fn push_free(list: &mut Vec<Reason>, machine: &Machine, slots: u32) -> Result<(), AllocError>
+fn push_free(
+    list: &mut Vec<Reason>,
+    machine: &Machine,
+    slots: u32,
+    total: u32,
+) -> Result<(), AllocError>
+    requires { total ≡ (now_of machine.now.ledger).plan.total }
     ensures { OnOk result (list.new.items ≡ list.old.items ++ reasons.free_reason (now_of machine.now.ledger).plan slots) }
 {
-    let total = total_of(machine);
     let held = machine.held();
     push_unless(
         list,
@@ -82,14 +67,14 @@ fn push_queue(
     place: u32,
     known: &mut Known,
 ) -> Result<(), AllocError>
+    requires sums { IsSummable (now_of machine.now.ledger).plan }
     requires known { IsKnown (now_of machine.now.ledger).plan.rows known.old }
     ensures added { OnOk result (list.new.items ≡ list.old.items ++ reasons.queue_reason (now_of machine.now.ledger).plan slots place) }
     ensures known { IsKnown (now_of machine.now.ledger).plan.rows known.new }
 {
-    let Some(queue) = queue_at(queues_of(machine), place) else {
+    let Some(queue) = queue_at(machine.queues(), place) else {
         return Ok(());
     };
-    let _total = total_of(machine);
     let used = known.sum(machine.rows(), Share::Queue(place));
     push_unless(
         list,
@@ -110,6 +95,7 @@ fn push_ordinary(
     wants: &Wants,
     known: &mut Known,
 ) -> Result<(), AllocError>
+    requires sums { IsSummable (now_of machine.now.ledger).plan }
     requires known { IsKnown (now_of machine.now.ledger).plan.rows known.old }
     ensures added { OnOk result (list.new.items ≡ list.old.items ++ reasons.ordinary_reasons (now_of machine.now.ledger).plan slots wants.now) }
     ensures known { IsKnown (now_of machine.now.ledger).plan.rows known.new }
@@ -132,6 +118,7 @@ fn push_inside(
     a: &Accepted,
     known: &mut Known,
 ) -> Result<(), AllocError>
+    requires sums { IsSummable (now_of machine.now.ledger).plan }
     requires known { IsKnown (now_of machine.now.ledger).plan.rows known.old }
     ensures added { OnOk result (list.new.items ≡ list.old.items ++ reasons.inside_reasons (now_of machine.now.ledger).plan slots number a.now) }
     ensures known { IsKnown (now_of machine.now.ledger).plan.rows known.new }
@@ -142,7 +129,6 @@ fn push_inside(
         until: a.until,
     };
     push_unless(list, covers(a, machine.moment()), outside)?;
-    let _total = total_of(machine);
     let used = known.sum(machine.rows(), Share::Reservation(number));
     let full = Reason::ReservationFull {
         reservation: number,
@@ -160,6 +146,7 @@ fn push_reserved(
     number: ReservationId,
     known: &mut Known,
 ) -> Result<(), AllocError>
+    requires sums { IsSummable (now_of machine.now.ledger).plan }
     requires known { IsKnown (now_of machine.now.ledger).plan.rows known.old }
     ensures added { OnOk result (list.new.items ≡ list.old.items ++ reasons.reservation_reasons (now_of machine.now.ledger).plan slots number) }
     ensures known { IsKnown (now_of machine.now.ledger).plan.rows known.new }
@@ -177,6 +164,7 @@ fn push_coming(
     row: &Row,
     known: &mut Known,
 ) -> Result<(), AllocError>
+    requires sums { IsSummable (now_of machine.now.ledger).plan }
     requires known { IsKnown (now_of machine.now.ledger).plan.rows known.old }
     ensures added { OnOk result (list.new.items ≡ list.old.items ++ reasons.coming_reasons (now_of machine.now.ledger).plan row.now) }
     ensures known { IsKnown (now_of machine.now.ledger).plan.rows known.new }
@@ -194,6 +182,7 @@ fn push_places(
     wants: &Wants,
     known: &mut Known,
 ) -> Result<(), AllocError>
+    requires sums { IsSummable (now_of machine.now.ledger).plan }
     requires known { IsKnown (now_of machine.now.ledger).plan.rows known.old }
     ensures added { OnOk result (list.new.items ≡ list.old.items ++ reasons.place_reasons (now_of machine.now.ledger).plan slots wants.now) }
     ensures known { IsKnown (now_of machine.now.ledger).plan.rows known.new }
@@ -216,9 +205,10 @@ pub(crate) fn reasons_with(
     ensures known { IsKnown (now_of machine.now.ledger).plan.rows known.new }
 {
     let slots = row.wants.min;
+    let total = machine.slots();
     let mut list = Vec::new(alloc);
     push_coming(&mut list, machine, row, known)?;
-    push_free(&mut list, machine, slots)?;
+    push_free(&mut list, machine, slots, total)?;
     push_places(&mut list, machine, slots, &row.wants, known)?;
     Ok(list)
 }

@@ -4,7 +4,7 @@ ghost use Rattle.drmaa_model.specs.History.{now_of};
 ghost use Rattle.wait_reasons.specs.Sums.{IsKnown};
 ghost use Rattle.wait_reasons.specs.Texts as texts;
 
-use crate::finding::{queues_of, reasons_with};
+use crate::finding::reasons_with;
 use crate::printed::push_reasons;
 use crate::sums::Known;
 use drmaa_machine::Machine;
@@ -31,7 +31,7 @@ fn push_waiting(
     let reasons = reasons_with(alloc, machine, row, known)?;
     out.push_str(digits.format(row.job.0))?;
     out.push_str("\t")?;
-    push_reasons(out, alloc, queues_of(machine), &reasons)?;
+    push_reasons(out, alloc, machine.queues(), &reasons)?;
     out.push_str("\n")
 }
 

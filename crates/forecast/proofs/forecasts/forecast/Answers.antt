@@ -11,9 +11,9 @@ use Rattle.forecast.proofs.forecasts.forecast.Goals as goal
 
 pub moments-init : goal.moments-init
 moments-init c = record {
-  fresh = subst (λ (n : ℕ). IsFresh n c.args.machine.ledger c.args.machine.ledger c.new-starts.result.items) (sym c.moment-at.ensures)
+  fresh = subst (λ (n : ℕ). IsFresh n c.args.machine.ledger c.args.machine.ledger c.new-starts.result.items) (sym c.moment-at.ensures.moment)
       (subst (λ (xs : List Predicted). IsFresh (now_of c.args.machine.ledger).plan.moment c.args.machine.ledger c.args.machine.ledger xs) (sym c.new-starts.ensures.items)
-      (first-moment c.args.machine.ledger c.entries-entries.ensures.legal (omega (arith, c.moment-at.ensures))));
+      (first-moment c.args.machine.ledger c.moment-at.ensures.legal (omega (arith, c.moment-at.ensures.moment))));
 }
 
 pub moments-preserved : goal.moments-preserved

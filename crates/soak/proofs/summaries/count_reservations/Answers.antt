@@ -11,4 +11,4 @@ pub returns-in-Ok : goal.returns-in-Ok
 returns-in-Ok c =
     let w = advance (now_of c.args.machine.now.ledger) c.moment.result in
     ap length (c.as_slice.ensures ∙ c.in-Ok.ensures.ok) ∙ length-map w.plan.reservations (reservation_info w)
-    ∙ ap (λ (p : Plan). length p.reservations) (still c.args.machine.now.ledger c.moment.result c.requires c.moment.ensures)
+    ∙ ap (λ (p : Plan). length p.reservations) (still c.args.machine.now.ledger c.moment.result c.requires c.moment.ensures.moment)

@@ -8,7 +8,7 @@ use Rattle.wait_reasons.proofs.finding.push_array.Goals as goal
 pub sum-holding-requires-clause-few : goal.sum-holding-requires-clause-few
 sum-holding-requires-clause-few c =
     let p = (now_of c.args.machine.now.ledger).plan in
-    let few : sum_of (Array c.in-Some-array.array) p.rows ≤ p.total = members-few c.in-Some-array.array p c.total_of-total.ensures.fit in
-    let total = c.total_of-total.ensures.total in
+    let few : sum_of (Array c.in-Some-array.array) p.rows ≤ p.total = members-few c.in-Some-array.array p c.requires.sums.fit in
+    let total = c.requires.sums.total in
     let same = ap (sum_of (Array c.in-Some-array.array)) c.rows.ensures in
     omega arith

@@ -8,7 +8,7 @@ use Rattle.wait_reasons.proofs.finding.push_queue.Goals as goal
 pub sum-used-requires-clause-few : goal.sum-used-requires-clause-few
 sum-used-requires-clause-few c =
     let p = (now_of c.args.machine.now.ledger).plan in
-    let few : sum_of (Queue c.args.place) p.rows ≤ p.total = queue-few c.args.place p c.total_of-total.ensures.fit in
-    let total = c.total_of-total.ensures.total in
+    let few : sum_of (Queue c.args.place) p.rows ≤ p.total = queue-few c.args.place p c.requires.sums.fit in
+    let total = c.requires.sums.total in
     let same = ap (sum_of (Queue c.args.place)) c.rows.ensures in
     omega arith
