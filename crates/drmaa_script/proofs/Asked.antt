@@ -1,5 +1,5 @@
 -- Words ask for one command; and how a command ends for which memory ran out before anything was read.
-use Rattle.std.proofs.Common.{◌≡◌, ◌⊎◌, ℕ, Bool, false, List, [], Option, Some, None, inl, inr, refl, sym, subst}
+use Rattle.std.proofs.Common.{◌≡◌, ◌⊎◌, ℕ, Bool, false, List, [], Option, Some, None, inl, inr, refl, subst}
 use Rattle.std.specs.Prelude.{IfSome, MatchBool, MatchOption}
 use Rattle.command_words.specs.Commands.{AsksFor}
 use Rattle.command_words.specs.CommandLaws.{one_command}
@@ -36,7 +36,7 @@ cannot_be b P is m = subst (λ (c : Bool). MatchBool c P (P → ⊥)) is m
 pub none_asked : (words : List (List ℕ)) (found : Command) → AsksFor words found → (CanRun found → ⊥) → NamesNone words
 none_asked words found spelled cannot = λ command asks. cannot (subst CanRun (one_command words command found asks.words_are spelled) asks.can)
 
-memory_whole : (command : Command) (callbacks : ℕ) (bytes : List ℕ) → IsWhole command callbacks bytes Memory
+pub memory_whole : (command : Command) (callbacks : ℕ) (bytes : List ℕ) → IsWhole command callbacks bytes Memory
 memory_whole Serial callbacks bytes = record { script = λ s t. inr refl; other = λ none. tt }
 memory_whole Threads callbacks bytes = record { script = λ s t enough. tt; few = λ s t few. inr refl; other = λ none. tt }
 memory_whole Table callbacks bytes = record { script = λ s t. inr refl; other = λ none. tt }
@@ -44,18 +44,11 @@ memory_whole Continue callbacks bytes = record { text = λ c t. inl refl; other 
 memory_whole (Soak words) callbacks bytes = tt
 memory_whole _ callbacks bytes = record { journal = λ j t. inl refl; other = λ none. tt }
 
-pub short_whole : (left : Option (List ℕ)) (command : Command) (callbacks : ℕ) (status : Status) → status ≡ Memory → IfSome left (λ (bytes : List ℕ). IsWhole command callbacks bytes status)
-short_whole None command callbacks status is = tt
-short_whole (Some bytes) command callbacks status is = subst (λ (s : Status). IsWhole command callbacks bytes s) (sym is) (memory_whole command callbacks bytes)
-
 -- any command may lack memory
-memory_possible : (command : Command) → MayEnd command Memory
+pub memory_possible : (command : Command) → MayEnd command Memory
 memory_possible Forecast = λ e. cc
 memory_possible (Recur words) = λ e. cc
 memory_possible _ = tt
-
-pub short_possible : (command : Command) (status : Status) → status ≡ Memory → MayEnd command status
-short_possible command status is = subst (MayEnd command) (sym is) (memory_possible command)
 
 pub short_front : {B : Type 0} (counted : B → ℕ) (told : B → Option (List Notification)) (left : Option (List ℕ)) (callbacks after : List B) → after ≡ callbacks
     → IfSome left (λ (bytes : List ℕ). (script : Script) → IsScriptText mode.Serial bytes script → HearFront counted told script.config (serial_play script).entries callbacks after)

@@ -1,4 +1,5 @@
 pub mod Asked
+pub mod Left
 pub mod Possible
 pub mod Ran
 pub mod Soaked

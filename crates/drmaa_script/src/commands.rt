@@ -12,6 +12,7 @@ ghost use Rattle.command_words.specs.Commands.{IsRanged, begins_dash};
 ghost use Rattle.command_words.specs.declared.commands.SoakWords.{SoakWords};
 ghost use Rattle.journal_commands.specs.Outcomes.{CameTo, JournalEnds, JournalIsWhole};
 ghost use Rattle.drmaa_script.specs.Commands.{Asks, CanRun, NamesNone};
+ghost use Rattle.drmaa_script.specs.Left.{LeftByCommand};
 ghost use Rattle.drmaa_script.specs.Runs.{AreCallersClocks, HadCallers};
 ghost use Rattle.drmaa_script.specs.Soaking.{SoakEnds};
 ghost use Rattle.drmaa_script.specs.Endings.{Ends, IsWhole, MayEnd, PlaysAlone, IsDeaf, Reads, limit_of, WritesJournal, HandsClocks, Starts};
@@ -111,34 +112,8 @@ fn run_command<
     callbacks: Callbacks<B>,
 ) -> Outcome<K::One, B>
     requires ranged { IsRanged command }
-    ensures ends { IfSome (R.left source.old) (λ bytes. Ends B.counted B.told K.One.given command bytes (W.written sink.old) (W.written sink.new)
-        (S.asked spawner.old) (S.asked spawner.new) (S.fate spawner.new) result.clocks callbacks result.callbacks result.status) }
-    ensures possible { MayEnd command result.status }
-    ensures soaks { (soak : SoakWords) → command ≡ Command.Soak soak → SoakEnds soak (W.written sink.old) (W.written sink.new) result.status }
-    ensures unread { (soak : SoakWords) → command ≡ Command.Soak soak → source.new ≡ source.old }
-    ensures words { result.status ≡ Status.Words → IsAtEnd (R.left source.new) }
-    ensures read_whole { Reads command → HasRead result.status → IsAtEnd (R.left source.new) }
-    ensures read_out { (line : ℕ) → Reads command → result.status ≡ Status.Text line → IsReadOut (limit_of command) (R.left source.old) (R.left source.new) }
-    ensures finished { HasWritten result.status → W.finished sink.new }
-    ensures read_fault { result.status ≡ Status.ReadFault → Rose (R.faults source.old) (R.faults source.new) }
-    ensures write_fault { result.status ≡ Status.WriteFault → Rose (W.faults sink.old) (W.faults sink.new) }
-    ensures untouched { IsQuiet result.status → sink.new ≡ sink.old }
-    ensures whole { (Rose (R.faults source.old) (R.faults source.new) → ⊥) → (Rose (W.faults sink.old) (W.faults sink.new) → ⊥)
-        → IfSome (R.left source.old) (λ bytes. IsWhole command (length callbacks) bytes result.status) }
-    ensures writable { WritesJournal command result.status → IfSome (R.left source.old) (λ bytes. (script : Script) → IsScriptText mode.Serial bytes script → IsWritten script) }
-    ensures clocks { (HandsClocks command result.status → ⊥) → result.clocks ≡ [] }
-    ensures whose { HandsClocks command result.status → AreCallersClocks K.One.given result.clocks }
-    ensures callers { HandsClocks command result.status → HadCallers result.status (length result.clocks) }
-    ensures unasked { (Starts command → ⊥) → spawner.new ≡ spawner.old }
-    ensures unstarted { IsUnstarted result.status → spawner.new ≡ spawner.old }
-    ensures fates { S.fate spawner.new ≡ S.fate spawner.old }
-    ensures heard { PlaysAlone command → HasPlayed result.status → IfSome (R.left source.old) (λ bytes. (script : Script) → IsScriptText mode.Serial bytes script
-        → HearHistory B.counted B.told script.config (serial_play script).entries callbacks result.callbacks) }
-    ensures heard_front { PlaysAlone command → result.status ≡ Status.Memory → IfSome (R.left source.old) (λ bytes. (script : Script) → IsScriptText mode.Serial bytes script
-        → HearFront B.counted B.told script.config (serial_play script).entries callbacks result.callbacks) }
-    ensures returned { AreReturned B.counted B.told callbacks result.callbacks }
-    ensures unheard { IsUnstarted result.status → result.callbacks ≡ callbacks }
-    ensures deaf { IsDeaf command → result.callbacks ≡ callbacks }
+    ensures { LeftByCommand B.counted B.told K.One.given R.left R.faults W.written W.faults W.finished S.asked S.fate
+        command source.old source.new sink.old sink.new spawner.old spawner.new callbacks result.callbacks result.clocks result.status }
 {
     match command {
         Command::Serial => without_clocks(

@@ -8,3 +8,4 @@ pub mod Making
 pub mod Whole
 pub mod Printable
 pub mod Hearing
+pub mod Played

@@ -5,6 +5,7 @@ use Rattle.child_spawner.specs.declared.fates.Asked.{Asked}
 use Rattle.child_spawner.specs.declared.fates.Fate.{Fate}
 use Rattle.child_spawner.specs.Children.{Told}
 use Rattle.drmaa_types.specs.Readings.{Readings}
+use Rattle.drmaa_types.specs.declared.changes.Notification.{Notification}
 use Rattle.drmaa_types.specs.declared.refusals.Refusal.TheVariants.{OutOfResource}
 use Rattle.drmaa_types.specs.declared.refusals.Limit.TheVariants as limit
 use Rattle.drmaa_model.specs.declared.configs.Config.{Config}
@@ -23,9 +24,10 @@ use Rattle.attendant.specs.Acts.{own_acts}
 use Rattle.attendant.specs.Posts.{Post, IsStillAt}
 use Rattle.attendant.specs.Outside.{Tends, Keeps, AgreesOf, IsHeldUp, EndsSettled}
 use Rattle.block_play.specs.declared.stops.Stopped.TheVariants as stopped
+use Rattle.thread_play.specs.declared.firsts.First.{First}
 use Rattle.thread_play.specs.declared.workers.Worker.{Worker}
 use Rattle.beside_clients.specs.HubClients.{FollowsAll}
-use Rattle.thread_play.specs.Stages.{PlaysOn}
+use Rattle.thread_play.specs.Stages.{PlaysOn, IsFirstHeard}
 
 -- a client that is back, with its number, and the clock that was handed out to it
 pub record IsBack (number : ℕ) (given : Readings) (client : Seat) : Type 0 where
@@ -108,3 +110,12 @@ pub record OthersHeard {B C T : Type 0} (given : C → Readings) (told : T → O
   pub launcher : BeginsWith (seen_of others.hub_seat) (seen_of others.launcher.client)
   pub reaping : BeginsWith (seen_of others.hub_seat) (seen_of others.reaping)
   pub follows : FollowsAll shared (seen_of others.hub_seat) hub
+
+-- What the play of all blocks leaves: where the journal's size stopped setup, its client alone was there; else all others were there too.
+pub data ArePlayed {B C T : Type 0} (counted : B → ℕ) (hears : B → Option (List Notification)) (given : C → Readings) (told : T → Option Told) (s : Script) (shared : Named Config) (p : Seat)
+    (asked asked_after : Option (List Asked)) (fate : ℕ → Fate) (clocks : List C) (full : Option ℕ) (before hub : Following B) : Type 0 where
+  setup_alone : (f : First C) (size : ℕ) → IsFirstHeard counted hears given s shared p f before hub → f.played ≡ Err (stopped.Full size) → asked_after ≡ asked → clocks ≡ f.clock ∷ [] → full ≡ Some size
+      → ArePlayed counted hears given told s shared p asked asked_after fate clocks full before hub
+  with_others : (o : Seat) (f : First C) (middle : Following B) (names : List (List ℕ × Given)) → IsFirstHeard counted hears given s shared o f before middle → f.played ≡ Ok names
+      → hub.ears.places ≡ middle.ears.places → OthersHeard given told s names shared o p asked asked_after fate (f.clock ∷ []) clocks full hub
+      → ArePlayed counted hears given told s shared p asked asked_after fate clocks full before hub

@@ -11,7 +11,7 @@ ghost use Rattle.beside_clients.specs.HubClients.{KeepsCallbacks};
 ghost use Rattle.thread_play.specs.Hubs.{HearRun};
 ghost use Rattle.thread_play.specs.Runs.{IsForThreads, HasRun};
 ghost use Rattle.thread_play.specs.Pairs.{HasEnded, AreReleased};
-ghost use Rattle.thread_play.specs.Others.{OthersHeard};
+ghost use Rattle.thread_play.specs.Others.{OthersHeard, ArePlayed};
 
 use crate::crews::play_beside;
 use crate::ends::{dismiss, end_hub_seat, full_of, stopped_by, worse};
@@ -176,6 +176,63 @@ fn play_others<R: Threads + Wait + Pause + Sync, K: Clocks, S: Spawner + Send, B
     full_of(ended)
 }
 
+/// The blocks of a script, on a machine that has served nothing: setup's, and where that was whole, the clients' beside launcher,
+/// reaper and hub. The size that the journal would have had, where the run was stopped by it.
+///
+/// # Errors
+///
+/// Want of memory, of any caller.
+fn play_blocks<R: Threads + Wait + Pause + Sync, K: Clocks, S: Spawner + Send, B: Callback + Send>(
+    rt: &R,
+    alloc: Global,
+    script: &Script,
+    shared: &SharedMachine,
+    opener: &mut MachineOpener,
+    clocks: &K,
+    spawner: &mut S,
+    bell: &Bell,
+    hub: &mut Hub<B>,
+    given: &mut Vec<K::One>,
+) -> Result<Option<u64>, AllocError>
+    requires opener { BelongsTo shared.now opener.old }
+    requires fresh { retired_of opener.old ≡ [] }
+    requires new { hub.old.note ≡ None }
+    requires size { shared.now.fixed.journal < 2 ^ 64 }
+    requires few { length script.now.clients ≤ 32 }
+    requires none { given.old.items ≡ [] }
+    requires room { length script.now.clients + 4 ≤ vec_capacity given.old }
+    ensures fates { S.fate spawner.new ≡ S.fate spawner.old }
+    ensures begun { hub.new.ears.begun ≡ hub.old.ears.begun }
+    ensures heard { HaveHeard B.counted B.told hub.old.ears → HaveHeard B.counted B.told hub.new.ears }
+    ensures blocks { IfOk result (λ full. ArePlayed B.counted B.told K.One.given S.One.told script.now shared.now opener.new
+        (S.asked spawner.old) (S.asked spawner.new) (S.fate spawner.new) given.new.items full hub.old hub.new) }
+{
+    let First { clock, played } = play_first(rt, alloc, script, shared, opener, clocks, bell, hub);
+    given.push_reserved(clock);
+    match played {
+        Ok(names) => play_others(
+            rt, alloc, script, &names, shared, opener, clocks, spawner, bell, hub, given,
+        ),
+        Err(Stopped::Full { size }) => Ok(Some(size)),
+        Err(Stopped::Memory) => Err(AllocError),
+    }
+}
+
+/// A machine as the script wants it, which has served nothing.
+fn machine_for(alloc: Global, script: &Script) -> Result<(SharedMachine, MachineOpener), AllocError>
+    requires { IsForThreads script.now }
+    ensures config { IfOk result (λ made. made.0.fixed ≡ script.now.config) }
+    ensures opener { IfOk result (λ made. BelongsTo made.0 made.1) }
+    ensures fresh { IfOk result (λ made. retired_of made.1 ≡ []) }
+{
+    each_script_can_be_played();
+    let config = copy_of(&script.config)?;
+    match SharedMachine::new(alloc, config) {
+        Ok(made) => Ok(made),
+        Err(_) => Err(AllocError),
+    }
+}
+
 /// Plays a script: its setup block first; then its clients' blocks, each in a thread of its own, beside launcher and reaper in one,
 /// who start the children of its jobs and report of them, and beside the hub in one, whose callbacks hear each change of a job's state
 /// behind their Register entries. Where a thread can't be started, the caller does its work. It may wait for good.
@@ -217,48 +274,23 @@ pub fn play_threads<
     no_client_asks_what_the_attendant_asks();
     no_client_registers();
     the_outside_agrees::<S::One>();
-    let config = copy_of(&script.config)?;
     let mut given = Vec::with_capacity(alloc, script.clients.as_slice().len() + 4)?;
-    let Ok((shared, mut opener)) = SharedMachine::new(alloc, config) else {
-        return Err(AllocError);
-    };
-    let First { clock, played } = play_first(
+    let (shared, mut opener) = machine_for(alloc, script)?;
+    let full = play_blocks(
         rt,
         alloc,
         script,
         &shared,
         &mut opener,
         clocks,
+        spawner,
         bell,
         hub,
-    );
-    given.push_reserved(clock);
-    match played {
-        Ok(names) => {
-            let full = play_others(
-                rt,
-                alloc,
-                script,
-                &names,
-                &shared,
-                &mut opener,
-                clocks,
-                spawner,
-                bell,
-                hub,
-                &mut given,
-            )?;
-            Ok(Run {
-                machine: shared.close(opener),
-                full,
-                clocks: ClockList::from_vec(given),
-            })
-        }
-        Err(Stopped::Full { size }) => Ok(Run {
-            machine: shared.close(opener),
-            full: Some(size),
-            clocks: ClockList::from_vec(given),
-        }),
-        Err(Stopped::Memory) => Err(AllocError),
-    }
+        &mut given,
+    )?;
+    Ok(Run {
+        machine: shared.close(opener),
+        full,
+        clocks: ClockList::from_vec(given),
+    })
 }
