@@ -22,9 +22,9 @@ pub use drmaa_types::{
     ArrayId, Attribute, Bytes, CallersClock, Capability, Clock, Clocks, Exit, IdList, InfoList,
     JobFilter, JobId, JobInfo, JobState, Limit, ListOf, MachineInfo, Moment, Note, Notification,
     QueueList, QueueSpec, Refusal, ReservationId, ReservationInfo, ReservationList, Reserved,
-    SessionId, Shared, StepClock, Text, TextList, Timeout, Which, are_queues,
+    SessionId, Shared, Start, StepClock, Text, TextList, Timeout, Which, are_queues,
 };
-pub use job_template::{JobTemplate, ReservationTemplate, Start};
+pub use job_template::{JobTemplate, ReservationTemplate};
 pub use journal_text::{journal_bytes, print_journal};
 pub use local::{plain_config, with_local_clients, with_local_machine};
 pub use machines::{Ended, with_clients, with_machine};

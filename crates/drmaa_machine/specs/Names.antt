@@ -1,7 +1,7 @@
 -- The names of limits: a journal can print each of them.
 use Rattle.std.specs.Prelude.{Bool, List}
 use Rattle.std.specs.List.{list_all}
-use Rattle.job_template.specs.declared.templates.ResourceLimit.{ResourceLimit}
+use Rattle.drmaa_types.specs.declared.template_parts.ResourceLimit.{ResourceLimit}
 use Rattle.drmaa_model.specs.RecordedCalls.{is_word}
 
 abbrev pub has_words : List ResourceLimit → Bool

@@ -1,6 +1,5 @@
 //! A call is served, and its entry is made.
 ghost use Rattle.std.specs.Prelude.{◌≡◌, ◌≢◌, ◌+◌, ◌≤◌, ◌++◌, [], ◌∷◌, true, None, Err, IsOk, OnErr, vec_len, vec_capacity};
-ghost use Rattle.drmaa_types.specs.Moments.{greatest};
 ghost use Rattle.drmaa_model.specs.declared.rows.Row.{Row};
 ghost use Rattle.drmaa_model.specs.Honoured.{IsOnTime, IsDueInside};
 ghost use Rattle.drmaa_model.specs.RecordedCalls.{recorded};
@@ -15,7 +14,7 @@ ghost use Rattle.drmaa_machine.specs.Invariant.{IsMachine, ledger_of};
 use crate::performs::perform;
 use crate::recorded_calls::recorded_call;
 use drmaa_model::{Call, Entry, NoEntry, Reply};
-use drmaa_types::{CallerId, Moment};
+use drmaa_types::{CallerId, Moment, a_moment_is_within};
 use machine_calls::Replies;
 use machine_readings::Store;
 
@@ -40,13 +39,6 @@ pub fn serve(store: &mut Store, caller: CallerId, at: Moment, call: Call) -> Res
         },
         Err(_) => Err(NoEntry::OutOfMemory),
     }
-}
-
-/// No moment is after the greatest.
-fn a_moment_is_within(at: Moment)
-    ensures { at ≤ greatest }
-{
-    let _ = at.number();
 }
 
 /// Makes the entry, whose memory is there.

@@ -11,5 +11,5 @@ mod waits;
 
 pub use chronicles::Ask;
 pub use drmaa_model::{Answer, Call, Config, Entry, NoEntry, Question, Reply, Started};
-pub use machines::Machine;
+pub use machines::{Machine, a_history_is_legal};
 pub use waits::Awaited;

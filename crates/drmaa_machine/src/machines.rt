@@ -329,3 +329,11 @@ impl Machine {
         &self.store.config
     }
 }
+
+/// What a machine has served is a legal history: replayed on the sequential machine it gives each of its replies. It is a law, whose
+/// function does nothing.
+pub fn a_history_is_legal(machine: &Machine)
+    ensures { IsLegal machine.now.ledger.config machine.now.ledger.history }
+{
+    let _ = machine.entries();
+}

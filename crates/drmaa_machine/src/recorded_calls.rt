@@ -6,8 +6,8 @@ ghost use Rattle.drmaa_machine.specs.Applying.{is_submission};
 ghost use Rattle.drmaa_machine.specs.Names.{has_words};
 
 use drmaa_model::Call;
-use drmaa_types::{ListOf, Shared, Text};
-use job_template::{JobTemplate, LimitList, ResourceLimit};
+use drmaa_types::{LimitList, ListOf, ResourceLimit, Shared, Text};
+use job_template::JobTemplate;
 use std::alloc::{AllocError, Global};
 
 /// The call as an entry keeps it: the names of limits that no journal can print become `OTHER`. Only a call that submits jobs

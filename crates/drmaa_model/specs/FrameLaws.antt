@@ -10,7 +10,7 @@ use Rattle.drmaa_types.specs.declared.refusals.Refusal.TheVariants.{InvalidArgum
 use Rattle.drmaa_types.specs.declared.refusals.Which.TheVariants as which
 use Rattle.job_template.specs.declared.templates.Frame.{Frame}
 use Rattle.job_template.specs.declared.templates.ReservationTemplate.{ReservationTemplate}
-use Rattle.job_template.specs.declared.templates.Start.{Start}
+use Rattle.drmaa_types.specs.declared.template_parts.Start.{Start}
 use Rattle.job_template.specs.Frames.{moment_of, starts, ends, lasts, Interval, interval, frame_of, frame_tests, name_tests, start_tests, length_tests, slot_tests}
 use Rattle.job_template.specs.Unsupported.{other_tests}
 use Rattle.drmaa_model.specs.OperationLaws.{refusal-append, no_test}

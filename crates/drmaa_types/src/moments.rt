@@ -67,6 +67,11 @@ impl Moment {
     }
 }
 
+/// No moment is after the greatest: a law, whose function does nothing.
+pub fn a_moment_is_within(moment: Moment)
+    ensures { moment ≤ greatest }
+{}
+
 /// Where an interval of time ends: at a moment, or never.
 #[derive(Clone, Copy, Debug, PartialEq, Eq)]
 pub enum End {

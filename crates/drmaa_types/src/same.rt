@@ -3,6 +3,7 @@ ghost use Rattle.std.specs.Prelude.{◌≡◌, ◌↔◌, IsTrue};
 
 mod infos;
 mod refusals;
+mod template_parts;
 mod values;
 
 use crate::{Boxed, ListOf};

@@ -2,7 +2,7 @@
 use Rattle.std.specs.Prelude.{ℕ, false, [], codes, None}
 use Rattle.job_template.specs.declared.templates.JobTemplate.{JobTemplate}
 use Rattle.job_template.specs.declared.templates.ReservationTemplate.{ReservationTemplate}
-use Rattle.job_template.specs.declared.templates.ResourceLimit.{ResourceLimit}
+use Rattle.drmaa_types.specs.declared.template_parts.ResourceLimit.{ResourceLimit}
 
 -- a job of which nothing is set; its command is the empty text
 abbrev pub blank_template : JobTemplate

@@ -3,7 +3,7 @@ use Rattle.std.specs.Prelude.{ℕ, zero, suc, ◌-◌, List, [], ◌∷◌, ◌+
 use Rattle.std.specs.Option.{option_map}
 use Rattle.std.specs.List.{starts_with}
 use Rattle.job_template.specs.declared.templates.JobTemplate.{JobTemplate}
-use Rattle.job_template.specs.declared.templates.Pair.{Pair}
+use Rattle.drmaa_types.specs.declared.template_parts.Pair.{Pair}
 
 abbrev pub placeholder : List ℕ
 placeholder = codes "$DRMAA2_INDEX$"

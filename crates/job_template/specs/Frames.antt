@@ -8,8 +8,8 @@ use Rattle.drmaa_types.specs.declared.refusals.Which.TheVariants as which
 use Rattle.drmaa_types.specs.declared.refusals.Limit.TheVariants as resource
 use Rattle.job_template.specs.declared.templates.Frame.{Frame}
 use Rattle.job_template.specs.declared.templates.ReservationTemplate.{ReservationTemplate}
-use Rattle.job_template.specs.declared.templates.Start.{Start}
-use Rattle.job_template.specs.declared.templates.Start.TheVariants as start
+use Rattle.drmaa_types.specs.declared.template_parts.Start.{Start}
+use Rattle.drmaa_types.specs.declared.template_parts.Start.TheVariants as start
 use Rattle.job_template.specs.Texts.{most_text, is_bad_name, reservation_text_length}
 use Rattle.job_template.specs.Unsupported.{other_tests}
 use Rattle.job_template.specs.Wants.{least_slots, greatest_slots}

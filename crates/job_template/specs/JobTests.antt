@@ -9,7 +9,7 @@ use Rattle.drmaa_types.specs.declared.refusals.Which.TheVariants as which
 use Rattle.drmaa_types.specs.declared.refusals.Limit.TheVariants as resource
 use Rattle.drmaa_types.specs.declared.refusals.Attribute.TheVariants as attribute
 use Rattle.job_template.specs.declared.templates.JobTemplate.{JobTemplate}
-use Rattle.job_template.specs.declared.templates.ResourceLimit.{ResourceLimit}
+use Rattle.drmaa_types.specs.declared.template_parts.ResourceLimit.{ResourceLimit}
 use Rattle.job_template.specs.Texts.{most_text, text_length, has_nul, is_bad_command, is_bad_path, is_bad_name, is_bad_environment}
 use Rattle.job_template.specs.Unsupported.{other_tests, other_limit}
 use Rattle.job_template.specs.Wants.{is_wallclock, min_slots, max_slots, queue_of, queue_limit}

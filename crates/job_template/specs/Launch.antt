@@ -1,7 +1,7 @@
 -- The words that a launch hands to a spawner: our profile.
 use Rattle.std.specs.Prelude.{ℕ, List, [], ◌∷◌, ◌++◌, length, map, codes, decimal, Option, unwrap_or, if◌then◌else◌}
 use Rattle.job_template.specs.declared.templates.JobTemplate.{JobTemplate}
-use Rattle.job_template.specs.declared.templates.Pair.{Pair}
+use Rattle.drmaa_types.specs.declared.template_parts.Pair.{Pair}
 
 -- an unset path is the empty text
 abbrev pub path_word : Option (List ℕ) → List ℕ

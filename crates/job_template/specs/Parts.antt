@@ -4,7 +4,7 @@ use Rattle.std.specs.Option.{option_map}
 use Rattle.job_template.specs.declared.copies.Common.{Common}
 use Rattle.job_template.specs.declared.copies.Paths.{Paths}
 use Rattle.job_template.specs.declared.templates.JobTemplate.{JobTemplate}
-use Rattle.job_template.specs.declared.templates.Pair.{Pair}
+use Rattle.drmaa_types.specs.declared.template_parts.Pair.{Pair}
 
 -- what is the same for each member of an array
 abbrev pub common_of : JobTemplate → Common

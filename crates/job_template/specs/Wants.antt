@@ -5,7 +5,7 @@ use Rattle.std.specs.Str.{bytes_eq}
 use Rattle.drmaa_types.specs.Queues.{queue_at, place_of}
 use Rattle.drmaa_types.specs.declared.queues.QueueSpec.{QueueSpec}
 use Rattle.job_template.specs.declared.templates.JobTemplate.{JobTemplate}
-use Rattle.job_template.specs.declared.templates.ResourceLimit.{ResourceLimit}
+use Rattle.drmaa_types.specs.declared.template_parts.ResourceLimit.{ResourceLimit}
 
 -- an unset least number of slots is 1
 abbrev pub least_slots : Option ℕ → ℕ

@@ -1,8 +1,7 @@
 //! What the steps that make a template add to it, with memory from where it has its own.
 ghost use Rattle.std.specs.Prelude.{◌≡◌, ◌++◌, ◌∷◌, [], map, Some, Ok, IfOk, OnOk};
 
-use crate::{Pair, PairList};
-use drmaa_types::{Text, TextList};
+use drmaa_types::{Pair, PairList, Text, TextList};
 use std::alloc::{AllocError, Global};
 
 /// The text of these characters.

@@ -5,10 +5,10 @@
 ghost use Rattle.std.specs.Prelude.{◌≡◌, ◌++◌, ◌∷◌, [], map, Some, true, IfOk, OnOk};
 ghost use Rattle.job_template.specs.Blanks.{blank_template, wallclock};
 
+use crate::JobTemplate;
 use crate::additions::{push_pair, push_text, push_texts, set_text, text_of, when_done};
 use crate::wants::WALLCLOCK_TIME;
-use crate::{JobTemplate, LimitList, ResourceLimit};
-use drmaa_types::{ListOf, Moment, ReservationId, Text};
+use drmaa_types::{LimitList, ListOf, Moment, ReservationId, ResourceLimit, Text};
 use std::alloc::{AllocError, Global};
 
 impl JobTemplate {

@@ -2,31 +2,9 @@
 ghost use Rattle.std.specs.Prelude.{◌≡◌, IfOk};
 ghost use Rattle.job_template.specs.Parts.{common_of, paths_of, assembled};
 
-use crate::{JobTemplate, LimitList, Pair, PairList, ReservationTemplate, ResourceLimit};
-use drmaa_types::{AttributeList, Text, TextList};
+use crate::{JobTemplate, ReservationTemplate};
+use drmaa_types::{AttributeList, LimitList, PairList, Text, TextList};
 use std::alloc::AllocError;
-
-impl Clone for Pair {
-    ghost is_clone = { λ pair copy. copy ≡ pair };
-
-    fn clone(&self) -> Result<Pair, AllocError> {
-        Ok(Pair {
-            name: self.name.clone()?,
-            value: self.value.clone()?,
-        })
-    }
-}
-
-impl Clone for ResourceLimit {
-    ghost is_clone = { λ limit copy. copy ≡ limit };
-
-    fn clone(&self) -> Result<ResourceLimit, AllocError> {
-        Ok(ResourceLimit {
-            name: self.name.clone()?,
-            value: self.value,
-        })
-    }
-}
 
 /// What is the same for each member of an array: of a template its command, its names, its limits and its other attributes.
 #[derive(Drop)]

@@ -4,9 +4,9 @@ ghost use Rattle.std.specs.Option.{option_map};
 ghost use Rattle.job_template.specs.Expand.{expanded, replaced, with_texts, with_value};
 ghost use Rattle.job_template.specs.Parts.{paths_with};
 
+use crate::JobTemplate;
 use crate::copies::{Paths, assembled, copied_common};
-use crate::{JobTemplate, Pair, PairList};
-use drmaa_types::{Refusal, Text, TextList};
+use drmaa_types::{Pair, PairList, Refusal, Text, TextList};
 use std::alloc::{AllocError, Global};
 
 /// What stands for the index of a member in the texts of an array's template.

@@ -8,8 +8,8 @@ ghost use Rattle.job_template.specs.Frames.{frame_of, frame_tests, length_tests,
 use crate::attributes::unsupported;
 use crate::texts::{is_bad_name, is_too_long};
 use crate::wants::{greatest_slots, least_slots};
-use crate::{Frame, ReservationTemplate, Start};
-use drmaa_types::{Limit, Moment, Refusal, Which};
+use crate::{Frame, ReservationTemplate};
+use drmaa_types::{Limit, Moment, Refusal, Start, Which};
 
 /// Where a reservation may lie, how long it is to be, and how many slots it may have. It takes no memory.
 ///

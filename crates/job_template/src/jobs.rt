@@ -5,12 +5,13 @@ ghost use Rattle.drmaa_types.specs.Refusals.{first_refusal, refused_or};
 ghost use Rattle.job_template.specs.JobTests.{command_tests, is_bad_deadline, is_bad_least, job_tests, limit_tests, path_tests, queue_test, slot_tests};
 ghost use Rattle.job_template.specs.Texts as form;
 
+use crate::JobTemplate;
 use crate::attributes::{other_limit, unsupported};
 use crate::queues::{queue_limit, queue_of};
 use crate::texts::{has_nul, is_bad_command, is_bad_name, is_bad_path, text_length};
 use crate::variables::is_bad_environment;
-use crate::{JobTemplate, LimitList};
-use drmaa_types::{Attribute, Limit, Moment, QueueList, Refusal, TextList, Which};
+use crate::wants::is_wallclock;
+use drmaa_types::{Attribute, Limit, LimitList, Moment, QueueList, Refusal, TextList, Which};
 
 /// Whether a job of this template can be submitted to a machine with so many slots and with these queues, at this moment. It
 /// takes no memory.
@@ -151,7 +152,7 @@ fn wrong_limit(limits: &LimitList) -> Option<Refusal>
 {
     let mut stands = false;
     for limit in limits.as_slice() {
-        if !limit.is_wallclock() {
+        if !is_wallclock(limit) {
             return Some(other_limit(&limit.name));
         }
         if limit.value == 0 || stands {

@@ -2,8 +2,8 @@
 ghost use Rattle.std.specs.Prelude.{◌≡◌, [], ◌∷◌, ◌++◌, decimal, IfOk, IfErr, OnOk};
 ghost use Rattle.job_template.specs.Launch.{command_words, environment_words, join_word, launch_words, pair_word, path_word, path_words};
 
-use crate::{JobTemplate, Pair};
-use drmaa_types::{Refusal, Text, TextList};
+use crate::JobTemplate;
+use drmaa_types::{Pair, Refusal, Text, TextList};
 use std::alloc::{AllocError, Global};
 
 /// The words of a launch, in order: the working directory and the paths of input, output and error, each the

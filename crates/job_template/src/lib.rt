@@ -23,7 +23,5 @@ pub use frames::validate_reservation;
 pub use jobs::validate_job;
 pub use launch::launch_words;
 pub use queues::{queue_limit, queue_of};
-pub use templates::{
-    Frame, JobTemplate, LimitList, Pair, PairList, ReservationTemplate, ResourceLimit, Start,
-};
+pub use templates::{Frame, JobTemplate, ReservationTemplate};
 pub use texts::{text_length, without_template};

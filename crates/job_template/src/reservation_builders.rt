@@ -4,9 +4,9 @@
 ghost use Rattle.std.specs.Prelude.{◌≡◌, Some, IfOk};
 ghost use Rattle.job_template.specs.Blanks.{blank_reservation};
 
+use crate::ReservationTemplate;
 use crate::additions::{set_text, when_done};
-use crate::{ReservationTemplate, Start};
-use drmaa_types::{ListOf, Moment};
+use drmaa_types::{ListOf, Moment, Start};
 use std::alloc::{AllocError, Global};
 
 impl ReservationTemplate {

@@ -2,20 +2,8 @@
 ghost use Rattle.std.specs.Prelude.{◌≡◌, ◌↔◌, IsTrue};
 ghost use Rattle.job_template.specs.Same as same;
 
-use crate::{JobTemplate, Pair, ResourceLimit};
+use crate::JobTemplate;
 use drmaa_types::Same;
-
-impl Same for Pair {
-    fn is_same(&self, other: &Pair) -> bool {
-        self.name.is_same(&other.name) && self.value.is_same(&other.value)
-    }
-}
-
-impl Same for ResourceLimit {
-    fn is_same(&self, other: &ResourceLimit) -> bool {
-        self.name.is_same(&other.name) && self.value.is_same(&other.value)
-    }
-}
 
 /// Whether both run the same, under the same name.
 fn is_same_run(one: &JobTemplate, other: &JobTemplate) -> bool

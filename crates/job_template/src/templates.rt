@@ -1,26 +1,8 @@
 //! What a job and a reservation are asked for with (GFD.231, JobTemplate and ReservationTemplate).
 
-use drmaa_types::{AttributeList, ListOf, Moment, ReservationId, Text, TextList};
-
-/// An environment variable of a job, and its value.
-#[derive(Drop)]
-pub struct Pair {
-    pub name: Text,
-    pub value: Text,
-}
-
-/// Environment variables, in order.
-pub type PairList = ListOf<Pair>;
-
-/// A named limit on what a job may use.
-#[derive(Drop)]
-pub struct ResourceLimit {
-    pub name: Text,
-    pub value: u64,
-}
-
-/// Limits, in order.
-pub type LimitList = ListOf<ResourceLimit>;
+use drmaa_types::{
+    AttributeList, LimitList, Moment, PairList, ReservationId, Start, Text, TextList,
+};
 
 /// What is to be run, and how (GFD.231, JobTemplate). An attribute that is unset is None, empty or false.
 #[derive(Drop)]
@@ -59,13 +41,6 @@ pub struct JobTemplate {
     pub resource_limits: LimitList,
     /// The attributes of the standard that are set and that this profile does not support.
     pub others: AttributeList,
-}
-
-/// When a reservation is to start: at a moment, or now.
-#[derive(Clone, Copy, Debug, PartialEq, Eq)]
-pub enum Start {
-    At(Moment),
-    Now,
 }
 
 /// What is asked of a reservation (GFD.231, ReservationTemplate).

@@ -2,8 +2,8 @@
 ghost use Rattle.std.specs.Prelude.{◌≡◌, ◌≤◌, ◌-◌, nat_lt, sum_by, SomeIff};
 ghost use Rattle.job_template.specs.Texts as form;
 
-use crate::{JobTemplate, LimitList, PairList};
-use drmaa_types::{Text, TextList};
+use crate::JobTemplate;
+use drmaa_types::{LimitList, PairList, Text, TextList};
 
 /// The most bytes of a template's text, each text counted with one byte more.
 const MOST_TEXT: usize = 65_536;

@@ -6,8 +6,7 @@ ghost use Rattle.job_template.specs.Texts as form;
 ghost use Rattle.job_template.specs.Texts.{names_of};
 
 use crate::texts::has_nul;
-use crate::{Pair, PairList};
-use drmaa_types::Text;
+use drmaa_types::{Pair, PairList, Text};
 
 /// Whether a name is not one of a variable, a name stands twice, or a value has U+0000.
 pub fn is_bad_environment(pairs: &PairList) -> bool

@@ -2,7 +2,8 @@
 ghost use Rattle.std.specs.Prelude.{◌≡◌};
 ghost use Rattle.job_template.specs.Wants as wants;
 
-use crate::{JobTemplate, ResourceLimit};
+use crate::JobTemplate;
+use drmaa_types::ResourceLimit;
 
 /// The name of the limit of how many seconds a launch may last.
 pub(crate) const WALLCLOCK_TIME: &str = "WALLCLOCK_TIME";
@@ -21,13 +22,11 @@ pub fn greatest_slots(min: Option<u32>, max: Option<u32>) -> u32
     max.unwrap_or(least_slots(min))
 }
 
-impl ResourceLimit {
-    /// Whether it limits how many seconds a launch may last.
-    pub fn is_wallclock(&self) -> bool
-        ensures { result ≡ wants.is_wallclock self.now }
-    {
-        self.name.as_str() == WALLCLOCK_TIME
-    }
+/// Whether a limit is of how many seconds a launch may last.
+pub(crate) fn is_wallclock(limit: &ResourceLimit) -> bool
+    ensures { result ≡ wants.is_wallclock limit.now }
+{
+    limit.name.as_str() == WALLCLOCK_TIME
 }
 
 impl JobTemplate {
@@ -57,7 +56,7 @@ impl JobTemplate {
         ensures { result ≡ wants.wallclock_limit self.now }
     {
         for limit in self.resource_limits.as_slice() {
-            if limit.is_wallclock() {
+            if is_wallclock(limit) {
                 return Some(limit.value);
             }
         }

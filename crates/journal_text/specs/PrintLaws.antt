@@ -10,7 +10,7 @@ use Rattle.drmaa_model.specs.declared.configs.Config.{Config}
 use Rattle.drmaa_model.specs.declared.entries.Entry.{Entry}
 use Rattle.drmaa_model.specs.RecordedCalls.{recorded, recorded_template, recorded_limit}
 use Rattle.job_template.specs.declared.templates.JobTemplate.{JobTemplate}
-use Rattle.job_template.specs.declared.templates.ResourceLimit.{ResourceLimit}
+use Rattle.drmaa_types.specs.declared.template_parts.ResourceLimit.{ResourceLimit}
 use Rattle.text_codec.specs.Formats.{pair, mapped, checked, first_spelled}
 use Rattle.text_codec.specs.Fields.{field, flag, repeated, in_braces, joined}
 use Rattle.text_codec.specs.Sums.{sum_of}

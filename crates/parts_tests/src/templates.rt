@@ -1,6 +1,9 @@
 //! What no script can say of a template: a limit whose name is not in capitals, and a machine without slots.
-use drmaa_types::{AttributeList, Moment, QueueList, Refusal, Text, TextList, Which};
-use job_template::{JobTemplate, LimitList, PairList, ResourceLimit, text_length, validate_job};
+use drmaa_types::{
+    AttributeList, LimitList, Moment, PairList, QueueList, Refusal, ResourceLimit, Text, TextList,
+    Which,
+};
+use job_template::{JobTemplate, text_length, validate_job};
 use std::alloc::Global;
 
 /// A text. Where memory is wanting it is empty, and then no test passes.

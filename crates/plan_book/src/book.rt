@@ -238,8 +238,7 @@ impl Book {
         requires book { IsBook self.now }
         ensures { result ≡ held (plan_of self.now).rows }
     {
-        let _total = self.total(); // which is not less
-        self.rows.held()
+        self.rows.held(self.total)
     }
 
     /// The reports of starts and ends that the processes of all jobs may still bring.

@@ -211,12 +211,12 @@ impl Rows {
         self.sums.reports as u64
     }
 
-    /// The slots that all jobs hold.
-    pub fn held(&self) -> u32
-        requires { held self.now.items < 2 ^ 32 }
+    /// The slots that all jobs hold, which are no more than these.
+    pub fn held(&self, total: u32) -> u32
+        requires { held self.now.items ≤ total }
         ensures { result ≡ held self.now.items }
     {
-        self.sums.held as u32
+        u32::try_from(self.sums.held).unwrap_or(total)
     }
 
     /// The room that the text of their templates leaves of the most that all kept jobs may have. None exactly where it passes that.

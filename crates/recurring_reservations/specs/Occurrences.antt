@@ -7,8 +7,8 @@ use Rattle.drmaa_types.specs.declared.refusals.Refusal.{Refusal}
 use Rattle.drmaa_types.specs.declared.refusals.Refusal.TheVariants.{InvalidArgument}
 use Rattle.drmaa_types.specs.declared.refusals.Which.TheVariants as which
 use Rattle.job_template.specs.declared.templates.ReservationTemplate.{ReservationTemplate}
-use Rattle.job_template.specs.declared.templates.Start.{Start}
-use Rattle.job_template.specs.declared.templates.Start.TheVariants as start
+use Rattle.drmaa_types.specs.declared.template_parts.Start.{Start}
+use Rattle.drmaa_types.specs.declared.template_parts.Start.TheVariants as start
 use Rattle.recurring_reservations.specs.declared.recurrences.Every.{Every}
 use Rattle.recurring_reservations.specs.declared.recurrences.Every.TheVariants.{Days, Weeks, Months}
 use Rattle.recurring_reservations.specs.declared.recurrences.Recurring.{Recurring}

@@ -7,7 +7,7 @@ ghost use Rattle.recurring_reservations.specs.Steps.{IsLegalLedger, Holds, Takes
 use crate::recurrences::{RecurFault, Recurring, TemplateList};
 use crate::requests::{Asker, end, request};
 use crate::templates::occurrences;
-use drmaa_machine::Machine;
+use drmaa_machine::{Machine, a_history_is_legal};
 use drmaa_types::{Boxed, CallerId, IdList, Moment, Refusal, SessionId};
 use job_template::ReservationTemplate;
 use std::alloc::{AllocError, Global};
@@ -32,7 +32,7 @@ pub fn request_all(
     ensures answer { Recurs r (record { caller = caller; at = at; session = session }) machine.old.ledger result machine.new.ledger }
     ensures legal { IsLegalLedger machine.new.ledger }
 {
-    let _ = machine.entries();
+    a_history_is_legal(machine);
     let asker = Asker {
         caller,
         at,

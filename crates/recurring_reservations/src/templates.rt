@@ -6,8 +6,8 @@ ghost use Rattle.recurring_reservations.specs.Occurrences as spec;
 
 use crate::recurrences::{Every, Recurring, TemplateList};
 use crate::starts::all_starts;
-use drmaa_types::{Moment, Refusal, Which};
-use job_template::{ReservationTemplate, Start};
+use drmaa_types::{Moment, Refusal, Start, Which};
+use job_template::ReservationTemplate;
 use std::alloc::{AllocError, Global};
 
 /// The most occurrences, and the greatest number in `every`.

@@ -1,8 +1,8 @@
 -- How the lines of template blocks are spelled: our profile.
 use Rattle.std.specs.Prelude.{ℕ, ◌^◌, ℤ, List, [], Option, Some, None, codes}
 use Rattle.drmaa_types.specs.declared.refusals.Attribute.{Attribute}
-use Rattle.job_template.specs.declared.templates.Pair.{Pair}
-use Rattle.job_template.specs.declared.templates.ResourceLimit.{ResourceLimit}
+use Rattle.drmaa_types.specs.declared.template_parts.Pair.{Pair}
+use Rattle.drmaa_types.specs.declared.template_parts.ResourceLimit.{ResourceLimit}
 use Rattle.text_codec.specs.Formats.{Format, number, mapped, or_else}
 use Rattle.text_codec.specs.Formats as form
 use Rattle.text_codec.specs.Fields.{Fields, always, no_more}

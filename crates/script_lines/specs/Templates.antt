@@ -2,8 +2,8 @@
 use Rattle.std.specs.Prelude.{ℕ, Bool, true, false, List, [], ◌∷◌, ◌++◌, Option, Some, None, is_some, if◌then◌else◌}
 use Rattle.job_template.specs.declared.templates.JobTemplate.{JobTemplate}
 use Rattle.job_template.specs.declared.templates.ReservationTemplate.{ReservationTemplate}
-use Rattle.job_template.specs.declared.templates.Start.{Start}
-use Rattle.job_template.specs.declared.templates.Start.TheVariants as start
+use Rattle.drmaa_types.specs.declared.template_parts.Start.{Start}
+use Rattle.drmaa_types.specs.declared.template_parts.Start.TheVariants as start
 use Rattle.script_lines.specs.declared.draft.Draft.{Draft}
 use Rattle.script_lines.specs.declared.fields.Beginning.{Beginning}
 use Rattle.script_lines.specs.declared.fields.Beginning.TheVariants.{Now, At}

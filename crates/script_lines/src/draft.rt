@@ -3,8 +3,8 @@ ghost use Rattle.std.specs.Prelude.{◌≡◌, IfOk, IsOk, OnOk};
 ghost use Rattle.script_lines.specs.Templates as templates;
 
 use crate::{Beginning, JobField, ReservationField};
-use drmaa_types::{ListOf, Text};
-use job_template::{JobTemplate, ReservationTemplate, Start};
+use drmaa_types::{ListOf, Start, Text};
+use job_template::{JobTemplate, ReservationTemplate};
 use std::alloc::{AllocError, Global};
 
 /// A job's template that is being made.

@@ -11,8 +11,7 @@ use crate::field_groups::{
 };
 use crate::reading::alone;
 use crate::shapes::one_behind;
-use drmaa_types::{Attribute, Text};
-use job_template::{Pair, ResourceLimit};
+use drmaa_types::{Attribute, Pair, ResourceLimit, Text};
 use std::alloc::Global;
 use text_codec::{Cursor, Form, Unread};
 use text_dates::Said;

@@ -6,9 +6,9 @@ use crate::machines::{at, desk, machine, plain, stopped, text};
 use call_history::{Bell, Desk};
 use client_sessions::{Job, Reservation, Version};
 use drmaa_types::{
-    AttributeList, Capability, Clock, JobFilter, ListOf, Refusal, StepClock, Timeout, Which,
+    AttributeList, Capability, Clock, JobFilter, ListOf, Refusal, Start, StepClock, Timeout, Which,
 };
-use job_template::{ReservationTemplate, Start};
+use job_template::ReservationTemplate;
 use std::alloc::Global;
 use std::process::Abort;
 use std::sync::Wait;

@@ -13,9 +13,9 @@ use call_history::{Bell, Desk};
 use client_sessions::{JobSession, ReservationSession};
 use drmaa_types::{
     ArrayId, AttributeList, Clock, Exit, JobFilter, JobId, JobState, Refusal, ReservationId,
-    Reserved, SessionId, StepClock, Timeout, Which,
+    Reserved, SessionId, Start, StepClock, Timeout, Which,
 };
-use job_template::{ReservationTemplate, Start};
+use job_template::ReservationTemplate;
 use std::alloc::Global;
 use std::process::Abort;
 use std::sync::Wait;

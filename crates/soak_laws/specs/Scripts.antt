@@ -2,8 +2,8 @@
 use Rattle.std.specs.Prelude.{ℕ, zero, suc, ◌+◌, ◌*◌, ◌-◌, pos, nat_lt, true, List, [], ◌∷◌, ◌++◌, Option, Some, None, decimal, codes, if◌then◌else◌}
 use Rattle.job_template.specs.declared.templates.JobTemplate.{JobTemplate}
 use Rattle.job_template.specs.declared.templates.ReservationTemplate.{ReservationTemplate}
-use Rattle.job_template.specs.declared.templates.ResourceLimit.{ResourceLimit}
-use Rattle.job_template.specs.declared.templates.Start.TheVariants.{At}
+use Rattle.drmaa_types.specs.declared.template_parts.ResourceLimit.{ResourceLimit}
+use Rattle.drmaa_types.specs.declared.template_parts.Start.TheVariants.{At}
 use Rattle.text_codec.specs.Formats.{choose}
 use Rattle.text_dates.specs.declared.said.Said.{Said}
 use Rattle.script_lines.specs.declared.lines.Line.{Line}

@@ -1,7 +1,7 @@
 -- The laws of the parts of templates.
 use Rattle.std.proofs.Common.{◌≡◌, ℕ, ◌^◌, Option, Some, None, codes, refl}
-use Rattle.job_template.specs.declared.templates.Start.{Start}
-use Rattle.job_template.specs.declared.templates.Start.TheVariants.{At, Now}
+use Rattle.drmaa_types.specs.declared.template_parts.Start.{Start}
+use Rattle.drmaa_types.specs.declared.template_parts.Start.TheVariants.{At, Now}
 use Rattle.text_codec.specs.Formats.{IsFormat, number, moment, pair}
 use Rattle.text_codec.specs.FormatLaws.{pair_laws, mapped_laws, or_else_laws}
 use Rattle.text_codec.specs.BaseLaws.{text_laws, moment_laws, moment_avoids, number_laws_64}

@@ -1,9 +1,9 @@
 -- The parts of templates that have a form of their own: our profile.
 use Rattle.std.specs.Prelude.{ℕ, ◌^◌, Option, Some, None, codes}
-use Rattle.job_template.specs.declared.templates.Pair.{Pair}
-use Rattle.job_template.specs.declared.templates.ResourceLimit.{ResourceLimit}
-use Rattle.job_template.specs.declared.templates.Start.{Start}
-use Rattle.job_template.specs.declared.templates.Start.TheVariants.{At, Now}
+use Rattle.drmaa_types.specs.declared.template_parts.Pair.{Pair}
+use Rattle.drmaa_types.specs.declared.template_parts.ResourceLimit.{ResourceLimit}
+use Rattle.drmaa_types.specs.declared.template_parts.Start.{Start}
+use Rattle.drmaa_types.specs.declared.template_parts.Start.TheVariants.{At, Now}
 use Rattle.text_codec.specs.Formats.{Format, number, moment, pair, mapped, or_else}
 use Rattle.text_codec.specs.Quotes.{text}
 use Rattle.text_codec.specs.Words.{capitals}

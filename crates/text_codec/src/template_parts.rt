@@ -6,7 +6,7 @@ ghost use Rattle.text_codec.specs.TemplateParts as parts;
 ghost use Rattle.text_codec.specs.TemplatePartLaws as laws;
 
 use crate::{Cursor, Form, Print, Unread, read_capitals};
-use job_template::{Pair, ResourceLimit, Start};
+use drmaa_types::{Pair, ResourceLimit, Start};
 use std::alloc::AllocError;
 
 impl Form for Pair {

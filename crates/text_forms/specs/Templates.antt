@@ -6,9 +6,9 @@ use Rattle.drmaa_types.specs.declared.refusals.Attribute.{Attribute}
 use Rattle.drmaa_types.specs.declared.refusals.Attribute.TheVariants as attribute
 use Rattle.job_template.specs.declared.templates.JobTemplate.{JobTemplate}
 use Rattle.job_template.specs.declared.templates.ReservationTemplate.{ReservationTemplate}
-use Rattle.job_template.specs.declared.templates.Pair.{Pair}
-use Rattle.job_template.specs.declared.templates.ResourceLimit.{ResourceLimit}
-use Rattle.job_template.specs.declared.templates.Start.{Start}
+use Rattle.drmaa_types.specs.declared.template_parts.Pair.{Pair}
+use Rattle.drmaa_types.specs.declared.template_parts.ResourceLimit.{ResourceLimit}
+use Rattle.drmaa_types.specs.declared.template_parts.Start.{Start}
 use Rattle.text_codec.specs.Formats.{Format, number, moment, mapped, checked}
 use Rattle.text_codec.specs.Fields.{Fields, field, flag, repeated, no_more, in_braces}
 use Rattle.text_codec.specs.Braces.{braces}

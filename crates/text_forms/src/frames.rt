@@ -4,8 +4,8 @@ ghost use Rattle.text_codec.specs.Formats.{Answers};
 ghost use Rattle.text_forms.specs.Templates as templates;
 
 use crate::job_templates::are_others;
-use drmaa_types::{AttributeList, Moment, Text};
-use job_template::{ReservationTemplate, Start};
+use drmaa_types::{AttributeList, Moment, Start, Text};
+use job_template::ReservationTemplate;
 use text_codec::{Cursor, Unread, read_all, read_set};
 
 /// The last fields: how many slots, and attributes that are not supported.

@@ -5,8 +5,10 @@ ghost use Rattle.text_codec.specs.Formats.{Answers};
 ghost use Rattle.text_codec.specs.declared.unread.Unread.{Unread};
 ghost use Rattle.text_forms.specs.Templates as templates;
 
-use drmaa_types::{Attribute, AttributeList, Moment, ReservationId, Text, TextList};
-use job_template::{JobTemplate, LimitList, PairList};
+use drmaa_types::{
+    Attribute, AttributeList, LimitList, Moment, PairList, ReservationId, Text, TextList,
+};
+use job_template::JobTemplate;
 use text_codec::{Cursor, Form, Unread, read_all, read_set};
 
 /// The last fields: priority, start, deadline, limits, and attributes that are not supported.

@@ -8,8 +8,8 @@ ghost use Rattle.text_codec.specs.Words.{capitals};
 ghost use Rattle.text_forms.specs.Templates as templates;
 ghost use Rattle.text_codec.specs.TemplateParts.{resource_limit};
 
-use drmaa_types::Text;
-use job_template::{JobTemplate, ReservationTemplate, ResourceLimit};
+use drmaa_types::{ResourceLimit, Text};
+use job_template::{JobTemplate, ReservationTemplate};
 use std::alloc::AllocError;
 use text_codec::{
     Print, is_capitals, push_braces, push_each, push_mark, push_number, push_set, push_word,

@@ -1,6 +1,6 @@
 use Rattle.std.proofs.Common.{ap, sym, ◌∙◌, set}
 use Rattle.std.proofs.lemmas.List.Edits.{map_over_more}
-use Rattle.job_template.specs.declared.templates.ResourceLimit.{ResourceLimit}
+use Rattle.drmaa_types.specs.declared.template_parts.ResourceLimit.{ResourceLimit}
 use Rattle.drmaa_model.specs.RecordedCalls.{recorded_limit}
 use Rattle.drmaa_machine.proofs.recorded_calls.record_limits.Goals as goal
 

@@ -1,6 +1,6 @@
 use Rattle.std.proofs.Common.{arith, ◌≡◌, true, Bool, ◌&&◌, List, [], ◌∷◌, map, refl, sym, ◌∙◌, ap, codes, if◌then◌else◌}
 use Rattle.job_template.specs.declared.templates.JobTemplate.{JobTemplate}
-use Rattle.job_template.specs.declared.templates.ResourceLimit.{ResourceLimit}
+use Rattle.drmaa_types.specs.declared.template_parts.ResourceLimit.{ResourceLimit}
 use Rattle.drmaa_model.specs.RecordedCalls.{is_word, recorded_limit, recorded_template}
 use Rattle.drmaa_machine.specs.Names.{has_words}
 use Rattle.drmaa_machine.proofs.recorded_calls.recorded_template.Goals as goal
