@@ -1,5 +1,5 @@
 -- What keeps a plan quiet.
-use Rattle.std.proofs.Common.{◌≡◌, ℕ, Bool, true, false, cond, eqb, not, ◌&&◌, ◌||◌, List, [], ◌∷◌, ◌++◌, map, filter, find, Option, Some, None, refl, ◌∙◌, ap}
+use Rattle.std.proofs.Common.{◌≡◌, ℕ, Bool, true, false, cond, eqb, not, ◌&&◌, ◌||◌, List, [], ◌∷◌, ◌++◌, map, filter, find, length, ◌<◌, Option, Some, None, refl, ◌∙◌, ap, subst}
 use Rattle.std.specs.Prelude.{is_some}
 use Rattle.std.specs.List.{AllByRecursion}
 use Rattle.std.specs.Option.{option_map_or}
@@ -24,24 +24,25 @@ use Rattle.drmaa_model.specs.Effects.{left_by, is_forgotten, forget_home}
 use Rattle.drmaa_model.specs.Fit.{IsRising, number_of}
 use Rattle.drmaa_model.specs.FitLaws.{all-append, SameKind, same-kind}
 use Rattle.drmaa_model.specs.Plan.{Plan}
-use Rattle.drmaa_model.specs.Requests.{with_reservation}
-use Rattle.drmaa_model.specs.RowLaws.{all-implied, all-map, all_with_course, all-filter}
+use Rattle.drmaa_model.specs.RowLaws.{all-implied, all-map, all_with_course, all-filter, row_of-is, row_of-all}
 use Rattle.drmaa_model.specs.Rows.{row_of, with_course}
 use Rattle.drmaa_model.specs.Time.{is_accepted, is_late, is_over, is_stranded, lapses}
-use Rattle.plan_book.specs.Quiet.{IsLeftUntil, LastsUntil, IsQuiet}
-use Rattle.plan_book.proofs.QuietLaws.{left-first, rows-first, rows-second, lasting-first, lasting-second, lasts-until}
+use Rattle.plan_book.specs.declared.alarm_blocks.Alarm.{Alarm}
+use Rattle.plan_book.specs.Quiet.{block_of, end_of, IsAlarmed, IsLeftUntil, LastsUntil, IsQuiet}
+use Rattle.plan_book.proofs.BlockLaws.{lowered, lowered-alarmed, lowered-here}
+use Rattle.plan_book.proofs.QuietLaws.{lasting-first, lasting-second, lasts-until}
 
 -- ---- a job goes on, and others come in
 
-pub quiet-put : (alarm soon : End) (p : Plan) (job : JobId) (course : Course) (row : Row) → IsQuiet alarm p → IsRising number_of p.rows → row_of job p.rows ≡ Some row
-    → IsLeftUntil (lesser_end alarm soon) p.reservations (record row { course = course }) → AllByRecursion (IsLeftUntil (lesser_end alarm soon) p.reservations) (map (with_course job course) p.rows)
-quiet-put alarm soon p job course row quiet rising found here =
-    all_with_course job course (IsLeftUntil (lesser_end alarm soon) p.reservations) p.rows row rising found (rows-first alarm soon p.reservations p.rows quiet.rows) here
-
-pub quiet-joined : (alarm soon : End) (rs : List Accepted) (rows more : List Row) → AllByRecursion (IsLeftUntil alarm rs) rows → AllByRecursion (IsLeftUntil soon rs) more
-    → AllByRecursion (IsLeftUntil (lesser_end alarm soon) rs) (rows ++ more)
-quiet-joined alarm soon rs rows more all new =
-    all-append (IsLeftUntil (lesser_end alarm soon) rs) rows more (rows-first alarm soon rs rows all) (rows-second alarm soon rs more new)
+pub alarmed-put : (es : List End) (soon : End) (p : Plan) (job : JobId) (course : Course) (row : Row) → AllByRecursion (IsAlarmed es p.reservations) p.rows → IsRising number_of p.rows → row_of job p.rows ≡ Some row
+    → IsLeftUntil soon p.reservations (record row { course = course }) → AllByRecursion (IsAlarmed (lowered es job.0 soon) p.reservations) (map (with_course job course) p.rows)
+alarmed-put es soon p job course row all rising found here =
+    let is = row_of-is job p.rows row found in
+    let own = row_of-all (IsAlarmed es p.reservations) job p.rows row all found in
+    let within : block_of job.0 < length es = subst (λ (n : ℕ). block_of n < length es) is own.covered in
+    all_with_course job course (IsAlarmed (lowered es job.0 soon) p.reservations) p.rows row rising found
+    (all-implied (IsAlarmed es p.reservations) (IsAlarmed (lowered es job.0 soon) p.reservations) (lowered-alarmed es job.0 soon within p.reservations) p.rows all)
+    (lowered-here es job.0 soon within p.reservations (record row { course = course }) is here)
 
 -- ---- a reservation comes in
 
@@ -83,20 +84,25 @@ left-reserved : (alarm : End) (rs : List Accepted) (x : Accepted) (r : Row) → 
 left-reserved alarm rs x r left = λ m ahead.
     fewer (is_waiting r.course.state) (is_late m r) (is_started r.course.state) (is_unasked r.course.kill) (is_over m r) (is_stranded rs r) (is_stranded (rs ++ x ∷ []) r) (stranded-push rs x r) (left m ahead)
 
-pub quiet-accepted : (alarm : End) (x : Accepted) (p : Plan) → IsQuiet alarm p → IsQuiet (lesser_end alarm (At x.until)) (with_reservation x p)
-quiet-accepted alarm x p quiet =
-    let sooner = lesser_end alarm (At x.until) in
-    record {
-      rows = all-implied (IsLeftUntil alarm p.reservations) (IsLeftUntil sooner (p.reservations ++ x ∷ []))
-          (λ r left. left-reserved sooner p.reservations x r (left-first alarm (At x.until) p.reservations r left)) p.rows quiet.rows;
-      reservations = all-append (LastsUntil sooner) p.reservations (x ∷ []) (lasting-first alarm (At x.until) p.reservations quiet.reservations)
-          (lasting-second alarm (At x.until) (x ∷ []) (lasts-until x, tt));
-    }
+pub alarmed-accepted : (es : List End) (x : Accepted) (rs : List Accepted) (rows : List Row) → AllByRecursion (IsAlarmed es rs) rows → AllByRecursion (IsAlarmed es (rs ++ x ∷ [])) rows
+alarmed-accepted es x rs rows all =
+    all-implied (IsAlarmed es rs) (IsAlarmed es (rs ++ x ∷ []))
+    (λ (r : Row) (is : IsAlarmed es rs r). record { covered = is.covered; left = left-reserved (end_of es r.job.0) rs x r is.left }) rows all
+
+pub lasts-accepted : (alarm : End) (x : Accepted) (rs : List Accepted) → AllByRecursion (LastsUntil alarm) rs → AllByRecursion (LastsUntil (lesser_end alarm (At x.until))) (rs ++ x ∷ [])
+lasts-accepted alarm x rs all =
+    all-append (LastsUntil (lesser_end alarm (At x.until))) rs (x ∷ []) (lasting-first alarm (At x.until) rs all)
+    (lasting-second alarm (At x.until) (x ∷ []) (lasts-until x, tt))
 
 -- ---- jobs that are forgotten
 
-pub quiet-left : (alarm : End) (test : Row → Bool) (p : Plan) → IsQuiet alarm p → IsQuiet alarm (record p { rows = filter test p.rows })
-quiet-left alarm test p quiet = record { rows = all-filter (IsLeftUntil alarm p.reservations) test p.rows quiet.rows; reservations = quiet.reservations }
+pub quiet-left : (alarm : Alarm) (test : Row → Bool) (p : Plan) → IsQuiet alarm p → IsQuiet alarm (record p { rows = filter test p.rows })
+quiet-left alarm test p quiet = record {
+  rows = all-filter (IsAlarmed alarm.ends.items p.reservations) test p.rows quiet.rows;
+  reservations = quiet.reservations;
+  soonest = quiet.soonest;
+  few = quiet.few;
+}
 
 -- ---- a home that is forgotten
 
@@ -123,14 +129,19 @@ left-homeless : (alarm : End) (home : ℕ) (rs : List Accepted) (r : Row) → Is
 left-homeless alarm home rs r left = λ m ahead.
     ap (λ (s : Bool). not (is_waiting r.course.state && (is_late m r || s)) && not (is_started r.course.state && (is_unasked r.course.kill && (is_over m r || s)))) (stranded-left home rs r) ∙ left m ahead
 
-pub quiet-forgotten : (alarm : End) (home : ℕ) (p : Plan) → IsQuiet alarm p → IsQuiet alarm (forget_home home p)
+pub quiet-forgotten : (alarm : Alarm) (home : ℕ) (p : Plan) → IsQuiet alarm p → IsQuiet alarm (forget_home home p)
 quiet-forgotten alarm home p quiet =
+    let es = alarm.ends.items in
     let rs = homeless home p.reservations in
+    let without : Row → Row = λ (r : Row). record r { home = left_by home r.home } in
     record {
-      rows = all-map (IsLeftUntil alarm rs) (λ (r : Row). record r { home = left_by home r.home }) (filter (λ (r : Row). not (is_forgotten home r)) p.rows)
-          (all-implied (IsLeftUntil alarm p.reservations) (λ (r : Row). IsLeftUntil alarm rs (record r { home = left_by home r.home })) (λ r left. left-homeless alarm home p.reservations r left) (filter (λ (r : Row). not (is_forgotten home r)) p.rows)
-          (all-filter (IsLeftUntil alarm p.reservations) (λ (r : Row). not (is_forgotten home r)) p.rows quiet.rows));
-      reservations = all-map (LastsUntil alarm) (λ (x : Accepted). record x { home = left_by home x.home }) p.reservations quiet.reservations;
+      rows = all-map (IsAlarmed es rs) without (filter (λ (r : Row). not (is_forgotten home r)) p.rows)
+          (all-implied (IsAlarmed es p.reservations) (λ (r : Row). IsAlarmed es rs (without r))
+          (λ (r : Row) (is : IsAlarmed es p.reservations r). record { covered = is.covered; left = left-homeless (end_of es r.job.0) home p.reservations r is.left }) (filter (λ (r : Row). not (is_forgotten home r)) p.rows)
+          (all-filter (IsAlarmed es p.reservations) (λ (r : Row). not (is_forgotten home r)) p.rows quiet.rows));
+      reservations = all-map (LastsUntil alarm.lasting) (λ (x : Accepted). record x { home = left_by home x.home }) p.reservations quiet.reservations;
+      soonest = quiet.soonest;
+      few = quiet.few;
     }
 
 -- ---- jobs that a call acts on
@@ -169,9 +180,10 @@ module _ (alarm : End) (rs : List Accepted) (r : Row) (left : IsLeftUntil alarm 
   left-acted moment Release state permits = left-state state (same-kind Release r.course.state state (λ e. cc) permits)
   left-acted moment Terminate state permits = left-terminated moment
 
-left-controlled : (alarm : End) (rs : List Accepted) (moment : ℕ) (t : Target) (what : Control) (r : Row) → IsLeftUntil alarm rs r → IsLeftUntil alarm rs (control_step moment t what r)
-left-controlled alarm rs moment t what r left = control-cases (λ (p n : Row). IsLeftUntil alarm rs p → IsLeftUntil alarm rs n) moment t what r (λ h. h) (λ state e h. left-acted alarm rs r h moment what state e) left
+alarmed-step : (es : List End) (rs : List Accepted) (moment : ℕ) (t : Target) (what : Control) (r : Row) → IsAlarmed es rs r → IsAlarmed es rs (control_step moment t what r)
+alarmed-step es rs moment t what r is = control-cases (λ (p n : Row). IsAlarmed es rs p → IsAlarmed es rs n) moment t what r (λ h. h)
+    (λ state e h. record { covered = h.covered; left = left-acted (end_of es r.job.0) rs r h.left moment what state e }) is
 
-pub quiet-controlled : (alarm : End) (rs : List Accepted) (moment : ℕ) (t : Target) (what : Control) (rows : List Row) → AllByRecursion (IsLeftUntil alarm rs) rows → AllByRecursion (IsLeftUntil alarm rs) (map (control_step moment t what) rows)
-quiet-controlled alarm rs moment t what rows all =
-    all-map (IsLeftUntil alarm rs) (control_step moment t what) rows (all-implied (IsLeftUntil alarm rs) (λ (r : Row). IsLeftUntil alarm rs (control_step moment t what r)) (λ r left. left-controlled alarm rs moment t what r left) rows all)
+pub alarmed-controlled : (es : List End) (rs : List Accepted) (moment : ℕ) (t : Target) (what : Control) (rows : List Row) → AllByRecursion (IsAlarmed es rs) rows → AllByRecursion (IsAlarmed es rs) (map (control_step moment t what) rows)
+alarmed-controlled es rs moment t what rows all =
+    all-map (IsAlarmed es rs) (control_step moment t what) rows (all-implied (IsAlarmed es rs) (λ (r : Row). IsAlarmed es rs (control_step moment t what r)) (λ r is. alarmed-step es rs moment t what r is) rows all)

@@ -6,14 +6,14 @@ use Rattle.drmaa_types.specs.declared.moments.End.{End}
 use Rattle.drmaa_model.specs.declared.courses.Order.{Order}
 use Rattle.drmaa_model.specs.declared.reservations.Accepted.{Accepted}
 use Rattle.drmaa_model.specs.declared.rows.Row.{Row}
-use Rattle.drmaa_model.specs.Courses.{lesser_end}
-use Rattle.drmaa_model.specs.RowLaws.{all-push}
+use Rattle.drmaa_model.specs.RowLaws.{all-implied, all-push}
 use Rattle.drmaa_model.specs.Time.{lapsed, is_due, kill_order}
 use Rattle.plan_book.specs.declared.sums.Sums.{Sums}
 use Rattle.plan_book.specs.Lapses.{kills_then}
-use Rattle.plan_book.specs.Quiet.{IsLeftUntil, acts_at}
+use Rattle.plan_book.specs.Quiet.{block_of, IsAlarmed, acts_at}
 use Rattle.plan_book.specs.Sums.{AreSums, with_job}
-use Rattle.plan_book.proofs.QuietLaws.{acts-left, left-second, rows-first}
+use Rattle.plan_book.proofs.BlockLaws.{lowered, lowered-alarmed, lowered-here}
+use Rattle.plan_book.proofs.QuietLaws.{acts-left}
 use Rattle.plan_book.proofs.SumLaws.{sums-push}
 
 -- the walk has not come to the element before it reads it
@@ -32,13 +32,16 @@ pub sums-more : (f : Row → Row) (rows : List Row) (i : ℕ) (row : Row) (sums 
 sums-more f rows i row sums within is small are =
     subst (λ (rs : List Row). AreSums rs (with_job sums (f row).course)) (sym (front-more f rows i row within is)) (sums-push (map f (take i rows)) (f row) sums small are)
 
-pub soonest-more : (f : Row → Row) (rs : List Accepted) (rows : List Row) (i : ℕ) (row : Row) (was : End) → i < length rows → row ≡ get_or rows i row
-    → AllByRecursion (IsLeftUntil was rs) (map f (take i rows)) → AllByRecursion (IsLeftUntil (lesser_end was (acts_at rs (f row))) rs) (map f (take (i + 1) rows))
-soonest-more f rs rows i row was within is all =
-    let acts = acts_at rs (f row) in
-    subst (AllByRecursion (IsLeftUntil (lesser_end was acts) rs)) (sym (front-more f rows i row within is))
-    (all-push (IsLeftUntil (lesser_end was acts) rs) (map f (take i rows)) (f row) (rows-first was acts rs (map f (take i rows)) all)
-    (left-second was acts rs (f row) (acts-left rs (f row))))
+-- the blocks of the jobs that it has come past have ends
+pub alarmed-more : (f : Row → Row) (rs : List Accepted) (rows : List Row) (i : ℕ) (row : Row) (es : List End) → i < length rows → row ≡ get_or rows i row → block_of (f row).job.0 < length es
+    → AllByRecursion (IsAlarmed es rs) (map f (take i rows)) → AllByRecursion (IsAlarmed (lowered es (f row).job.0 (acts_at rs (f row))) rs) (map f (take (i + 1) rows))
+alarmed-more f rs rows i row es within is covered all =
+    let n = (f row).job.0 in
+    let next = lowered es n (acts_at rs (f row)) in
+    subst (AllByRecursion (IsAlarmed next rs)) (sym (front-more f rows i row within is))
+    (all-push (IsAlarmed next rs) (map f (take i rows)) (f row)
+    (all-implied (IsAlarmed es rs) (IsAlarmed next rs) (lowered-alarmed es n (acts_at rs (f row)) covered rs) (map f (take i rows)) all)
+    (lowered-here es n (acts_at rs (f row)) covered rs (f row) refl (acts-left rs (f row))))
 
 -- what is added for each that passes a test, and for no other
 pub filter-flat : {Y : Type 0} (test : Row → Bool) (f : Row → Y) (rows : List Row) → flat_map (λ (r : Row). cond (test r) (f r ∷ []) []) rows ≡ map f (filter test rows)

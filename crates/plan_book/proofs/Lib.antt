@@ -1,5 +1,6 @@
 pub mod AlarmLaws
 pub mod ArrivalLaws
+pub mod BlockLaws
 pub mod FirstOrder
 pub mod Flat
 pub mod GoneLaws

@@ -18,14 +18,13 @@ use Rattle.drmaa_model.specs.Plan.{Plan}
 use Rattle.drmaa_model.specs.Rows.{change_of}
 use Rattle.drmaa_model.specs.Courses.{failed, called, is_unasked, lesser_end, optional_end}
 use Rattle.drmaa_model.specs.RowLaws.{all-implied, all-push}
-use Rattle.drmaa_model.specs.Time.{come_to, let_go, lasts, is_late, is_past, is_over, is_stranded, advance_plan, lapses, lapsed, expire, is_due, called_in, call_in, kill_order}
-use Rattle.drmaa_model.specs.TimeLaws.{changes-lapsed, expiry, timed, waits-not_started}
+use Rattle.drmaa_model.specs.Time.{come_to, let_go, lasts, is_late, is_past, is_over, is_stranded, lapses, lapsed, expire, is_due, called_in, call_in, kill_order}
+use Rattle.drmaa_model.specs.TimeLaws.{changes-lapsed, expiry, waits-not_started}
 use Rattle.reservation_calendar.specs.declared.bookings.Booking.{Booking}
 use Rattle.reservation_calendar.specs.declared.bookings.Key.{Key}
 use Rattle.reservation_calendar.specs.declared.bookings.Key.TheVariants.{Job, Reservation}
 use Rattle.reservation_calendar.specs.Schedules.{Schedule}
-use Rattle.plan_book.specs.Book.{course_then}
-use Rattle.plan_book.specs.Quiet.{is_left, IsLeftUntil, LastsUntil, IsQuiet, acts_at}
+use Rattle.plan_book.specs.Quiet.{is_left, IsLeftUntil, LastsUntil, acts_at}
 use Rattle.plan_book.specs.Ties.{is_gone, let_go_of}
 
 pub not-true : (b : Bool) → not b ≡ true → b ≡ false
@@ -83,7 +82,7 @@ past-later a b m later ahead = grind (arith, nat_tests)
 past-sooner : (a b m : ℕ) → nat_le a b ≡ true → nat_le a m ≡ false → nat_le b m ≡ false
 past-sooner a b m sooner ahead = grind (arith, nat_tests)
 
-lesser-first : (m : ℕ) (a b : End) → is_past m (lesser_end a b) ≡ false → is_past m a ≡ false
+pub lesser-first : (m : ℕ) (a b : End) → is_past m (lesser_end a b) ≡ false → is_past m a ≡ false
 lesser-first m Never b ahead = refl
 lesser-first m (At x) Never ahead = ahead
 lesser-first m (At x) (At y) ahead =
@@ -92,7 +91,7 @@ lesser-first m (At x) (At y) ahead =
       | false ↦ λ e h. past-later x y m e h
     ]) refl ahead
 
-lesser-second : (m : ℕ) (a b : End) → is_past m (lesser_end a b) ≡ false → is_past m b ≡ false
+pub lesser-second : (m : ℕ) (a b : End) → is_past m (lesser_end a b) ≡ false → is_past m b ≡ false
 lesser-second m Never b ahead = ahead
 lesser-second m (At x) Never ahead = refl
 lesser-second m (At x) (At y) ahead =
@@ -100,6 +99,11 @@ lesser-second m (At x) (At y) ahead =
       | true ↦ λ e h. past-sooner x y m e h
       | false ↦ λ e h. h
     ]) refl ahead
+
+pub lesser-both : (m : ℕ) (a b : End) → is_past m a ≡ false → is_past m b ≡ false → is_past m (lesser_end a b) ≡ false
+lesser-both m Never b first second = second
+lesser-both m (At x) Never first second = first
+lesser-both m (At x) (At y) first second = elim (nat_le x y) as (λ (t : Bool). is_past m (cond t (At x) (At y)) ≡ false) [ true ↦ first | false ↦ second ]
 
 pub left-first : (a b : End) (rs : List Accepted) (r : Row) → IsLeftUntil a rs r → IsLeftUntil (lesser_end a b) rs r
 left-first a b rs r left = λ m ahead. left m (lesser-first m a b ahead)
@@ -152,25 +156,18 @@ acts-left rs r = λ m ahead.
 
 -- ---- before its alarm time does nothing to a plan
 
-left-all : (m : ℕ) (rs : List Accepted) (end : End) (rows : List Row) → is_past m end ≡ false → AllByRecursion (IsLeftUntil end rs) rows → list_all (is_left m rs) rows ≡ true
-left-all m rs end [] ahead all = refl
-left-all m rs end (r ∷ rows) ahead all =
-    ap (λ (b : Bool). b && list_all (is_left m rs) rows) (all.0 m ahead) ∙ left-all m rs end rows ahead all.1
-
-filter-each : {X : Type 0} (test : X → Bool) (xs : List X) → AllByRecursion (λ x. test x ≡ true) xs → filter test xs ≡ xs
+pub filter-each : {X : Type 0} (test : X → Bool) (xs : List X) → AllByRecursion (λ x. test x ≡ true) xs → filter test xs ≡ xs
 filter-each test [] all = refl
 filter-each test (x ∷ xs) all = ap (λ b. cond b (x ∷ filter test xs) (filter test xs)) all.0 ∙ ap (λ ys. x ∷ ys) (filter-each test xs all.1)
 
-all-last : (m : ℕ) (alarm : End) (rs : List Accepted) → is_past m alarm ≡ false → AllByRecursion (LastsUntil alarm) rs → AllByRecursion (λ (r : Accepted). lasts m r ≡ true) rs
+pub all-last : (m : ℕ) (alarm : End) (rs : List Accepted) → is_past m alarm ≡ false → AllByRecursion (LastsUntil alarm) rs → AllByRecursion (λ (r : Accepted). lasts m r ≡ true) rs
 all-last m alarm rs ahead all = all-implied (LastsUntil alarm) (λ (r : Accepted). lasts m r ≡ true) (λ r until. until m ahead) rs all
 
--- time sets the moment alone
-pub quiet-advance : (alarm : End) (entry at : ℕ) (p : Plan) → IsQuiet alarm p → is_past (max p.moment at) alarm ≡ false → advance_plan entry at p ≡ come_to at p
-quiet-advance alarm entry at p is ahead =
+-- where the reservations last, none is let go
+pub gone-none : (alarm : End) (at : ℕ) (p : Plan) → AllByRecursion (LastsUntil alarm) p.reservations → is_past (max p.moment at) alarm ≡ false → let_go (come_to at p) ≡ come_to at p
+gone-none alarm at p last ahead =
     let m = max p.moment at in
-    let gone : let_go (come_to at p) ≡ come_to at p =
-    ap (λ (rs : List Accepted). let q : Plan = record (come_to at p) { reservations = rs } in q) (filter-each (lasts m) p.reservations (all-last m alarm p.reservations ahead is.reservations)) in
-    ap (λ (q : Plan). call_in (expire entry q)) gone ∙ quiet (come_to at p) entry (left-all m p.reservations alarm p.rows ahead is.rows)
+    ap (λ (rs : List Accepted). let q : Plan = record (come_to at p) { reservations = rs } in q) (filter-each (lasts m) p.reservations (all-last m alarm p.reservations ahead last))
 
 none-gone : (m : ℕ) (rs : List Accepted) → AllByRecursion (λ (r : Accepted). lasts m r ≡ true) rs → (key : Key) → is_gone m rs key ≡ false
 none-gone m rs all (Job job) = refl
@@ -187,19 +184,6 @@ quiet-calendar alarm m rs s all ahead =
     each : (bs : List Booking) → AllByRecursion (λ (b : Booking). not (is_gone m rs b.key) ≡ true) bs
     each [] = tt
     each (b ∷ bs) = (ap not (none-gone m rs (all-last m alarm rs ahead all) b.key), each bs)
-
--- and so does each job's course
-pub quiet-courses : (alarm : End) (at : ℕ) (p : Plan) → IsQuiet alarm p → is_past (max p.moment at) alarm ≡ false → AllByRecursion (λ (r : Row). course_then at p r ≡ r.course) p.rows
-quiet-courses alarm at p is ahead =
-    let m = max p.moment at in
-    let rs = p.reservations in
-    let same : filter (lasts m) rs ≡ rs = filter-each (lasts m) rs (all-last m alarm rs ahead is.reservations) in
-    all-implied (IsLeftUntil alarm rs) (λ (r : Row). course_then at p r ≡ r.course)
-    (λ r left.
-    (let own = and_parts (not (lapses m rs r)) (not (is_due m rs r)) (left m ahead) in
-    ap (λ (xs : List Accepted). (timed m xs r).course) same
-    ∙ ap (λ (x : Row). (called_in m rs x).course) (lapsed-same m rs r (not-true (lapses m rs r) own.0))
-    ∙ ap (λ (x : Row). x.course) (called-same m rs r (not-true (is_due m rs r) own.1)))) p.rows is.rows
 
 -- ---- loops
 

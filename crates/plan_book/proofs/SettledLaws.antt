@@ -120,7 +120,7 @@ kills-none moment rs row settled =
     let none = settled-idle moment rs row settled in
     ap (kills moment rs) (lapsed-same moment rs row none.0) ∙ ap (λ (b : Bool). cond b (kill_order row ∷ []) []) none.1
 
-left-settled : (end : End) (rs : List Accepted) (row : Row) → is_settled row ≡ true → IsLeftUntil end rs row
+pub left-settled : (end : End) (rs : List Accepted) (row : Row) → is_settled row ≡ true → IsLeftUntil end rs row
 left-settled end rs row settled = λ moment ahead.
     (let none = settled-idle moment rs row settled in ap (λ (b : Bool). not b && not (is_due moment rs row)) none.0 ∙ ap not none.1)
 

@@ -1,5 +1,4 @@
-//! The alarm: before it time leaves all jobs and reservations as they are, so that an advance sets the moment alone. None of it
-//! takes memory.
+//! When time may act on a job, and on jobs that come in or go on. None of it takes memory.
 ghost use Rattle.std.specs.Prelude.{◌≡◌, Some};
 ghost use Rattle.std.specs.List.{AllByRecursion};
 ghost use Rattle.std.specs.Option.{option_map_or};
@@ -8,8 +7,10 @@ ghost use Rattle.drmaa_model.specs.declared.rows.Row.{Row};
 ghost use Rattle.drmaa_model.specs.Fit.{IsRising, number_of};
 ghost use Rattle.drmaa_model.specs.Rows.{row_of};
 ghost use Rattle.plan_book.specs.Places.{AreSorted};
-ghost use Rattle.plan_book.specs.Quiet.{IsLeftUntil, LastsUntil, acts_at, unless_stranded};
+ghost use Rattle.drmaa_model.specs.Plan.{Plan};
+ghost use Rattle.plan_book.specs.Quiet.{AreCovered, IsAlarmed, IsLeftUntil, IsQuiet, LastsUntil, acts_at, unless_stranded};
 
+use crate::alarm_blocks::Alarm;
 use crate::book::opening_moment;
 use crate::courses::{is_unasked, lesser_end, optional_end};
 use crate::states::{is_started, is_waiting};
@@ -64,16 +65,16 @@ pub fn soonest_with(rs: &Vec<Accepted>, rows: &Rows, job: JobId, course: &Course
     }
 }
 
-/// Before it time leaves each of the jobs as it is.
-pub fn soonest_of(rs: &Vec<Accepted>, rows: &Vec<Row>) -> End
+/// Time may act on these jobs, whose blocks are there, from now on. What is quiet stays so.
+pub fn alarm_rows(alarm: &mut Alarm, rs: &Vec<Accepted>, rows: &Vec<Row>)
     requires sorted { AreSorted rs.now.items }
-    ensures { AllByRecursion (IsLeftUntil result rs.now.items) rows.now.items }
+    requires covered { AreCovered alarm.old.ends.items rows.now.items }
+    ensures rows { AllByRecursion (IsAlarmed alarm.new.ends.items rs.now.items) rows.now.items }
+    ensures quiet { (p : Plan) → IsQuiet alarm.old p → IsQuiet alarm.new p }
 {
-    let mut soonest = End::Never;
     for row in rows {
-        soonest = lesser_end(soonest, acts_at(rs, row, &row.course));
+        alarm.lower(row.job, acts_at(rs, row, &row.course));
     }
-    soonest
 }
 
 /// Before it each reservation lasts.

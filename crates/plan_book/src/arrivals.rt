@@ -7,12 +7,11 @@ ghost use Rattle.drmaa_model.specs.Targets.{is_meant};
 ghost use Rattle.plan_book.specs.Book.{plan_of, HasRoom, IsBook, joined, spare, spare_rows};
 ghost use Rattle.plan_book.specs.Occasions.{plan_at, StepsAt};
 ghost use Rattle.plan_book.specs.Places.{AreSorted};
-ghost use Rattle.plan_book.specs.Quiet.{IsQuiet};
+ghost use Rattle.plan_book.specs.Quiet.{block_of, AreCovered, IsQuiet};
 ghost use Rattle.plan_book.specs.Waiting.{AreWaiting};
 
-use crate::alarms::soonest_of;
+use crate::alarms::alarm_rows;
 use crate::book::Book;
-use crate::courses::lesser_end;
 use crate::occasions::Occasion;
 use crate::targets::{is_done, is_meant};
 use drmaa_model::{NoEntry, Row, Target};
@@ -52,15 +51,18 @@ impl Book {
     fn make_seats(&mut self, n: usize) -> Result<(), AllocError>
         requires room { HasRoom self.old }
         requires few { n < 2 ^ 32 }
+        requires next { self.old.next_job + n < 2 ^ 64 }
         ensures plan { plan_of self.new ≡ plan_of self.old }
         ensures calendar { self.new.calendar ≡ self.old.calendar }
         ensures room { HasRoom self.new }
         ensures more { spare self.old ≤ spare self.new }
         ensures rows { OnOk result (n ≤ spare_rows self.new) }
         ensures changes { OnOk result (n ≤ spare self.new) }
+        ensures blocks { OnOk result (block_of (self.new.next_job + n) < length self.new.alarm.ends.items) }
         ensures quiet { IsQuiet self.old.alarm (plan_of self.old) → IsQuiet self.new.alarm (plan_of self.new) }
     {
         self.changes.reserve(self.rows.owed() + n)?;
+        self.alarm.reach(self.next_job + n as u64)?;
         self.rows.reserve(n)
     }
 
@@ -72,6 +74,7 @@ impl Book {
         requires next_job { self.old.next_job + length rows.items < 2 ^ 64 }
         requires next_array { self.old.next_array + arrays < 2 ^ 64 }
         requires quiet { IsQuiet self.old.alarm (plan_of self.old) }
+        requires covered { AreCovered self.old.alarm.ends.items rows.items }
         requires sorted { AreSorted self.old.reservations.items }
         ensures plan { plan_of self.new ≡ joined rows.items arrays (plan_of self.old) }
         ensures calendar { self.new.calendar ≡ self.old.calendar }
@@ -79,7 +82,7 @@ impl Book {
         ensures spare { spare self.old ≤ spare self.new + length rows.items }
         ensures quiet { IsQuiet self.new.alarm (plan_of self.new) }
     {
-        self.alarm = lesser_end(self.alarm, soonest_of(&self.reservations, &rows));
+        alarm_rows(&mut self.alarm, &self.reservations, &rows);
         self.next_job += rows.len() as u64;
         self.next_array += arrays;
         self.rows.append_rows(rows);

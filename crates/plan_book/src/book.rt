@@ -20,13 +20,14 @@ ghost use Rattle.plan_book.specs.Open.{AreOpen, IsPriorityBound};
 ghost use Rattle.plan_book.specs.Owed.{reports_to_come};
 ghost use Rattle.plan_book.specs.Places.{AreSorted};
 
+use crate::alarm_blocks::Alarm;
 use crate::reservations::{is_lasting, reservation_of};
 use crate::rows::Facts;
 use crate::spans::{NumberRange, no_numbers};
 use crate::summed_rows::Rows;
 use crate::time::{course_at, is_past};
 use drmaa_model::{Accepted, Course, Order, Row, Target};
-use drmaa_types::{ArrayId, Change, End, JobId, Moment, QueueList, Refusal, ReservationId};
+use drmaa_types::{ArrayId, Change, JobId, Moment, QueueList, Refusal, ReservationId};
 use reservation_calendar::Calendar;
 use std::alloc::Global;
 
@@ -45,7 +46,7 @@ pub struct Book {
     pub next_array: u64,
     pub next_reservation: u64,
     /// Before it time leaves all jobs and reservations as they are. It may be sooner than need be.
-    pub alarm: End,
+    pub alarm: Alarm,
 }
 
 impl Drop for Book {
@@ -86,7 +87,7 @@ impl Book {
             next_job: 1,
             next_array: 1,
             next_reservation: 1,
-            alarm: End::Never,
+            alarm: Alarm::new(alloc),
         }
     }
 
@@ -130,7 +131,7 @@ impl Book {
         requires book { IsBook self.now }
         ensures { result ≡ true → AllByRecursion (λ (row : Row). course_then at (plan_of self.now) row ≡ row.course) (plan_of self.now).rows }
     {
-        !is_past(self.alarm, self.moment_at(at))
+        !is_past(self.alarm.soonest, self.moment_at(at))
     }
 
     /// What is known of a job once time has come to this moment.

@@ -9,8 +9,8 @@ ghost use Rattle.plan_book.specs.Places.{AreSorted};
 ghost use Rattle.plan_book.specs.Quiet.{IsQuiet};
 ghost use Rattle.plan_book.specs.Ties.{IsFree, booked_for};
 
+use crate::alarms::first_end;
 use crate::book::Book;
-use crate::courses::lesser_end;
 use crate::occasions::Occasion;
 use drmaa_model::{Accepted, NoEntry};
 use drmaa_types::{End, ReservationId};
@@ -65,7 +65,7 @@ impl Book {
         ensures spare { spare self.new ≡ spare self.old }
         ensures quiet { IsQuiet self.new.alarm (plan_of self.new) }
     {
-        self.alarm = lesser_end(self.alarm, End::At(accepted.until));
+        self.alarm.lower_lasting(End::At(accepted.until));
         self.reservations.push_reserved(accepted);
         self.next_reservation += 1;
     }
@@ -92,7 +92,8 @@ impl Book {
         }
         self.advance(occasion.at, occasion.entry);
         self.drop_reservation(reservation);
-        self.sweep(occasion.entry);
+        let lasting = first_end(&self.reservations);
+        self.sweep(self.all_blocks(), lasting, occasion.entry);
         Ok(())
     }
 
@@ -104,6 +105,7 @@ impl Book {
         ensures sorted { AreSorted self.new.reservations.items }
         ensures room { HasRoom self.new }
         ensures spare { spare self.new ≡ spare self.old }
+        ensures alarm { self.new.alarm ≡ self.old.alarm }
     {
         self.calendar.cancel(Key::Reservation(reservation));
         keep_others(&mut self.reservations, reservation);

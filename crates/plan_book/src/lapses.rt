@@ -2,27 +2,21 @@
 //! come to then is added up on the way. It takes no memory.
 ghost use Rattle.std.specs.Prelude.{◌≡◌, ◌+◌, ◌≤◌, ◌<◌, ◌^◌, ◌++◌, map, length, vec_len, vec_capacity};
 ghost use Rattle.std.specs.List.{AllByRecursion, flat_map};
+ghost use Rattle.drmaa_model.specs.declared.rows.Row.{Row};
 ghost use Rattle.drmaa_model.specs.Time.{lapsed, called_in};
 ghost use Rattle.drmaa_model.specs.TimeLaws.{timed};
 ghost use Rattle.plan_book.specs.Lapses.{ends, kills, kills_then};
 ghost use Rattle.plan_book.specs.Places.{AreSorted};
-ghost use Rattle.plan_book.specs.Quiet.{IsLeftUntil};
+ghost use Rattle.plan_book.specs.Quiet.{AreCovered, IsAlarmed};
 ghost use Rattle.plan_book.specs.Sums.{AreSums};
 
+use crate::alarm_blocks::Alarm;
 use crate::alarms::acts_at;
-use crate::courses::{called, failed, lesser_end};
+use crate::courses::{called, failed};
 use crate::sums::{Sums, no_sums, with_job};
 use crate::time::{due_note, is_due, lapse_note, lapses};
 use drmaa_model::{Accepted, Order, Row};
-use drmaa_types::{Change, End, JobState, Moment, SignalKind};
-
-/// What the jobs come to after the walk.
-#[derive(Clone, Copy)]
-pub struct Swept {
-    pub sums: Sums,
-    /// Before it time leaves each of the jobs as it is.
-    pub soonest: End,
-}
+use drmaa_types::{Change, JobState, Moment, SignalKind};
 
 /// Ends a waiting job whose time is over.
 fn expire_row(
@@ -72,17 +66,19 @@ fn call_in_row(rs: &Vec<Accepted>, row: &mut Row, orders: &mut Vec<Order>, momen
     }
 }
 
-/// The jobs whose time is over end or are asked to end.
+/// The jobs whose time is over end or are asked to end, and what they come to then. Their blocks are there.
 pub fn sweep_rows(
     rs: &Vec<Accepted>,
     rows: &mut [Row],
     changes: &mut Vec<Change>,
     orders: &mut Vec<Order>,
+    alarm: &mut Alarm,
     moment: Moment,
     entry: u64,
-) -> Swept
+) -> Sums
     requires sorted { AreSorted rs.now.items }
     requires few { length rows.old < 2 ^ 63 }
+    requires covered { AreCovered alarm.old.ends.items rows.old }
     requires changes { vec_len changes.old + length (flat_map (ends entry moment rs.now.items) rows.old) ≤ vec_capacity changes.old }
     requires orders { vec_len orders.old + length (flat_map (kills_then moment rs.now.items) rows.old) ≤ vec_capacity orders.old }
     ensures items { rows.new ≡ map (timed moment rs.now.items) rows.old }
@@ -92,16 +88,17 @@ pub fn sweep_rows(
     ensures orders { orders.new.items ≡ orders.old.items ++ flat_map (kills_then moment rs.now.items) rows.old }
     ensures orders_len { vec_len orders.new ≡ vec_len orders.old + length (flat_map (kills_then moment rs.now.items) rows.old) }
     ensures orders_capacity { vec_capacity orders.new ≡ vec_capacity orders.old }
-    ensures sums { AreSums rows.new result.sums }
-    ensures soonest { AllByRecursion (IsLeftUntil result.soonest rs.now.items) rows.new }
+    ensures sums { AreSums rows.new result }
+    ensures alarmed { AllByRecursion (IsAlarmed alarm.new.ends.items rs.now.items) rows.new }
+    ensures kept { (row : Row) → IsAlarmed alarm.old.ends.items rs.now.items row → IsAlarmed alarm.new.ends.items rs.now.items row }
+    ensures blocks { length alarm.new.ends.items ≡ length alarm.old.ends.items }
 {
     let mut sums = no_sums();
-    let mut soonest = End::Never;
     for row in rows.iter_mut() {
         expire_row(rs, row, changes, moment, entry);
         call_in_row(rs, row, orders, moment);
         sums = with_job(&sums, &row.course);
-        soonest = lesser_end(soonest, acts_at(rs, row, &row.course));
+        alarm.lower(row.job, acts_at(rs, row, &row.course));
     }
-    Swept { sums, soonest }
+    sums
 }

@@ -3,6 +3,7 @@
 #![tactic(auto)]
 
 mod advances;
+mod alarm_blocks;
 mod alarms;
 mod arrivals;
 mod book;
@@ -30,6 +31,7 @@ pub mod targets;
 mod texts;
 mod time;
 
+pub use alarm_blocks::Alarm;
 pub use book::Book;
 pub use moves::{Booked, Edit, Move};
 pub use occasions::Occasion;

@@ -13,7 +13,6 @@ use crate::alarms::soonest_with;
 use crate::book::Book;
 use crate::bookings::make_booking;
 use crate::changes::push_change;
-use crate::courses::lesser_end;
 use crate::moves::{Booked, Move};
 use crate::occasions::Occasion;
 use crate::orders::edit_orders;
@@ -129,7 +128,7 @@ impl Book {
         ensures quiet { IsQuiet self.new.alarm (plan_of self.new) }
     {
         let soonest = soonest_with(&self.reservations, &self.rows, m.job, &m.after);
-        self.alarm = lesser_end(self.alarm, soonest);
+        self.alarm.lower(m.job, soonest);
         let change = Change {
             entry,
             job: m.job,

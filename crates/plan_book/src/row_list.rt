@@ -10,11 +10,12 @@ ghost use Rattle.drmaa_model.specs.Targets.{is_meant};
 ghost use Rattle.drmaa_model.specs.TimeLaws.{timed};
 ghost use Rattle.plan_book.specs.Lapses.{ends, kills_then};
 ghost use Rattle.plan_book.specs.Places.{AreSorted};
-ghost use Rattle.plan_book.specs.Quiet.{IsLeftUntil};
+ghost use Rattle.plan_book.specs.Quiet.{AreCovered, IsAlarmed};
 ghost use Rattle.plan_book.specs.Sums.{AreSums};
 
-use crate::lapses::Swept;
+use crate::alarm_blocks::Alarm;
 use crate::rows::Places;
+use crate::sums::Sums;
 use crate::{arrivals, homes, lapses, sweeps};
 use drmaa_model::{Accepted, Course, Order, Row, Target};
 use drmaa_types::{Change, Control, Moment};
@@ -90,34 +91,48 @@ impl RowList {
         self.list[at].course = *course;
     }
 
-    /// The jobs from this place on whose time is over end or are asked to end.
+    /// Those of the jobs between these places whose time is over end or are asked to end, and what they all come to then.
     pub fn sweep_rows(
         &mut self,
-        from: usize,
+        places: Places,
         rs: &Vec<Accepted>,
         changes: &mut Vec<Change>,
         orders: &mut Vec<Order>,
+        alarm: &mut Alarm,
         moment: Moment,
         entry: u64,
-    ) -> Swept
-        requires within { from ≤ length self.old.items }
+    ) -> Sums
+        requires span { places.from ≤ places.until }
+        requires within { places.until ≤ length self.old.items }
         requires sorted { AreSorted rs.now.items }
-        requires changes { vec_len changes.old + length (flat_map (ends entry moment rs.now.items) (drop from self.old.items)) ≤ vec_capacity changes.old }
-        requires orders { vec_len orders.old + length (flat_map (kills_then moment rs.now.items) (drop from self.old.items)) ≤ vec_capacity orders.old }
-        ensures items { self.new.items ≡ take from self.old.items ++ map (timed moment rs.now.items) (drop from self.old.items) }
+        requires covered { AreCovered alarm.old.ends.items (take (places.until - places.from) (drop places.from self.old.items)) }
+        requires changes { vec_len changes.old + length (flat_map (ends entry moment rs.now.items) (take (places.until - places.from) (drop places.from self.old.items))) ≤ vec_capacity changes.old }
+        requires orders { vec_len orders.old + length (flat_map (kills_then moment rs.now.items) (take (places.until - places.from) (drop places.from self.old.items))) ≤ vec_capacity orders.old }
+        ensures items { self.new.items ≡ take places.from self.old.items ++ (map (timed moment rs.now.items) (take (places.until - places.from) (drop places.from self.old.items)) ++ drop places.until self.old.items) }
         ensures len { vec_len self.new ≡ vec_len self.old }
         ensures capacity { vec_capacity self.new ≡ vec_capacity self.old }
-        ensures changes { changes.new.items ≡ changes.old.items ++ flat_map (ends entry moment rs.now.items) (drop from self.old.items) }
-        ensures changes_len { vec_len changes.new ≡ vec_len changes.old + length (flat_map (ends entry moment rs.now.items) (drop from self.old.items)) }
+        ensures changes { changes.new.items ≡ changes.old.items ++ flat_map (ends entry moment rs.now.items) (take (places.until - places.from) (drop places.from self.old.items)) }
+        ensures changes_len { vec_len changes.new ≡ vec_len changes.old + length (flat_map (ends entry moment rs.now.items) (take (places.until - places.from) (drop places.from self.old.items))) }
         ensures changes_capacity { vec_capacity changes.new ≡ vec_capacity changes.old }
-        ensures orders { orders.new.items ≡ orders.old.items ++ flat_map (kills_then moment rs.now.items) (drop from self.old.items) }
-        ensures orders_len { vec_len orders.new ≡ vec_len orders.old + length (flat_map (kills_then moment rs.now.items) (drop from self.old.items)) }
+        ensures orders { orders.new.items ≡ orders.old.items ++ flat_map (kills_then moment rs.now.items) (take (places.until - places.from) (drop places.from self.old.items)) }
+        ensures orders_len { vec_len orders.new ≡ vec_len orders.old + length (flat_map (kills_then moment rs.now.items) (take (places.until - places.from) (drop places.from self.old.items))) }
         ensures orders_capacity { vec_capacity orders.new ≡ vec_capacity orders.old }
-        ensures sums { AreSums (map (timed moment rs.now.items) (drop from self.old.items)) result.sums }
-        ensures soonest { AllByRecursion (IsLeftUntil result.soonest rs.now.items) (map (timed moment rs.now.items) (drop from self.old.items)) }
+        ensures sums { AreSums (map (timed moment rs.now.items) (take (places.until - places.from) (drop places.from self.old.items))) result }
+        ensures alarmed { AllByRecursion (IsAlarmed alarm.new.ends.items rs.now.items) (map (timed moment rs.now.items) (take (places.until - places.from) (drop places.from self.old.items))) }
+        ensures kept { (row : Row) → IsAlarmed alarm.old.ends.items rs.now.items row → IsAlarmed alarm.new.ends.items rs.now.items row }
+        ensures blocks { length alarm.new.ends.items ≡ length alarm.old.ends.items }
     {
-        let from = self.gone + from;
-        lapses::sweep_rows(rs, &mut self.list[from..], changes, orders, moment, entry)
+        let from = self.gone + places.from;
+        let until = self.gone + places.until;
+        lapses::sweep_rows(
+            rs,
+            &mut self.list[from..until],
+            changes,
+            orders,
+            alarm,
+            moment,
+            entry,
+        )
     }
 
     /// Those of the jobs between these places on which the call acts go on.

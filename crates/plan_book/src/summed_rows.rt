@@ -24,9 +24,10 @@ ghost use Rattle.plan_book.specs.Open.{AreOpen, IsPriorityBound};
 ghost use Rattle.plan_book.specs.Owed.{owed, owed_kills, reports_to_come};
 ghost use Rattle.plan_book.specs.Lapses.{ends, kills_then};
 ghost use Rattle.plan_book.specs.Places.{AreSorted};
-ghost use Rattle.plan_book.specs.Quiet.{IsLeftUntil};
+ghost use Rattle.plan_book.specs.Quiet.{block_of, AreCovered, IsAlarmed, IsOutside, IsSpared};
 ghost use Rattle.plan_book.specs.Texts.{IsRoomBeside};
 
+use crate::alarm_blocks::{Alarm, places_of};
 use crate::open_jobs::{
     greatest_under, greatest_with, greatest_without, settled_from, settled_without,
 };
@@ -266,17 +267,23 @@ impl Rows {
         }
     }
 
-    /// The jobs whose time is over end or are asked to end. Before the answer time leaves each of the jobs as it is then. It goes over
-    /// those behind the settled ones at the front.
+    /// The jobs whose time is over end or are asked to end, which are of these blocks. Each job's block is there, and has an end before
+    /// which time leaves its jobs as they are then. It goes over those of the blocks behind the settled ones at the front.
     pub(crate) fn sweep_rows(
         &mut self,
+        blocks: Places,
         rs: &Vec<Accepted>,
         changes: &mut Vec<Change>,
         orders: &mut Vec<Order>,
+        alarm: &mut Alarm,
         moment: Moment,
         entry: u64,
-    ) -> End
+    )
         requires sorted { AreSorted rs.now.items }
+        requires rising { IsRising number_of self.old.items }
+        requires few { blocks.until ≤ 2 ^ 56 }
+        requires covered { AreCovered alarm.old.ends.items self.old.items }
+        requires outside { AllByRecursion (λ (row : Row). IsOutside blocks (block_of row.job.0) → IsSpared moment alarm.old.ends.items rs.now.items row) self.old.items }
         requires changes { vec_len changes.old + length (flat_map (ends entry moment rs.now.items) self.old.items) ≤ vec_capacity changes.old }
         requires orders { vec_len orders.old + length (flat_map (kills_then moment rs.now.items) self.old.items) ≤ vec_capacity orders.old }
         ensures items { self.new.items ≡ map (timed moment rs.now.items) self.old.items }
@@ -288,14 +295,19 @@ impl Rows {
         ensures orders { orders.new.items ≡ orders.old.items ++ flat_map (kills_then moment rs.now.items) self.old.items }
         ensures orders_len { vec_len orders.new ≡ vec_len orders.old + length (flat_map (kills_then moment rs.now.items) self.old.items) }
         ensures orders_capacity { vec_capacity orders.new ≡ vec_capacity orders.old }
-        ensures soonest { AllByRecursion (IsLeftUntil result rs.now.items) self.new.items }
+        ensures alarmed { AllByRecursion (IsAlarmed alarm.new.ends.items rs.now.items) self.new.items }
+        ensures blocks { length alarm.new.ends.items ≡ length alarm.old.ends.items }
     {
-        let swept = self
+        let places = places_of(self.list.rows(), blocks);
+        let from = places.from.max(self.settled);
+        let until = places.until.max(from);
+        let places = Places { from, until };
+        let before = sums_of(&self.list.rows()[from..until]);
+        let after = self
             .list
-            .sweep_rows(self.settled, rs, changes, orders, moment, entry);
-        self.sums = swept.sums;
+            .sweep_rows(places, rs, changes, orders, alarm, moment, entry);
+        self.sums = with_others(&without_others(&self.sums, &before), &after);
         self.settled = settled_from(self.list.rows(), self.settled);
-        swept.soonest
     }
 
     /// The jobs on which the call acts go on: one, whose row is found by halves, or the members of an array.

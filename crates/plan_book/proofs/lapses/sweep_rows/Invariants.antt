@@ -1,9 +1,10 @@
 use Rattle.std.proofs.Common.{◌≡◌, ◌≤◌, ◌+◌, ◌++◌, map, take, drop, length, vec_len}
 use Rattle.std.specs.Prelude.{vec_capacity}
 use Rattle.std.specs.List.{AllByRecursion, flat_map}
+use Rattle.drmaa_model.specs.declared.rows.Row.{Row}
 use Rattle.drmaa_model.specs.TimeLaws.{timed}
 use Rattle.plan_book.specs.Lapses.{ends, kills_then}
-use Rattle.plan_book.specs.Quiet.{IsLeftUntil}
+use Rattle.plan_book.specs.Quiet.{IsAlarmed}
 use Rattle.plan_book.specs.Sums.{AreSums}
 use Rattle.plan_book.proofs.lapses.sweep_rows.Given as goal
 
@@ -25,5 +26,7 @@ invariant-loop-row l =
       orders_len : vec_len l.orders + length asked ≡ vec_len l.fn.orders + length (flat_map (kills_then l.moment rs) all);
       orders_capacity : vec_capacity l.orders ≡ vec_capacity l.fn.orders;
       sums : AreSums (map (timed l.moment rs) (take l.row-index all)) l.sums;
-      soonest : AllByRecursion (IsLeftUntil l.soonest rs) (map (timed l.moment rs) (take l.row-index all));
+      alarmed : AllByRecursion (IsAlarmed l.alarm.ends.items rs) (map (timed l.moment rs) (take l.row-index all));
+      kept : (row : Row) → IsAlarmed l.fn.alarm.ends.items rs row → IsAlarmed l.alarm.ends.items rs row;
+      blocks : length l.alarm.ends.items ≡ length l.fn.alarm.ends.items;
     }

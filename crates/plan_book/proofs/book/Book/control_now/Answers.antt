@@ -6,8 +6,8 @@ use Rattle.drmaa_model.specs.declared.rows.Row.{Row}
 use Rattle.drmaa_model.specs.Controlling.{control, control_step}
 use Rattle.drmaa_model.specs.Plan.{Plan}
 use Rattle.plan_book.specs.Book.{plan_of, owed, owed_kills}
-use Rattle.plan_book.specs.Quiet.{IsLeftUntil}
-use Rattle.plan_book.proofs.AlarmLaws.{quiet-controlled}
+use Rattle.plan_book.specs.Quiet.{IsAlarmed}
+use Rattle.plan_book.proofs.AlarmLaws.{alarmed-controlled}
 use Rattle.plan_book.proofs.MeantLaws.{noted-part, asked-part}
 use Rattle.plan_book.proofs.SweepLaws.{control-owed, control-owed_kills}
 use Rattle.plan_book.proofs.book.Book.control_now.Goals as goal
@@ -65,6 +65,8 @@ pub returns-clause-quiet : goal.returns-clause-quiet
 returns-clause-quiet c quiet =
     let s = c.args.self.now in
     record {
-      rows = subst (AllByRecursion (IsLeftUntil s.alarm s.reservations.items)) (sym c.control_rows.ensures) (quiet-controlled s.alarm s.reservations.items s.moment c.args.target.now c.args.what s.rows.items quiet.rows);
+      rows = subst (AllByRecursion (IsAlarmed s.alarm.ends.items s.reservations.items)) (sym c.control_rows.ensures) (alarmed-controlled s.alarm.ends.items s.reservations.items s.moment c.args.target.now c.args.what s.rows.items quiet.rows);
       reservations = quiet.reservations;
+      soonest = quiet.soonest;
+      few = quiet.few;
     }

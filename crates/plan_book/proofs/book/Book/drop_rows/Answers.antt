@@ -14,7 +14,7 @@ use Rattle.plan_book.specs.Book.{plan_of, owed, owed_kills, HasFewQueues}
 use Rattle.plan_book.specs.MeetLaws.{barred-meets}
 use Rattle.plan_book.specs.Occasions.{plan_at}
 use Rattle.plan_book.specs.Occasions.Meets.{served}
-use Rattle.plan_book.specs.Quiet.{IsLeftUntil}
+use Rattle.plan_book.specs.Quiet.{IsAlarmed}
 use Rattle.plan_book.specs.Ties.{IsTied}
 use Rattle.plan_book.specs.TieLaws.{tied-then}
 use Rattle.plan_book.proofs.AlarmLaws.{quiet-left}
@@ -76,7 +76,7 @@ returns-clause-book c =
           (tied-reaped c.advance.new.self.calendar t q (fit c)
           (tied-then c.args.self.now.calendar c.advance.new.self.calendar c.args.occasion.entry c.args.occasion.at p q c.requires.book.fit c.requires.book.tied c.advance.ensures.calendar refl));
       quiet = (let was = c.advance.new.self in let left = quiet-left was.alarm (λ (r : Row). not (is_meant t r && is_done r)) (plan_of was) c.advance.ensures.quiet in
-          record { rows = subst (AllByRecursion (IsLeftUntil was.alarm was.reservations.items)) (sym c.drop_done.ensures) left.rows; reservations = left.reservations });
+          record { rows = subst (AllByRecursion (IsAlarmed was.alarm.ends.items was.reservations.items)) (sym c.drop_done.ensures) left.rows; reservations = left.reservations; soonest = left.soonest; few = left.few });
     }
 
 pub returns-clause-spare : goal.returns-clause-spare

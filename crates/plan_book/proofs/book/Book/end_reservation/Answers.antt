@@ -1,5 +1,6 @@
-use Rattle.std.proofs.Common.{◌≡◌, refl, sym, ◌∙◌, ap, subst, arith}
-use Rattle.drmaa_model.specs.Fit.{IsFit}
+use Rattle.std.proofs.Common.{◌≡◌, List, length, refl, sym, ◌∙◌, ap, subst, arith}
+use Rattle.drmaa_types.specs.declared.moments.End.{End}
+use Rattle.drmaa_model.specs.Fit.{IsFit, IsRising, number_of}
 use Rattle.drmaa_model.specs.FitLaws.{advance-fit, fewer-fit, expire-fit, call_in-fit}
 use Rattle.drmaa_model.specs.Plan.{Plan}
 use Rattle.drmaa_model.specs.Requests.{without_reservation, is_other}
@@ -8,14 +9,17 @@ use Rattle.drmaa_model.specs.Time.{expire, call_in}
 use Rattle.drmaa_model.specs.TimeLaws.{weight-advance, weight-expire, weight-call_in}
 use Rattle.reservation_calendar.specs.declared.bookings.Key.TheVariants.{Reservation}
 use Rattle.reservation_calendar.specs.Schedules.{Schedule, without}
+use Rattle.plan_book.specs.declared.alarm_blocks.Alarm.{Alarm}
 use Rattle.plan_book.specs.Book.{plan_of, HasFewQueues}
 use Rattle.plan_book.specs.MeetLaws.{barred-meets}
 use Rattle.plan_book.specs.Occasions.{plan_at}
 use Rattle.plan_book.specs.Occasions.Meets.{served}
+use Rattle.plan_book.specs.Quiet.{AreCovered}
 use Rattle.plan_book.specs.Ties.{IsTied}
 use Rattle.plan_book.specs.TieLaws.{tied-then, tied-ended, tied-passed}
+use Rattle.plan_book.proofs.BlockLaws.{covered-after, spared-none}
 use Rattle.plan_book.proofs.book.Book.end_reservation.Goals as goal
-use Rattle.plan_book.proofs.book.Book.end_reservation.Goals.{After-weight, After-sweep}
+use Rattle.plan_book.proofs.book.Book.end_reservation.Goals.{After-all_blocks, After-weight, After-sweep}
 
 plan : (c : After-sweep) → plan_of c.sweep.new.self ≡ call_in (expire c.args.occasion.entry (without_reservation c.args.reservation (plan_at c.args.occasion (plan_of c.args.self.now))))
 plan c = c.sweep.ensures.plan ∙ ap (λ (p : Plan). call_in (expire c.args.occasion.entry p)) (c.drop_reservation.ensures.plan ∙ ap (without_reservation c.args.reservation) c.advance.ensures.plan)
@@ -54,6 +58,37 @@ returns-clause-book c =
           (tied-passed _ c.args.occasion.entry left fit_left (tied-ended c.advance.new.self.calendar q c.args.reservation tied_q)));
       quiet = c.sweep.ensures.quiet;
     }
+
+-- the jobs that it goes over are those of the plan with the reservation, and their blocks are there
+ends-same : (c : After-all_blocks) → c.drop_reservation.new.self.alarm.ends.items ≡ c.advance.new.self.alarm.ends.items
+ends-same c = ap (λ (a : Alarm). a.ends.items) c.drop_reservation.ensures.alarm
+
+rows-same : (c : After-all_blocks) → c.drop_reservation.new.self.rows.items ≡ c.advance.new.self.rows.items
+rows-same c = ap (λ (p : Plan). p.rows) c.drop_reservation.ensures.plan
+
+covered : (c : After-all_blocks) → AreCovered c.drop_reservation.new.self.alarm.ends.items c.drop_reservation.new.self.rows.items
+covered c =
+    covered-after c.advance.new.self.alarm (plan_of c.advance.new.self) c.drop_reservation.new.self.alarm.ends.items c.drop_reservation.new.self.rows.items (ends-same c) (rows-same c) c.advance.ensures.quiet
+
+pub sweep-requires-clause-rising : goal.sweep-requires-clause-rising
+sweep-requires-clause-rising c =
+    let p = plan_of c.args.self.now in
+    let fit_q : IsFit (plan_of c.advance.new.self) = subst IsFit (sym c.advance.ensures.plan) (advance-fit c.args.occasion.entry c.args.occasion.at p c.requires.book.fit) in
+    subst (IsRising number_of) (sym (rows-same c)) fit_q.jobs.rising
+
+pub sweep-requires-clause-few : goal.sweep-requires-clause-few
+sweep-requires-clause-few c = omega (arith, c.advance.ensures.quiet.few, ap (λ (es : List End). length es) (ends-same c))
+
+pub sweep-requires-clause-within : goal.sweep-requires-clause-within
+sweep-requires-clause-within c = omega (arith, c.all_blocks.ensures.until)
+
+pub sweep-requires-clause-covered : goal.sweep-requires-clause-covered
+sweep-requires-clause-covered c = covered c
+
+pub sweep-requires-clause-outside : goal.sweep-requires-clause-outside
+sweep-requires-clause-outside c =
+    let s = c.drop_reservation.new.self in
+    spared-none s.moment s.alarm.ends.items s.reservations.items c.all_blocks.result s.rows.items c.all_blocks.ensures.from c.all_blocks.ensures.until (covered c)
 
 pub returns-in-Err-clause-meets : goal.returns-in-Err-clause-meets
 returns-in-Err-clause-meets c =

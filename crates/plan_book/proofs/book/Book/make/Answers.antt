@@ -67,7 +67,7 @@ returns-clause-book c = record {
   light = (let same = size (goal.at.returns-clause-book c).After-weight_after in omega (arith, ap weight (plan c), same, (c.in_ok-admit.ensures {u = tt}).within, c.args.occasion.limited));
   queues = subst HasFewQueues (sym (plan c)) c.requires.book.queues;
   tied = tied c;
-  quiet = record { rows = c.move_now.ensures.quiet.rows; reservations = c.move_now.ensures.quiet.reservations };
+  quiet = (let quiet = c.move_now.ensures.quiet in record { rows = quiet.rows; reservations = quiet.reservations; soonest = quiet.soonest; few = quiet.few });
 }
 
 pub returns-in_err-admit-clause-meets : goal.returns-in_err-admit-clause-meets

@@ -1,15 +1,15 @@
-use Rattle.std.proofs.Common.{List, sym, ◌∙◌, ap, subst, arith}
+use Rattle.std.proofs.Common.{ℕ, ◌<◌, List, length, sym, ◌∙◌, ap, subst, arith}
 use Rattle.std.specs.List.{AllByRecursion}
 use Rattle.drmaa_types.specs.declared.moments.End.{End}
 use Rattle.drmaa_types.specs.declared.changes.Change.{Change}
 use Rattle.drmaa_model.specs.declared.courses.Order.{Order}
 use Rattle.drmaa_model.specs.declared.rows.Row.{Row}
-use Rattle.drmaa_model.specs.Courses.{lesser_end}
 use Rattle.drmaa_model.specs.Plan.{Plan}
+use Rattle.drmaa_model.specs.RowLaws.{row_of-is, row_of-all}
 use Rattle.plan_book.specs.Book.{plan_of, moved, owed, owed_kills, owes, owes_kill}
-use Rattle.plan_book.specs.Quiet.{IsLeftUntil, LastsUntil}
-use Rattle.plan_book.proofs.AlarmLaws.{quiet-put}
-use Rattle.plan_book.proofs.QuietLaws.{left-second, lasting-first}
+use Rattle.plan_book.specs.Quiet.{block_of, IsAlarmed, IsQuiet}
+use Rattle.plan_book.proofs.AlarmLaws.{alarmed-put}
+use Rattle.plan_book.proofs.BlockLaws.{lowered, lowered-quiet}
 use Rattle.plan_book.proofs.MoveLaws.{moved-changes, moved-owed, moved-owed_kills, part-of}
 use Rattle.plan_book.proofs.book.Book.move_now.Goals as goal
 
@@ -48,18 +48,32 @@ returns-clause-spare c =
     let sum = moved-owed c.args.entry p c.args.m.now c.requires.fit c.requires.move_is in
     omega (arith, ap owed c.put_course.ensures, sum, c.requires.room.changes, c.requires.changes, c.push_change.ensures.len, c.push_change.ensures.capacity)
 
+pub lower-requires : goal.lower-requires
+lower-requires c =
+    let s = c.args.self.now in
+    let row = c.requires.move_is.row in
+    let found = c.requires.move_is.found in
+    let own = row_of-all (IsAlarmed s.alarm.ends.items s.reservations.items) c.args.m.now.job s.rows.items row c.requires.quiet.rows found in
+    subst (λ (n : ℕ). block_of n < length s.alarm.ends.items) (row_of-is c.args.m.now.job s.rows.items row found) own.covered
+
 pub returns-clause-quiet : goal.returns-clause-quiet
 returns-clause-quiet c =
     let s = c.args.self.now in
+    let p = plan_of s in
     let rs = s.reservations.items in
+    let es = s.alarm.ends.items in
     let m = c.args.m.now in
     let row = c.requires.move_is.row in
     let found = c.requires.move_is.found in
     let soon = c.soonest_with-soonest.result in
+    let own = row_of-all (IsAlarmed es rs) m.job s.rows.items row c.requires.quiet.rows found in
+    let within = subst (λ (n : ℕ). block_of n < length es) (row_of-is m.job s.rows.items row found) own.covered in
+    let quiet : IsQuiet c.lower.new.self p = lowered-quiet s.alarm c.lower.new.self m.job.0 soon p within c.lower.ensures.ends c.lower.ensures.lasting c.lower.ensures.soonest c.requires.quiet in
     record {
-      rows = subst (λ (e : End). AllByRecursion (IsLeftUntil e rs) c.put_course.new.self.items) (sym c.lesser_end-self.ensures)
-          (subst (AllByRecursion (IsLeftUntil (lesser_end s.alarm soon) rs)) (sym c.put_course.ensures)
-          (quiet-put s.alarm soon (plan_of s) m.job m.after row c.requires.quiet c.requires.fit.jobs.rising found
-          (left-second s.alarm soon rs (record row { course = m.after }) (c.soonest_with-soonest.ensures row found))));
-      reservations = subst (λ (e : End). AllByRecursion (LastsUntil e) rs) (sym c.lesser_end-self.ensures) (lasting-first s.alarm soon rs c.requires.quiet.reservations);
+      rows = subst (λ (ends : List End). AllByRecursion (IsAlarmed ends rs) c.put_course.new.self.items) (sym c.lower.ensures.ends)
+          (subst (AllByRecursion (IsAlarmed (lowered es m.job.0 soon) rs)) (sym c.put_course.ensures)
+          (alarmed-put es soon p m.job m.after row c.requires.quiet.rows c.requires.fit.jobs.rising found (c.soonest_with-soonest.ensures row found)));
+      reservations = quiet.reservations;
+      soonest = quiet.soonest;
+      few = quiet.few;
     }

@@ -1,7 +1,9 @@
-use Rattle.std.proofs.Common.{◌≡◌, ◌+◌, max, refl, sym, ◌∙◌, ap, subst, arith}
+use Rattle.std.proofs.Common.{◌≡◌, ◌+◌, ◌<◌, length, max, refl, sym, ◌∙◌, ap, subst, arith}
 use Rattle.std.proofs.lemmas.Result.{err_from_is_err_and}
+use Rattle.drmaa_model.specs.declared.rows.Row.{Row}
 use Rattle.drmaa_model.specs.Fit.{IsFit}
 use Rattle.drmaa_model.specs.Plan.{Plan}
+use Rattle.drmaa_model.specs.RowLaws.{all-implied}
 use Rattle.drmaa_model.specs.Size.{weight}
 use Rattle.drmaa_model.specs.TimeLaws.{weight-advance}
 use Rattle.reservation_calendar.specs.Schedules.{Schedule}
@@ -9,9 +11,11 @@ use Rattle.plan_book.specs.Book.{plan_of, joined, HasFewQueues}
 use Rattle.plan_book.specs.MeetLaws.{barred-meets}
 use Rattle.plan_book.specs.Occasions.{plan_at}
 use Rattle.plan_book.specs.Occasions.Meets.{served, short}
+use Rattle.plan_book.specs.Quiet.{block_of}
 use Rattle.plan_book.specs.Ties.{IsTied, let_go_of}
 use Rattle.plan_book.specs.TieLaws.{tied-advance}
 use Rattle.plan_book.proofs.ArrivalLaws.{joined-weight, tied-joined}
+use Rattle.plan_book.proofs.PartLaws.{all-right}
 use Rattle.plan_book.proofs.book.Book.push_rows.Goals as goal
 use Rattle.plan_book.proofs.book.Book.push_rows.Goals.{After-len, After-put_rows}
 
@@ -28,6 +32,18 @@ pub returns-clause-meets : goal.returns-clause-meets
 returns-clause-meets c =
     let same = size (goal.at.returns-clause-meets c).After-len in
     served (record { answered = refl; plan = plan c; within = omega (arith, same, (c.in_ok-admit.ensures {u = tt}).within); memory = (c.in_ok-admit.ensures {u = tt}).placed })
+
+-- the blocks of those that come in are there
+pub put_rows-requires-clause-covered : goal.put_rows-requires-clause-covered
+put_rows-requires-clause-covered c =
+    let p = plan_of c.args.self.now in
+    let at = c.args.occasion in
+    let rows = c.args.rows.items in
+    let reached = (c.in_ok-make_seats.ensures {u = tt}).blocks in
+    let next : c.make_seats.new.self.next_job ≡ p.next_job = ap (λ (x : Plan). x.next_job) c.make_seats.ensures.plan in
+    all-implied (λ (row : Row). row.job.0 < p.next_job + length rows) (λ (row : Row). block_of row.job.0 < length c.advance.new.self.alarm.ends.items)
+    (λ row below. omega (arith, below, reached, next, c.advance.ensures.blocks, c.len-2.ensures)) rows
+    (all-right (λ (row : Row). row.job.0 < p.next_job + length rows) (plan_at at p).rows rows c.requires.fit.jobs.below)
 
 tied : (c : After-put_rows) → IsTied c.put_rows.new.self.calendar (plan_of c.put_rows.new.self)
 tied c =

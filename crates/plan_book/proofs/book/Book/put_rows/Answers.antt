@@ -1,11 +1,8 @@
 use Rattle.std.proofs.Common.{ap, sym, subst, arith}
 use Rattle.std.specs.List.{AllByRecursion}
-use Rattle.drmaa_types.specs.declared.moments.End.{End}
-use Rattle.drmaa_model.specs.Courses.{lesser_end}
-use Rattle.plan_book.specs.Book.{owed, owed_kills}
-use Rattle.plan_book.specs.Quiet.{IsLeftUntil, LastsUntil}
-use Rattle.plan_book.proofs.AlarmLaws.{quiet-joined}
-use Rattle.plan_book.proofs.QuietLaws.{lasting-first}
+use Rattle.drmaa_model.specs.FitLaws.{all-append}
+use Rattle.plan_book.specs.Book.{plan_of, owed, owed_kills}
+use Rattle.plan_book.specs.Quiet.{IsAlarmed}
 use Rattle.plan_book.proofs.ArrivalLaws.{joined-owed, joined-owed_kills}
 use Rattle.plan_book.proofs.book.Book.put_rows.Goals as goal
 
@@ -28,10 +25,11 @@ pub returns-clause-quiet : goal.returns-clause-quiet
 returns-clause-quiet c =
     let s = c.args.self.now in
     let rs = s.reservations.items in
-    let soon = c.soonest_of.result in
+    let alarm = c.alarm_rows.new.alarm in
+    let quiet = c.alarm_rows.ensures.quiet (plan_of s) c.requires.quiet in
     record {
-      rows = subst (λ (e : End). AllByRecursion (IsLeftUntil e rs) c.append_rows.new.self.items) (sym c.lesser_end-self.ensures)
-          (subst (AllByRecursion (IsLeftUntil (lesser_end s.alarm soon) rs)) (sym c.append_rows.ensures)
-          (quiet-joined s.alarm soon rs s.rows.items c.args.rows.items c.requires.quiet.rows c.soonest_of.ensures));
-      reservations = subst (λ (e : End). AllByRecursion (LastsUntil e) rs) (sym c.lesser_end-self.ensures) (lasting-first s.alarm soon rs c.requires.quiet.reservations);
+      rows = subst (AllByRecursion (IsAlarmed alarm.ends.items rs)) (sym c.append_rows.ensures) (all-append (IsAlarmed alarm.ends.items rs) s.rows.items c.args.rows.items quiet.rows c.alarm_rows.ensures.rows);
+      reservations = quiet.reservations;
+      soonest = quiet.soonest;
+      few = quiet.few;
     }

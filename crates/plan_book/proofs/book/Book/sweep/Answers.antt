@@ -1,4 +1,4 @@
-use Rattle.std.proofs.Common.{◌≡◌, ℕ, ◌++◌, List, map, filter, length, sym, ◌∙◌, ap, subst, arith}
+use Rattle.std.proofs.Common.{◌≡◌, ℕ, ◌<◌, ◌++◌, List, map, filter, length, sym, ◌∙◌, ap, subst, arith}
 use Rattle.std.specs.List.{AllByRecursion, flat_map}
 use Rattle.std.proofs.lemmas.List.{length-map}
 use Rattle.drmaa_types.specs.declared.changes.Change.{Change}
@@ -7,14 +7,14 @@ use Rattle.drmaa_model.specs.declared.courses.Order.{Order}
 use Rattle.drmaa_model.specs.declared.reservations.Accepted.{Accepted}
 use Rattle.drmaa_model.specs.declared.rows.Row.{Row}
 use Rattle.drmaa_model.specs.Plan.{Plan}
+use Rattle.drmaa_model.specs.RowLaws.{all-implied}
 use Rattle.drmaa_model.specs.Rows.{change_of}
 use Rattle.drmaa_model.specs.Time.{lapses, lapsed, is_due, called_in, kill_order}
 use Rattle.drmaa_model.specs.TimeLaws.{changes-lapsed, expiry, map-twice}
 use Rattle.plan_book.specs.Book.{plan_of, owed, owed_kills}
 use Rattle.plan_book.specs.Lapses.{ends, kills_then}
-use Rattle.plan_book.specs.Quiet.{IsLeftUntil, LastsUntil}
+use Rattle.plan_book.specs.Quiet.{block_of, IsAlarmed, IsLeftUntil, IsOutside, IsSpared, LastsUntil}
 use Rattle.plan_book.proofs.LapseLaws.{filter-flat, kills-flat}
-use Rattle.plan_book.proofs.QuietLaws.{rows-first, lasting-second}
 use Rattle.plan_book.proofs.RoomLaws.{changes-expire, orders-expire, changes-called, orders-called}
 use Rattle.plan_book.proofs.book.Book.sweep.Goals as goal
 
@@ -25,13 +25,13 @@ count-ended entry m rs rows = ap length (filter-flat (lapses m rs) (expiry entry
 count-asked : (m : ℕ) (rs : List Accepted) (rows : List Row) → length (flat_map (kills_then m rs) rows) ≡ length (filter (is_due m rs) (map (lapsed m rs) rows))
 count-asked m rs rows = ap length (kills-flat m rs rows) ∙ length-map (filter (is_due m rs) (map (lapsed m rs) rows)) kill_order
 
-pub sweep_rows-soonest-requires-clause-changes : goal.sweep_rows-soonest-requires-clause-changes
-sweep_rows-soonest-requires-clause-changes c =
+pub sweep_rows-requires-clause-changes : goal.sweep_rows-requires-clause-changes
+sweep_rows-requires-clause-changes c =
     let s = c.args.self.now in
     omega (arith, c.requires.room.changes, count-ended c.args.entry s.moment s.reservations.items s.rows.items, changes-expire s.moment s.reservations.items s.rows.items)
 
-pub sweep_rows-soonest-requires-clause-orders : goal.sweep_rows-soonest-requires-clause-orders
-sweep_rows-soonest-requires-clause-orders c =
+pub sweep_rows-requires-clause-orders : goal.sweep_rows-requires-clause-orders
+sweep_rows-requires-clause-orders c =
     let s = c.args.self.now in
     let m = s.moment in
     let rs = s.reservations.items in
@@ -42,7 +42,7 @@ returns-clause-plan c =
     let s = c.args.self.now in
     let m = s.moment in
     let rs = s.reservations.items in
-    let swept = c.sweep_rows-soonest in
+    let swept = c.sweep_rows in
     let rows : swept.new.self.items ≡ map (called_in m rs) (map (lapsed m rs) s.rows.items) = swept.ensures.items ∙ map-twice (called_in m rs) (lapsed m rs) s.rows.items in
     let changes : swept.new.changes.items ≡ s.changes.items ++ flat_map (λ row. change_of c.args.entry row (lapsed m rs row)) s.rows.items =
     swept.ensures.changes ∙ ap (λ (cs : List Change). s.changes.items ++ cs) (filter-flat (lapses m rs) (expiry c.args.entry) s.rows.items ∙ sym (changes-lapsed c.args.entry m rs s.rows.items)) in
@@ -58,7 +58,7 @@ returns-clause-room c =
     let m = s.moment in
     let rs = s.reservations.items in
     let old = s.rows.items in
-    let swept = c.sweep_rows-soonest in
+    let swept = c.sweep_rows in
     let rows : swept.new.self.items ≡ map (called_in m rs) (map (lapsed m rs) old) = swept.ensures.items ∙ map-twice (called_in m rs) (lapsed m rs) old in
     record {
       changes = omega (arith, ap owed rows, c.requires.room.changes, swept.ensures.changes_len, swept.ensures.changes_capacity, count-ended c.args.entry m rs old, changes-expire m rs old, changes-called m rs (map (lapsed m rs) old));
@@ -71,7 +71,7 @@ returns-clause-spare c =
     let m = s.moment in
     let rs = s.reservations.items in
     let old = s.rows.items in
-    let swept = c.sweep_rows-soonest in
+    let swept = c.sweep_rows in
     let rows : swept.new.self.items ≡ map (called_in m rs) (map (lapsed m rs) old) = swept.ensures.items ∙ map-twice (called_in m rs) (lapsed m rs) old in
     omega (arith, ap owed rows, c.requires.room.changes, swept.ensures.changes_len, swept.ensures.changes_capacity, count-ended c.args.entry m rs old, changes-expire m rs old, changes-called m rs (map (lapsed m rs) old))
 
@@ -81,16 +81,30 @@ returns-clause-spare_orders c =
     let m = s.moment in
     let rs = s.reservations.items in
     let old = s.rows.items in
-    let swept = c.sweep_rows-soonest in
+    let swept = c.sweep_rows in
     let rows : swept.new.self.items ≡ map (called_in m rs) (map (lapsed m rs) old) = swept.ensures.items ∙ map-twice (called_in m rs) (lapsed m rs) old in
     omega (arith, ap owed_kills rows, c.requires.room.orders, swept.ensures.orders_len, swept.ensures.orders_capacity, count-asked m rs old, orders-expire m rs old, orders-called m rs (map (lapsed m rs) old))
 
 pub returns-clause-quiet : goal.returns-clause-quiet
 returns-clause-quiet c =
     let rs = c.args.self.now.reservations.items in
-    let swept = c.sweep_rows-soonest in
-    let first = c.first_end.result in
+    let swept = c.sweep_rows in
     record {
-      rows = subst (λ (e : End). AllByRecursion (IsLeftUntil e rs) swept.new.self.items) (sym c.lesser_end-self.ensures) (rows-first swept.result first rs swept.new.self.items swept.ensures.soonest);
-      reservations = subst (λ (e : End). AllByRecursion (LastsUntil e) rs) (sym c.lesser_end-self.ensures) (lasting-second swept.result first rs c.first_end.ensures);
+      rows = subst (λ (es : List End). AllByRecursion (IsAlarmed es rs) swept.new.self.items) (sym c.settle.ensures.ends) swept.ensures.alarmed;
+      reservations = subst (λ (e : End). AllByRecursion (LastsUntil e) rs) (sym c.settle.ensures.lasting) c.requires.lasting;
+      soonest = c.settle.ensures.soonest;
+      few = omega (arith, c.requires.few, c.open.ensures.len, swept.ensures.blocks, ap (λ (es : List End). length es) c.settle.ensures.ends);
     }
+
+pub sweep_rows-requires-clause-covered : goal.sweep_rows-requires-clause-covered
+sweep_rows-requires-clause-covered c =
+    subst (λ (n : ℕ). AllByRecursion (λ (row : Row). block_of row.job.0 < n) c.args.self.now.rows.items) (sym c.open.ensures.len) c.requires.covered
+
+pub sweep_rows-requires-clause-outside : goal.sweep_rows-requires-clause-outside
+sweep_rows-requires-clause-outside c =
+    let s = c.args.self.now in
+    let rs = s.reservations.items in
+    let blocks = c.args.blocks in
+    all-implied (λ (row : Row). IsOutside blocks (block_of row.job.0) → IsSpared s.moment s.alarm.ends.items rs row) (λ (row : Row). IsOutside blocks (block_of row.job.0) → IsSpared s.moment c.open.new.self.ends.items rs row)
+    (λ row spared outside. (let own = spared outside in
+    record { now = own.now; left = subst (λ (e : End). IsLeftUntil e rs row) (sym (c.open.ensures.outside (block_of row.job.0) outside)) own.left })) s.rows.items c.requires.outside
