@@ -76,6 +76,10 @@ module _ (meant : Row → Bool) (rows : List Row) (sound : AllByRecursion (λ (r
         | false ↦ λ e. refl
       ]) refl) rows sound)
 
+  -- nor does what a job comes to by its slots
+  pub left-idle : (g : Row → ℕ) → ((r : Row) → r.course.held ≡ 0 → g r ≡ 0) → sum_by g (filter (λ (r : Row). not (meant r && is_done r)) rows) ≡ sum_by g rows
+  left-idle g none = left g (λ r s done. none r (s.idle (done-over r.course.state done).1).1)
+
   pub left-promised : promised (filter (λ (r : Row). not (meant r && is_done r)) rows) ≡ promised rows
   left-promised = left (λ r. room_of r.course) (λ r s done.
       (let over = done-over r.course.state done in

@@ -18,12 +18,13 @@ use Rattle.plan_book.specs.declared.alarm_blocks.Alarm.{Alarm}
 use Rattle.plan_book.specs.declared.rows.Places.{Places}
 use Rattle.plan_book.specs.Book.{course_then}
 use Rattle.plan_book.specs.Lapses.{ends, kills, kills_then}
+use Rattle.plan_book.specs.Open.{is_over}
 use Rattle.plan_book.specs.Quiet.{block_of, end_of, is_left, IsLeftUntil, LastsUntil, IsOutside, IsAlarmed, IsSpared, IsQuiet, AreCovered}
 use Rattle.plan_book.specs.Settled.{is_settled, AreSettled}
 use Rattle.plan_book.proofs.MeantLaws.{flat-none, map-stays}
 use Rattle.plan_book.proofs.OpenLaws.{all-take, all-drop}
 use Rattle.plan_book.proofs.QuietLaws.{not-true, lapsed-same, called-same, left-first, lasting-first, lesser-first, lesser-second, lesser-both, quiet, gone-none, filter-each, all-last}
-use Rattle.plan_book.proofs.SettledLaws.{left-settled}
+use Rattle.plan_book.proofs.SettledLaws.{left-settled, over-left}
 
 -- ---- an end that is lowered
 
@@ -204,14 +205,22 @@ quiet-advance alarm entry at p is ahead =
     ap (λ (q : Plan). call_in (expire entry q)) (gone-none alarm.lasting at p is.reservations (is.soonest m ahead).lasting)
     ∙ quiet (come_to at p) entry (list-left m p.reservations p.rows (left-soon alarm p m is ahead))
 
--- and leaves each job's course
-pub quiet-courses : (alarm : Alarm) (at : ℕ) (p : Plan) → IsQuiet alarm p → is_past (max p.moment at) alarm.soonest ≡ false → AllByRecursion (λ (r : Row). course_then at p r ≡ r.course) p.rows
-quiet-courses alarm at p is ahead =
+-- ---- the jobs that keep their course
+
+-- a job that is left does, where no reservation ends
+pub left-course : (alarm : Alarm) (at : ℕ) (p : Plan) (row : Row) → IsQuiet alarm p → is_past (max p.moment at) alarm.lasting ≡ false → Left (max p.moment at) p.reservations row → course_then at p row ≡ row.course
+left-course alarm at p row is ahead left =
     let m = max p.moment at in
     let rs = p.reservations in
-    let same : filter (lasts m) rs ≡ rs = filter-each (lasts m) rs (all-last m alarm.lasting rs (is.soonest m ahead).lasting is.reservations) in
-    all-implied (Left m rs) (λ (r : Row). course_then at p r ≡ r.course)
-    (λ r left. ap (λ (xs : List Accepted). (timed m xs r).course) same ∙ ap (λ (x : Row). x.course) (left-timed m rs r left)) p.rows (left-soon alarm p m is ahead)
+    let same : filter (lasts m) rs ≡ rs = filter-each (lasts m) rs (all-last m alarm.lasting rs ahead is.reservations) in
+    ap (λ (xs : List Accepted). (timed m xs row).course) same ∙ ap (λ (x : Row). x.course) (left-timed m rs row left)
+
+-- and one that is over, wherever a reservation ends
+pub over-course : (at : ℕ) (p : Plan) (row : Row) → is_over row ≡ true → course_then at p row ≡ row.course
+over-course at p row over =
+    let m = max p.moment at in
+    let rs = filter (lasts m) p.reservations in
+    ap (λ (x : Row). x.course) (left-timed m rs row (over-left m rs row over))
 
 -- ---- the jobs that it leaves out
 

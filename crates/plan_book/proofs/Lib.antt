@@ -17,3 +17,4 @@ pub mod SpanLaws
 pub mod SumLaws
 pub mod SweepLaws
 pub mod TextLaws
+pub mod UsageLaws

@@ -23,7 +23,7 @@ use Rattle.drmaa_model.specs.TimeLaws.{timed, lapsed-wants, called-wants}
 use Rattle.plan_book.specs.Open.{is_over, AreOpen, IsPriorityBound}
 use Rattle.plan_book.specs.Settled.{is_settled, AreSettled}
 use Rattle.plan_book.proofs.Searched.{all-removed}
-use Rattle.plan_book.proofs.SettledLaws.{settled-parts, timed-stays}
+use Rattle.plan_book.proofs.SettledLaws.{settled-over, settled-parts, timed-stays}
 use Rattle.plan_book.proofs.SweepLaws.{lives}
 
 abbrev Settled : Row → Type 0
@@ -113,7 +113,7 @@ settled-high rows place n within high are = record {
 pub settled-open : (rows rest : List Row) (n : ℕ) → rest ≡ drop n rows → AreSettled n rows → AreOpen rows rest
 settled-open rows rest n is are = record {
   front = take n rows;
-  over = all-implied Settled (λ (row : Row). is_over row ≡ true) (λ row settled. (settled-parts row settled).over) (take n rows) are.settled;
+  over = all-implied Settled (λ (row : Row). is_over row ≡ true) settled-over (take n rows) are.settled;
   parts = sym (take-append-drop n rows) ∙ ap (λ (behind : List Row). take n rows ++ behind) (sym is);
 }
 

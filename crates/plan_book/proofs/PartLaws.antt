@@ -1,10 +1,10 @@
 -- Some of the jobs go on or leave, between places outside of which none is meant.
-use Rattle.std.proofs.Common.{◌≡◌, ℕ, ◌+◌, ◌-◌, ◌<◌, ◌≤◌, ◌^◌, Bool, true, false, cond, not, ◌&&◌, List, [], ◌∷◌, ◌++◌, map, filter, take, drop, length, sum_by, Option, Some, refl, sym, ◌∙◌, ap, subst, arith, length-append, length-take, append-nil}
+use Rattle.std.proofs.Common.{◌≡◌, ℕ, ◌+◌, ◌-◌, ◌<◌, ◌≤◌, ◌^◌, Bool, true, false, cond, not, ◌&&◌, List, [], ◌∷◌, ◌++◌, map, filter, take, drop, length, sum_by, Option, Some, refl, sym, ◌∙◌, ap, subst, arith, length-append, length-take}
 use Rattle.std.specs.Prelude.{min, IfSome}
 use Rattle.std.specs.Global.{Vec}
 use Rattle.std.specs.List.{AllByRecursion}
 use Rattle.std.specs.Vec.{with_items}
-use Rattle.std.proofs.lemmas.List.{map-append, take-append-drop, take-append-le, take-take, length-drop, drop-drop, drop_all, with_items_is}
+use Rattle.std.proofs.lemmas.List.{map-append, take-append-drop, take-append-le, take-take, length-drop, drop-drop, with_items_is}
 use Rattle.std.proofs.lemmas.List.Edits.{split_between}
 use Rattle.std.proofs.lemmas.List.Elements.{filter-append}
 use Rattle.std.proofs.lemmas.List.Sums.{sum_by-append}
@@ -53,17 +53,9 @@ written-part v list written from until same order within long =
     omega (arith, ap (λ (rs : List Row). length rs) is, length-append (take from v.items) (written ++ drop until v.items), length-append written (drop until v.items), length-take from v.items, length-drop until v.items, long, order, within, v.ok.0) in
     with_items_is v all count ∙ is
 
--- the same of all behind a place
-pub written-behind : (v : Vec Row) (list written : List Row) (n : ℕ) → list ≡ v.items → n ≤ length v.items → length written ≡ length list - n
-    → (with_items v (take n list ++ (written ++ drop (length list - n) (drop n list)))).items ≡ take n v.items ++ written
-written-behind v list written n same within long =
-    let count = ap (λ (rs : List Row). length rs) same in
-    written-part v list written n (length list) same (omega (arith, count, within)) (omega (arith, count)) long
-    ∙ ap (λ (rs : List Row). take n v.items ++ (written ++ rs)) (drop_all (length list) v.items (omega (arith, count))) ∙ ap (λ (rs : List Row). take n v.items ++ rs) (append-nil written)
-
 -- ---- they go on
 
-all-left : (P : Row → Type 0) (xs ys : List Row) → AllByRecursion P (xs ++ ys) → AllByRecursion P xs
+pub all-left : (P : Row → Type 0) (xs ys : List Row) → AllByRecursion P (xs ++ ys) → AllByRecursion P xs
 all-left P [] ys all = tt
 all-left P (x ∷ xs) ys all = (all.0, all-left P xs ys all.1)
 
@@ -76,7 +68,7 @@ module _ (before part behind : List Row) (sums of_part : Sums) (are : AreSums (b
   sum-parts : (f : Row → ℕ) (others : List Row) → sum_by f (before ++ (others ++ behind)) ≡ sum_by f before + (sum_by f others + sum_by f behind)
   sum-parts f others = sum_by-append f before (others ++ behind) ∙ ap (λ n. sum_by f before + n) (sum_by-append f others behind)
 
-  pub part-among : AreAmong of_part sums
+  part-among : AreAmong of_part sums
   part-among = record {
     promised = omega (arith, are.promised, own.promised, sum-parts (λ (row : Row). room_of row.course) part);
     owed = omega (arith, are.owed, own.owed, sum-parts (λ (row : Row). owes row.course) part);
@@ -85,7 +77,7 @@ module _ (before part behind : List Row) (sums of_part : Sums) (are : AreSums (b
     reports = omega (arith, are.reports, own.reports, sum-parts (λ (row : Row). reports_due row.course.phase) part);
   }
 
-  pub part-exchanged : (next : List Row) (of_next : Sums) → AreSums next of_next → AreSums (before ++ (next ++ behind)) (with_others (without_others sums of_part) of_next)
+  part-exchanged : (next : List Row) (of_next : Sums) → AreSums next of_next → AreSums (before ++ (next ++ behind)) (with_others (without_others sums of_part) of_next)
   part-exchanged next of_next new =
       let small = λ (row : Row). row.course.held < 2 ^ 32 in
       record {
@@ -97,6 +89,27 @@ module _ (before part behind : List Row) (sums of_part : Sums) (are : AreSums (b
         small = all-append small before (next ++ behind) (all-left small before (part ++ behind) are.small)
             (all-append small next behind new.small (all-right small part behind (all-right small before (part ++ behind) are.small)));
       }
+
+-- those between two places
+abbrev pub between : ℕ → ℕ → List Row → List Row
+between from until rows = take (until - from) (drop from rows)
+
+module _ (xs : List Row) (from until : ℕ) (order : from ≤ until) where
+  pub split : xs ≡ take from xs ++ (between from until xs ++ drop until xs)
+  split = split_between xs from until order
+
+  module _ (sums of_part : Sums) (are : AreSums xs sums) (list : List Row) (same : list ≡ xs) (own : AreSums (between from until list) of_part) where
+    whole : AreSums (take from xs ++ (between from until xs ++ drop until xs)) sums
+    whole = subst (λ (rows : List Row). AreSums rows sums) split are
+
+    inner : AreSums (between from until xs) of_part
+    inner = subst (λ (rows : List Row). AreSums (between from until rows) of_part) same own
+
+    pub among : AreAmong of_part sums
+    among = part-among (take from xs) (between from until xs) (drop until xs) sums of_part whole inner
+
+    pub exchanged : (next : List Row) (of_next : Sums) → AreSums next of_next → AreSums (take from xs ++ (next ++ drop until xs)) (with_others (without_others sums of_part) of_next)
+    exchanged = part-exchanged (take from xs) (between from until xs) (drop until xs) sums of_part whole inner
 
 pub few-without : (sums of_part : Sums) → AreFew sums → AreFew (without_others sums of_part)
 few-without sums of_part few = record {

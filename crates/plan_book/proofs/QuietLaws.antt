@@ -108,15 +108,6 @@ lesser-both m (At x) (At y) first second = elim (nat_le x y) as (λ (t : Bool). 
 pub left-first : (a b : End) (rs : List Accepted) (r : Row) → IsLeftUntil a rs r → IsLeftUntil (lesser_end a b) rs r
 left-first a b rs r left = λ m ahead. left m (lesser-first m a b ahead)
 
-pub left-second : (a b : End) (rs : List Accepted) (r : Row) → IsLeftUntil b rs r → IsLeftUntil (lesser_end a b) rs r
-left-second a b rs r left = λ m ahead. left m (lesser-second m a b ahead)
-
-pub rows-first : (a b : End) (rs : List Accepted) (rows : List Row) → AllByRecursion (IsLeftUntil a rs) rows → AllByRecursion (IsLeftUntil (lesser_end a b) rs) rows
-rows-first a b rs rows all = all-implied (IsLeftUntil a rs) (IsLeftUntil (lesser_end a b) rs) (λ r left. left-first a b rs r left) rows all
-
-pub rows-second : (a b : End) (rs : List Accepted) (rows : List Row) → AllByRecursion (IsLeftUntil b rs) rows → AllByRecursion (IsLeftUntil (lesser_end a b) rs) rows
-rows-second a b rs rows all = all-implied (IsLeftUntil b rs) (IsLeftUntil (lesser_end a b) rs) (λ r left. left-second a b rs r left) rows all
-
 pub lasting-first : (a b : End) (rs : List Accepted) → AllByRecursion (LastsUntil a) rs → AllByRecursion (LastsUntil (lesser_end a b)) rs
 lasting-first a b rs all = all-implied (LastsUntil a) (LastsUntil (lesser_end a b)) (λ r lasts m ahead. lasts m (lesser-first m a b ahead)) rs all
 

@@ -1,4 +1,5 @@
 pub mod Book
+pub mod Due
 pub mod FactLaws
 pub mod Facts
 pub mod Gone
@@ -19,4 +20,5 @@ pub mod Sweeps
 pub mod Texts
 pub mod TieLaws
 pub mod Ties
+pub mod Usage
 pub mod Waiting

@@ -9,9 +9,9 @@ use Rattle.drmaa_model.specs.declared.reservations.Accepted.{Accepted}
 use Rattle.drmaa_model.specs.declared.rows.Row.{Row}
 use Rattle.drmaa_model.specs.Courses.{is_unasked, optional_end}
 use Rattle.drmaa_model.specs.Plan.{Plan}
+use Rattle.drmaa_model.specs.Time.{lasts, is_past, is_stranded, lapses, is_due}
 use Rattle.plan_book.specs.declared.alarm_blocks.Alarm.{Alarm}
 use Rattle.plan_book.specs.declared.rows.Places.{Places}
-use Rattle.drmaa_model.specs.Time.{lasts, is_past, is_stranded, lapses, is_due}
 
 -- the job neither ends nor is asked to end
 abbrev pub is_left : ℕ → List Accepted → Row → Bool

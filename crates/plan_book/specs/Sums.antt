@@ -11,8 +11,10 @@ use Rattle.plan_book.specs.Owed.{owes, owes_kill, reports_due, owed, owed_kills,
 use Rattle.plan_book.specs.Settled.{AreSettled}
 use Rattle.plan_book.specs.Spans.{AreSpanned}
 use Rattle.plan_book.specs.Texts.{IsRoomBeside}
+use Rattle.plan_book.specs.Usage.{AreUsed}
 use Rattle.plan_book.specs.declared.spans.Spans.{Spans}
 use Rattle.plan_book.specs.declared.sums.Sums.{Sums}
+use Rattle.plan_book.specs.declared.usage.Usage.{Usage}
 
 -- The sums are those of the rows.
 pub record AreSums (rows : List Row) (sums : Sums) : Type 0 where
@@ -25,12 +27,13 @@ pub record AreSums (rows : List Row) (sums : Sums) : Type 0 where
   pub small : AllByRecursion (λ (row : Row). row.course.held < 2 ^ 32) rows
 
 -- what is kept beside the rows is theirs
-pub record AreRows (rows : List Row) (sums : Sums) (room : Option ℕ) (front : ℕ) (most : ℤ) (spans : Spans) : Type 0 where
+pub record AreRows (rows : List Row) (sums : Sums) (room : Option ℕ) (front : ℕ) (most : ℤ) (spans : Spans) (usage : Usage) : Type 0 where
   pub totals : AreSums rows sums
   pub text : IsRoomBeside (kept_text rows) room
   pub settled : AreSettled front rows
   pub greatest : IsPriorityBound rows most
   pub members : AreSpanned rows spans
+  pub used : AreUsed rows usage
 
 -- the sums leave room for others
 pub record AreFew (sums : Sums) : Type 0 where

@@ -1,9 +1,9 @@
 //! Time goes on: the four rules of time, over the plan as it is kept. None of it takes memory.
 ghost use Rattle.std.specs.Prelude.{◌≡◌, ℕ, ◌≤◌, ◌^◌, false, max, get_or, length};
 ghost use Rattle.std.specs.List.{AllByRecursion};
-ghost use Rattle.drmaa_model.specs.declared.rows.Row.{Row};
-ghost use Rattle.drmaa_model.specs.Fit.{IsRising, number_of};
 ghost use Rattle.drmaa_types.specs.declared.moments.End.TheVariants.{Never};
+ghost use Rattle.drmaa_model.specs.declared.rows.Row.{Row};
+ghost use Rattle.drmaa_model.specs.Fit.{IsRising, IsSound, number_of};
 ghost use Rattle.drmaa_model.specs.Time.{advance_plan, come_to, let_go, expire, call_in, is_past};
 ghost use Rattle.plan_book.specs.Book.{plan_of, HasPlace, HasRoom, spare, spare_orders, spare_rows};
 ghost use Rattle.plan_book.specs.Places.{AreSorted};
@@ -46,12 +46,17 @@ impl Book {
         }
     }
 
-    /// The blocks outside of which no end has come.
-    fn due_blocks(&self) -> Places
+    /// The blocks outside of which no end has come by this moment. Before what is soonest there are none.
+    pub(crate) fn due_blocks(&self, moment: Moment) -> Places
+        requires quiet { IsQuiet self.now.alarm (plan_of self.now) }
         ensures within { result.until ≤ length self.now.alarm.ends.items }
-        ensures outside { (k : ℕ) → IsOutside result k → is_past self.now.moment (get_or self.now.alarm.ends.items k Never) ≡ false }
+        ensures outside { (k : ℕ) → IsOutside result k → is_past moment (get_or self.now.alarm.ends.items k Never) ≡ false }
     {
-        self.alarm.due_blocks(self.moment)
+        if is_past(self.alarm.soonest, moment) {
+            self.alarm.due_blocks(moment)
+        } else {
+            Places { from: 0, until: 0 }
+        }
     }
 
     /// Time has come to its moment: the jobs whose time is over end or are asked to end, which are of these blocks, and the alarm is set
@@ -60,6 +65,7 @@ impl Book {
         requires room { HasRoom self.old }
         requires sorted { AreSorted self.old.reservations.items }
         requires rising { IsRising number_of self.old.rows.items }
+        requires sound { AllByRecursion (λ (row : Row). IsSound row.wants row.course) self.old.rows.items }
         requires few { length self.old.alarm.ends.items ≤ 2 ^ 56 }
         requires within { blocks.until ≤ length self.old.alarm.ends.items }
         requires covered { AreCovered self.old.alarm.ends.items self.old.rows.items }
@@ -95,6 +101,7 @@ impl Book {
         requires room { HasRoom self.old }
         requires sorted { AreSorted self.old.reservations.items }
         requires rising { IsRising number_of self.old.rows.items }
+        requires sound { AllByRecursion (λ (row : Row). IsSound row.wants row.course) self.old.rows.items }
         requires quiet { IsQuiet self.old.alarm (plan_of self.old) }
         ensures plan { plan_of self.new ≡ advance_plan entry at (plan_of self.old) }
         ensures sorted { AreSorted self.new.reservations.items }
@@ -118,7 +125,7 @@ impl Book {
             self.sweep(self.all_blocks(), lasting, entry);
         } else {
             self.moment = moment;
-            self.sweep(self.due_blocks(), self.alarm.lasting, entry);
+            self.sweep(self.due_blocks(moment), self.alarm.lasting, entry);
         }
     }
 }

@@ -5,9 +5,9 @@ ghost use Rattle.std.specs.Option.{option_map_or};
 ghost use Rattle.drmaa_types.specs.declared.moments.End.{End};
 ghost use Rattle.drmaa_model.specs.declared.rows.Row.{Row};
 ghost use Rattle.drmaa_model.specs.Fit.{IsRising, number_of};
+ghost use Rattle.drmaa_model.specs.Plan.{Plan};
 ghost use Rattle.drmaa_model.specs.Rows.{row_of};
 ghost use Rattle.plan_book.specs.Places.{AreSorted};
-ghost use Rattle.drmaa_model.specs.Plan.{Plan};
 ghost use Rattle.plan_book.specs.Quiet.{AreCovered, IsAlarmed, IsLeftUntil, IsQuiet, LastsUntil, acts_at, unless_stranded};
 
 use crate::alarm_blocks::Alarm;

@@ -11,8 +11,9 @@ ghost use Rattle.drmaa_model.specs.Rows.{row_of};
 ghost use Rattle.drmaa_model.specs.Size.{weight};
 ghost use Rattle.drmaa_model.specs.Submitting.{kept_text, most_kept_text};
 ghost use Rattle.drmaa_model.specs.Time.{advance_plan, is_accepted, rows_at, lasts, lapsed, called_in};
-ghost use Rattle.drmaa_model.specs.Load.{is_member, reservation_of};
+ghost use Rattle.drmaa_model.specs.Load.{in_array, in_queue, in_reservation, is_member, reservation_of};
 ghost use Rattle.plan_book.specs.Book.{plan_of, calendar_of, IsBook, spare, course_then};
+ghost use Rattle.plan_book.specs.Due.{HasAllDue};
 ghost use Rattle.plan_book.specs.Facts.{facts_of};
 ghost use Rattle.plan_book.specs.Meant.{HasAllMeant};
 ghost use Rattle.plan_book.specs.Numbers.{HasNumbersOf};
@@ -45,7 +46,7 @@ pub struct Book {
     pub next_job: u64,
     pub next_array: u64,
     pub next_reservation: u64,
-    /// Before it time leaves all jobs and reservations as they are. It may be sooner than need be.
+    /// Before which moments time leaves jobs and reservations as they are. They may be sooner than need be.
     pub alarm: Alarm,
 }
 
@@ -126,14 +127,6 @@ impl Book {
         }
     }
 
-    /// Whether time leaves all jobs as they are on its way to this moment. It looks at no job.
-    pub fn is_quiet_at(&self, at: Moment) -> bool
-        requires book { IsBook self.now }
-        ensures { result ≡ true → AllByRecursion (λ (row : Row). course_then at (plan_of self.now) row ≡ row.course) (plan_of self.now).rows }
-    {
-        !is_past(self.alarm.soonest, self.moment_at(at))
-    }
-
     /// What is known of a job once time has come to this moment.
     pub fn facts_at(&self, at: Moment, job: JobId) -> Option<Facts>
         requires book { IsBook self.now }
@@ -181,6 +174,19 @@ impl Book {
         ensures { AreOpen (plan_of self.now).rows result.now }
     {
         self.rows.open_rows()
+    }
+
+    /// The kept jobs, but for some at the front and at the end which time leaves as they are on its way to this moment: those of the
+    /// blocks of which the end has come, or where a reservation ends, all from the first on that is not over.
+    pub fn due_rows(&self, at: Moment) -> &[Row]
+        requires book { IsBook self.now }
+        ensures { HasAllDue at (plan_of self.now) result.now }
+    {
+        let moment = self.moment_at(at);
+        if is_past(self.alarm.lasting, moment) {
+            return self.rows.open_rows();
+        }
+        self.rows.rows_of(self.due_blocks(moment))
     }
 
     /// The kept jobs, but for some at the front and at the end of which none is meant: that of one job alone, or those between the first
@@ -232,6 +238,27 @@ impl Book {
         ensures { IsPriorityBound (plan_of self.now).rows result }
     {
         self.rows.priority_bound()
+    }
+
+    /// How many members of the array hold slots. None where it isn't known, since memory for it was wanting.
+    pub fn in_array(&self, array: ArrayId) -> Option<u32>
+        ensures { IfSome result (λ n. n ≡ in_array array (plan_of self.now).rows) }
+    {
+        self.rows.in_array(array)
+    }
+
+    /// The slots held by the ordinary jobs of the queue at this place. None where it isn't known, since memory for it was wanting.
+    pub fn in_queue(&self, place: u32) -> Option<u32>
+        ensures { IfSome result (λ n. n ≡ in_queue place (plan_of self.now).rows) }
+    {
+        self.rows.in_queue(place)
+    }
+
+    /// The slots held by the jobs that name the reservation. None where it isn't known, since memory for it was wanting.
+    pub fn in_reservation(&self, number: ReservationId) -> Option<u32>
+        ensures { IfSome result (λ n. n ≡ in_reservation number (plan_of self.now).rows) }
+    {
+        self.rows.in_reservation(number)
     }
 
     /// The slots that all jobs hold.

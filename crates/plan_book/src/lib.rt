@@ -30,6 +30,7 @@ mod sweeps;
 pub mod targets;
 mod texts;
 mod time;
+mod usage;
 
 pub use alarm_blocks::Alarm;
 pub use book::Book;

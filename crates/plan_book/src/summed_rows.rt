@@ -11,13 +11,14 @@ ghost use Rattle.drmaa_model.specs.Controlling.{control_step, is_done};
 ghost use Rattle.drmaa_model.specs.Effects.{left_by, is_forgotten};
 ghost use Rattle.drmaa_model.specs.Fit.{IsRising, IsSound, number_of};
 ghost use Rattle.drmaa_model.specs.Homes.{is_same_home};
-ghost use Rattle.drmaa_model.specs.Load.{is_member};
+ghost use Rattle.drmaa_model.specs.Load.{in_array, in_queue, in_reservation, is_member};
 ghost use Rattle.drmaa_model.specs.NextLaunch.{held};
 ghost use Rattle.drmaa_model.specs.Rows.{row_of, with_course};
 ghost use Rattle.drmaa_model.specs.Size.{promised};
 ghost use Rattle.drmaa_model.specs.Submitting.{kept_text};
 ghost use Rattle.drmaa_model.specs.Targets.{is_meant};
 ghost use Rattle.drmaa_model.specs.TimeLaws.{timed};
+ghost use Rattle.plan_book.specs.Due.{HasAllOf};
 ghost use Rattle.plan_book.specs.Meant.{HasAllMeant, NoneMeant};
 ghost use Rattle.plan_book.specs.Numbers.{HasNumbersOf};
 ghost use Rattle.plan_book.specs.Open.{AreOpen, IsPriorityBound};
@@ -40,9 +41,10 @@ use crate::targets::is_done;
 use crate::texts::{
     room_beside, room_with, room_without_done, room_without_forgotten, room_without_job, whole_room,
 };
+use crate::usage::Usage;
 use crate::{rows, targets};
 use drmaa_model::{Accepted, Course, Order, Row, Target};
-use drmaa_types::{ArrayId, Change, Control, End, JobId, Moment};
+use drmaa_types::{ArrayId, Change, Control, JobId, Moment, ReservationId};
 use std::alloc::{AllocError, Global};
 use std::marker::Model;
 
@@ -58,6 +60,8 @@ pub struct Rows {
     greatest: i32,
     /// Between which numbers the members of arrays and the jobs of homes stand.
     spans: Spans,
+    /// What arrays, queues and reservations have in use.
+    usage: Usage,
 }
 
 impl Drop for Rows {
@@ -69,6 +73,7 @@ impl Drop for Rows {
             settled: _,
             greatest: _,
             spans: _,
+            usage: _,
         } = self;
     }
 }
@@ -82,7 +87,7 @@ impl Model for Rows {
 
     ghost view = { λ r. r.list };
 
-    ghost invariant = { λ r. AreRows r.list.items r.sums r.room r.settled r.greatest r.spans };
+    ghost invariant = { λ r. AreRows r.list.items r.sums r.room r.settled r.greatest r.spans r.usage };
 }
 
 impl Rows {
@@ -97,6 +102,7 @@ impl Rows {
             settled: 0,
             greatest: i32::MIN,
             spans: Spans::new(alloc),
+            usage: Usage::new(alloc),
         }
     }
 
@@ -131,6 +137,16 @@ impl Rows {
         ensures { HasAllMeant (Target.Array array) self.now.items result.now }
     {
         let places = self.places_of(array);
+        &self.list.rows()[places.from..places.until]
+    }
+
+    /// Rows among which are all that are of these blocks. They are found by halves.
+    pub fn rows_of(&self, blocks: Places) -> &[Row]
+        requires rising { IsRising number_of self.now.items }
+        requires few { blocks.until ≤ 2 ^ 56 }
+        ensures { HasAllOf blocks self.now.items result.now }
+    {
+        let places = places_of(self.list.rows(), blocks);
         &self.list.rows()[places.from..places.until]
     }
 
@@ -170,6 +186,27 @@ impl Rows {
         ensures { IsPriorityBound self.now.items result }
     {
         self.greatest
+    }
+
+    /// How many members of the array hold slots. None where it isn't known, since memory for it was wanting.
+    pub fn in_array(&self, array: ArrayId) -> Option<u32>
+        ensures { IfSome result (λ n. n ≡ in_array array self.now.items) }
+    {
+        self.usage.in_array(array)
+    }
+
+    /// The slots held by the ordinary jobs of the queue at this place. None where it isn't known, since memory for it was wanting.
+    pub fn in_queue(&self, place: u32) -> Option<u32>
+        ensures { IfSome result (λ n. n ≡ in_queue place self.now.items) }
+    {
+        self.usage.in_queue(place)
+    }
+
+    /// The slots held by the jobs that name the reservation. None where it isn't known, since memory for it was wanting.
+    pub fn in_reservation(&self, number: ReservationId) -> Option<u32>
+        ensures { IfSome result (λ n. n ≡ in_reservation number self.now.items) }
+    {
+        self.usage.in_reservation(number)
     }
 
     /// The row of this job, if it is kept.
@@ -249,6 +286,7 @@ impl Rows {
         self.room = room_with(self.room, &more);
         self.greatest = greatest_with(self.greatest, &more);
         self.spans.put_rows(&more[..]);
+        self.usage.add_rows(&more[..]);
         self.list.append_rows(more);
     }
 
@@ -259,7 +297,9 @@ impl Rows {
     {
         match rows::place_of(self.list.rows(), job) {
             Ok(place) => {
-                self.sums = going_on(&self.sums, &self.list.rows()[place].course, course);
+                let row = &self.list.rows()[place];
+                self.sums = going_on(&self.sums, &row.course, course);
+                self.usage.exchange(row, row.course.held, course.held);
                 self.list.put_course(place, course);
                 self.settled = settled_from(self.list.rows(), self.settled.min(place));
             }
@@ -281,6 +321,7 @@ impl Rows {
     )
         requires sorted { AreSorted rs.now.items }
         requires rising { IsRising number_of self.old.items }
+        requires sound { AllByRecursion (λ (row : Row). IsSound row.wants row.course) self.old.items }
         requires few { blocks.until ≤ 2 ^ 56 }
         requires covered { AreCovered alarm.old.ends.items self.old.items }
         requires outside { AllByRecursion (λ (row : Row). IsOutside blocks (block_of row.job.0) → IsSpared moment alarm.old.ends.items rs.now.items row) self.old.items }
@@ -312,7 +353,8 @@ impl Rows {
 
     /// The jobs on which the call acts go on: one, whose row is found by halves, or the members of an array.
     pub(crate) fn control_rows(&mut self, moment: Moment, target: &Target, what: Control)
-        requires { IsRising number_of self.old.items }
+        requires rising { IsRising number_of self.old.items }
+        requires sound { AllByRecursion (λ (row : Row). IsSound row.wants row.course) self.old.items }
         ensures { self.new.items ≡ map (control_step moment target.now what) self.old.items }
     {
         match target {
@@ -335,7 +377,8 @@ impl Rows {
     }
 
     fn control_members(&mut self, moment: Moment, array: ArrayId, what: Control)
-        requires { IsRising number_of self.old.items }
+        requires rising { IsRising number_of self.old.items }
+        requires sound { AllByRecursion (λ (row : Row). IsSound row.wants row.course) self.old.items }
         ensures { self.new.items ≡ map (control_step moment (Target.Array array) what) self.old.items }
     {
         let places = self.places_of(array);
@@ -382,6 +425,7 @@ impl Rows {
         let known = room_without_job(self.room, row);
         let priority = row.wants.priority;
         self.sums = without_job(&self.sums, &row.course);
+        self.usage.exchange(row, row.course.held, 0);
         self.list.remove(place);
         self.room = room_beside(known, self.list.rows());
         self.settled = settled_without(self.settled, place);

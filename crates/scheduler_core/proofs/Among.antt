@@ -16,7 +16,7 @@ module _ (test : Row → Bool) where
   find-behind (row ∷ front) rows none =
       ap (λ b. cond b (Some row) (find test (front ++ rows))) none.0 ∙ find-behind front rows none.1
 
-  find-before : (rows behind : List Row) → Fails behind → find test (rows ++ behind) ≡ find test rows
+  pub find-before : (rows behind : List Row) → Fails behind → find test (rows ++ behind) ≡ find test rows
   find-before [] [] none = refl
   find-before [] (row ∷ behind) none = ap (λ b. cond b (Some row) (find test behind)) none.0 ∙ find-before [] behind none.1
   find-before (row ∷ rows) behind none = ap (λ o. cond (test row) (Some row) o) (find-before rows behind none)

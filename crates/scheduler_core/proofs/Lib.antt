@@ -4,12 +4,12 @@ pub mod BatchLaws
 pub mod CalendarLaws
 pub mod ControlLaws
 pub mod DemandLaws
+pub mod DueKills
 pub mod FactSteps
 pub mod FirstRows
 pub mod LastingLaws
 pub mod LaunchSteps
 pub mod OfferLaws
-pub mod OpenKills
 pub mod OpenLaws
 pub mod PartLaws
 pub mod PhaseLaws

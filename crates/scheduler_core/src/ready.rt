@@ -311,7 +311,7 @@ fn covers(r: &Accepted, moment: Moment) -> bool
     r.from.number() <= moment.number() && moment.number() < r.until.number()
 }
 
-/// The slots of a reservation that are left. Jobs at the front that are over hold none.
+/// The slots of a reservation that are left.
 fn left_in(book: &Book, number: ReservationId, moment: Moment) -> u32
     requires book { IsBook book.now }
     requires few { (plan_of book.now).total < 2 ^ 32 }
@@ -320,7 +320,7 @@ fn left_in(book: &Book, number: ReservationId, moment: Moment) -> u32
     match lasting_of(book.reservations(), number, moment) {
         Some(r) => r
             .slots
-            .saturating_sub(in_reservation(book.open_rows(), number)),
+            .saturating_sub(Known::new().in_reservation(book, number)),
         None => 0,
     }
 }

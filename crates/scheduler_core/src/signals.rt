@@ -122,23 +122,13 @@ fn is_alive(phase: Phase) -> bool
     }
 }
 
-/// The first of the kills that time asks on its way to this moment that can be delivered.
+/// The first of the kills that time asks on its way to this moment that can be delivered. It looks at jobs alone on which time may act by
+/// then.
 fn kill_due(book: &Book, at: Moment) -> Option<Order>
     requires book { IsBook book.now }
     ensures { result ≡ option_map kill_order (find (is_killed at (plan_of book.now)) book.now.rows.items) }
 {
-    if book.is_quiet_at(at) {
-        return None;
-    }
-    first_kill(book, at)
-}
-
-/// The same where time may have something to do. It asks for no kill of the jobs at the front that are over.
-fn first_kill(book: &Book, at: Moment) -> Option<Order>
-    requires book { IsBook book.now }
-    ensures { result ≡ option_map kill_order (find (is_killed at (plan_of book.now)) book.now.rows.items) }
-{
-    for row in book.open_rows() {
+    for row in book.due_rows(at) {
         if is_killed(book, at, row) {
             return Some(kill_order(row));
         }

@@ -1,4 +1,5 @@
-//! The sums over all rows that a search has made, so that it makes none of them anew for each waiting job. None of it takes memory.
+//! Sums over all rows that the book keeps, and those that a search has made where the book lacks them, so that it makes none of them
+//! anew for each waiting job. None of it takes memory.
 ghost use Rattle.std.specs.Prelude.{◌≡◌, ℕ, ◌^◌, ◌<◌, List, IfSome};
 ghost use Rattle.drmaa_model.specs.declared.rows.Row.{Row};
 ghost use Rattle.drmaa_model.specs.Load.{in_array, in_queue, in_reservation};
@@ -27,7 +28,7 @@ pub struct Sums {
     pub places: [Option<Sum>; PLACES],
 }
 
-/// What a search knows of all rows.
+/// What a search has found out of all rows.
 #[derive(Drop)]
 pub struct Known {
     /// How many members of an array hold slots.
@@ -85,7 +86,7 @@ impl Known {
         }
     }
 
-    /// How many members of an array hold slots. They are looked for between its first and its last member.
+    /// How many members of an array hold slots. Where the book doesn't know, they are looked for between its first and its last member.
     pub fn in_array(&mut self, book: &Book, array: ArrayId) -> u32
         requires book { IsBook book.now }
         requires few { (plan_of book.now).total < 2 ^ 32 }
@@ -93,6 +94,9 @@ impl Known {
         ensures value { result ≡ in_array array (plan_of book.now).rows }
         ensures known { IsKnown (plan_of book.now).rows self.new }
     {
+        if let Some(sum) = book.in_array(array) {
+            return sum;
+        }
         if let Some(sum) = self.arrays.find(array.0) {
             return sum;
         }
@@ -101,7 +105,8 @@ impl Known {
         sum
     }
 
-    /// The slots held by the ordinary jobs of the queue at this place. Jobs at the front that are over hold none.
+    /// The slots held by the ordinary jobs of the queue at this place. Where the book doesn't know, they are added up; jobs at the front
+    /// that are over hold none.
     pub fn in_queue(&mut self, book: &Book, place: u32) -> u32
         requires book { IsBook book.now }
         requires few { (plan_of book.now).total < 2 ^ 32 }
@@ -109,6 +114,9 @@ impl Known {
         ensures value { result ≡ in_queue place (plan_of book.now).rows }
         ensures known { IsKnown (plan_of book.now).rows self.new }
     {
+        if let Some(sum) = book.in_queue(place) {
+            return sum;
+        }
         let number = u64::from(place);
         if let Some(sum) = self.queues.find(number) {
             return sum;
@@ -118,7 +126,8 @@ impl Known {
         sum
     }
 
-    /// The slots held by the jobs that name a reservation. Jobs at the front that are over hold none.
+    /// The slots held by the jobs that name a reservation. Where the book doesn't know, they are added up; jobs at the front that are over
+    /// hold none.
     pub fn in_reservation(&mut self, book: &Book, number: ReservationId) -> u32
         requires book { IsBook book.now }
         requires few { (plan_of book.now).total < 2 ^ 32 }
@@ -126,6 +135,9 @@ impl Known {
         ensures value { result ≡ in_reservation number (plan_of book.now).rows }
         ensures known { IsKnown (plan_of book.now).rows self.new }
     {
+        if let Some(sum) = book.in_reservation(number) {
+            return sum;
+        }
         if let Some(sum) = self.reservations.find(number.0) {
             return sum;
         }

@@ -1,6 +1,8 @@
 use Rattle.std.proofs.Common.{◌≡◌, List, length, refl, sym, ◌∙◌, ap, subst, arith}
+use Rattle.std.specs.List.{AllByRecursion}
 use Rattle.drmaa_types.specs.declared.moments.End.{End}
-use Rattle.drmaa_model.specs.Fit.{IsFit, IsRising, number_of}
+use Rattle.drmaa_model.specs.declared.rows.Row.{Row}
+use Rattle.drmaa_model.specs.Fit.{IsFit, IsRising, IsSound, number_of}
 use Rattle.drmaa_model.specs.FitLaws.{advance-fit, fewer-fit, expire-fit, call_in-fit}
 use Rattle.drmaa_model.specs.Plan.{Plan}
 use Rattle.drmaa_model.specs.Requests.{without_reservation, is_other}
@@ -75,6 +77,12 @@ sweep-requires-clause-rising c =
     let p = plan_of c.args.self.now in
     let fit_q : IsFit (plan_of c.advance.new.self) = subst IsFit (sym c.advance.ensures.plan) (advance-fit c.args.occasion.entry c.args.occasion.at p c.requires.book.fit) in
     subst (IsRising number_of) (sym (rows-same c)) fit_q.jobs.rising
+
+pub sweep-requires-clause-sound : goal.sweep-requires-clause-sound
+sweep-requires-clause-sound c =
+    let p = plan_of c.args.self.now in
+    let fit_q : IsFit (plan_of c.advance.new.self) = subst IsFit (sym c.advance.ensures.plan) (advance-fit c.args.occasion.entry c.args.occasion.at p c.requires.book.fit) in
+    subst (λ (rows : List Row). AllByRecursion (λ (row : Row). IsSound row.wants row.course) rows) (sym (rows-same c)) fit_q.sound
 
 pub sweep-requires-clause-few : goal.sweep-requires-clause-few
 sweep-requires-clause-few c = omega (arith, c.advance.ensures.quiet.few, ap (λ (es : List End). length es) (ends-same c))

@@ -4,6 +4,7 @@ use Rattle.std.specs.List.{AllByRecursion}
 use Rattle.job_template.specs.Texts.{text_length}
 use Rattle.drmaa_model.specs.declared.rows.Row.{Row}
 use Rattle.drmaa_model.specs.Submitting.{kept_text}
+use Rattle.plan_book.specs.Usage.{AreUsed}
 use Rattle.plan_book.specs.declared.sums.Sums.{Sums}
 use Rattle.plan_book.specs.Open.{IsPriorityBound}
 use Rattle.plan_book.specs.Settled.{AreSettled}
@@ -47,4 +48,6 @@ invariant_of-self c =
       members = subst (λ (rows : List Row). AreSpanned rows c.put_rows.new.self) (sym c.append_rows.ensures)
           (spanned-append xs more c.self.inside.spans c.put_rows.new.self c.self.invariant.members c.put_rows.ensures.sorted c.put_rows.ensures.arrays c.put_rows.ensures.homes
           (subst (AllByRecursion (IsSpanned c.put_rows.new.self)) c.deref-2.ensures.value c.put_rows.ensures.members));
+      used = subst (λ (rows : List Row). AreUsed rows c.add_rows.new.self) (sym c.append_rows.ensures)
+          (subst (λ (rows : List Row). AreUsed (xs ++ rows) c.add_rows.new.self) c.deref-3.ensures.value (c.add_rows.ensures xs c.self.invariant.used));
     }

@@ -1,56 +1,40 @@
 use Rattle.std.proofs.Common.{◌≡◌, ◌≤◌, ◌-◌, ◌++◌, ◌∙◌, ℕ, List, map, take, drop, length, length-take, ap, subst, sym, arith}
 use Rattle.std.specs.Global.{Vec}
 use Rattle.std.proofs.lemmas.List.{length-map, length-drop, take_at, drop_at}
-use Rattle.std.proofs.lemmas.List.Edits.{split_between}
+use Rattle.std.specs.List.{AllByRecursion}
 use Rattle.drmaa_types.specs.declared.states.Control.{Control}
+use Rattle.drmaa_model.specs.Fit.{IsSound}
 use Rattle.drmaa_model.specs.declared.calls.Target.{Target}
 use Rattle.drmaa_model.specs.declared.calls.Target.TheVariants as target
 use Rattle.drmaa_model.specs.declared.rows.Row.{Row}
 use Rattle.drmaa_model.specs.Controlling.{control_step}
 use Rattle.drmaa_model.specs.Submitting.{kept_text}
+use Rattle.plan_book.specs.Usage.{AreUsed}
 use Rattle.plan_book.specs.declared.sums.Sums.{Sums}
 use Rattle.plan_book.specs.Meant.{NoneMeant}
 use Rattle.plan_book.specs.Open.{IsPriorityBound}
 use Rattle.plan_book.specs.Settled.{AreSettled}
 use Rattle.plan_book.specs.Spans.{AreSpanned}
-use Rattle.plan_book.specs.Sums.{AreSums, AreAmong, AreFew, with_others, without_others}
+use Rattle.plan_book.specs.Sums.{AreSums, AreFew, with_others}
 use Rattle.plan_book.proofs.OpenLaws.{settled-step, greatest-step}
-use Rattle.plan_book.proofs.PartLaws.{step-parts, part-among, part-exchanged, few-without}
+use Rattle.plan_book.proofs.PartLaws.{among, between, exchanged, few-without, split, step-parts}
 use Rattle.plan_book.proofs.SpanLaws.{spanned-step}
 use Rattle.plan_book.proofs.SumLaws.{sums-few}
 use Rattle.plan_book.proofs.TextLaws.{same-room, text-step}
+use Rattle.plan_book.proofs.UsageLaws.{used-step}
 use Rattle.plan_book.proofs.summed_rows.Rows.control_members.Goals as goal
 
-abbrev part : ℕ → ℕ → List Row → List Row
-part from until list = take (until - from) (drop from list)
-
 module _ (xs : List Row) (from until : ℕ) (order : from ≤ until) (within : until ≤ length xs) where
-  split : xs ≡ take from xs ++ (part from until xs ++ drop until xs)
-  split = split_between xs from until order
-
-  module _ (sums of_part : Sums) (are : AreSums xs sums) (list : List Row) (same : list ≡ xs) (own : AreSums (part from until list) of_part) where
-    whole : AreSums (take from xs ++ (part from until xs ++ drop until xs)) sums
-    whole = subst (λ (rows : List Row). AreSums rows sums) split are
-
-    inner : AreSums (part from until xs) of_part
-    inner = subst (λ (rows : List Row). AreSums (part from until rows) of_part) same own
-
-    among : AreAmong of_part sums
-    among = part-among (take from xs) (part from until xs) (drop until xs) sums of_part whole inner
-
-    exchanged : (next : List Row) (of_next : Sums) → AreSums next of_next → AreSums (take from xs ++ (next ++ drop until xs)) (with_others (without_others sums of_part) of_next)
-    exchanged = part-exchanged (take from xs) (part from until xs) (drop until xs) sums of_part whole inner
-
-  module _ (t : Target) (moment : ℕ) (what : Control) (new : List Row) (is : new ≡ take from xs ++ (map (control_step moment t what) (part from until xs) ++ drop until xs)) where
+  module _ (t : Target) (moment : ℕ) (what : Control) (new : List Row) (is : new ≡ take from xs ++ (map (control_step moment t what) (between from until xs) ++ drop until xs)) where
     all : NoneMeant t (take from xs) → NoneMeant t (drop until xs) → new ≡ map (control_step moment t what) xs
-    all before behind = is ∙ step-parts moment t what xs (take from xs) (part from until xs) (drop until xs) split before behind
+    all before behind = is ∙ step-parts moment t what xs (take from xs) (between from until xs) (drop until xs) (split xs from until order) before behind
 
-    then : (list : List Row) → list ≡ new → part from until list ≡ map (control_step moment t what) (part from until xs)
+    then : (list : List Row) → list ≡ new → between from until list ≡ map (control_step moment t what) (between from until xs)
     then list same =
-        let next = map (control_step moment t what) (part from until xs) in
-        ap (part from until) (same ∙ is)
+        let next = map (control_step moment t what) (between from until xs) in
+        ap (between from until) (same ∙ is)
         ∙ ap (take (until - from)) (drop_at (take from xs) (next ++ drop until xs) from (omega (arith, length-take from xs, order, within)))
-        ∙ take_at next (drop until xs) (until - from) (omega (arith, length-map (part from until xs) (control_step moment t what), length-take (until - from) (drop from xs), length-drop from xs, order, within))
+        ∙ take_at next (drop until xs) (until - from) (omega (arith, length-map (between from until xs) (control_step moment t what), length-take (until - from) (drop from xs), length-drop from xs, order, within))
 
 inside : (v w : Vec Row) (until : ℕ) → v ≡ w → until ≤ length w.items → until ≤ length v.items
 inside v w until same within = subst (λ (x : Vec Row). until ≤ length x.items) (sym same) within
@@ -64,7 +48,7 @@ without_others-requires c =
     let v = c.self.inside.list in
     let places = c.places_of-places in
     record {
-      among = among v.items places.result.from places.result.until places.ensures.span (inside v c.args.self.now places.result.until c.self.view_is places.ensures.within)
+      among = among v.items places.result.from places.result.until places.ensures.span
           c.self.inside.sums c.sums_of-before.result c.self.invariant.totals c.rows.result.now c.rows.ensures c.sums_of-before.ensures;
     }
 
@@ -78,7 +62,7 @@ with_others-self-inside-requires-clause-few_others c =
     let v = c.self.inside.list in
     let places = c.places_of-places in
     let within = inside v c.args.self.now places.result.until c.self.view_is places.ensures.within in
-    let some = part places.result.from places.result.until c.rows-2.result.now in
+    let some = between places.result.from places.result.until c.rows-2.result.now in
     sums-few some c.sums_of-after.result (omega (arith, length-take (places.result.until - places.result.from) (drop places.result.from c.rows-2.result.now), within, v.ok.0, v.ok.1, v.small)) c.sums_of-after.ensures
 
 pub settled_from-self-inside-requires : goal.settled_from-self-inside-requires
@@ -106,16 +90,18 @@ invariant_of-self c =
     let new = c.control_rows.new.self.items in
     let step = control_step c.args.moment t c.args.what in
     let is : new ≡ map step xs = all xs from until order within t c.args.moment c.args.what new c.control_rows.ensures none.0 none.1 in
-    let next : part from until c.rows-2.result.now ≡ map step (part from until xs) = then xs from until order within t c.args.moment c.args.what new c.control_rows.ensures c.rows-2.result.now c.rows-2.ensures in
-    let own : AreSums (map step (part from until xs)) c.sums_of-after.result = subst (λ (rows : List Row). AreSums rows c.sums_of-after.result) next c.sums_of-after.ensures in
+    let next : between from until c.rows-2.result.now ≡ map step (between from until xs) = then xs from until order within t c.args.moment c.args.what new c.control_rows.ensures c.rows-2.result.now c.rows-2.ensures in
+    let own : AreSums (map step (between from until xs)) c.sums_of-after.result = subst (λ (rows : List Row). AreSums rows c.sums_of-after.result) next c.sums_of-after.ensures in
     record {
       totals = subst (λ (rows : List Row). AreSums rows c.with_others-self-inside.result) (sym c.control_rows.ensures)
-          (subst (λ (sums : Sums). AreSums (take from xs ++ (map step (part from until xs) ++ drop until xs)) sums) (sym (c.with_others-self-inside.ensures ∙ ap (λ (sums : Sums). with_others sums c.sums_of-after.result) c.without_others.ensures))
-          (exchanged xs from until order within c.self.inside.sums c.sums_of-before.result c.self.invariant.totals c.rows.result.now c.rows.ensures c.sums_of-before.ensures (map step (part from until xs)) c.sums_of-after.result own));
+          (subst (λ (sums : Sums). AreSums (take from xs ++ (map step (between from until xs) ++ drop until xs)) sums) (sym (c.with_others-self-inside.ensures ∙ ap (λ (sums : Sums). with_others sums c.sums_of-after.result) c.without_others.ensures))
+          (exchanged xs from until order c.self.inside.sums c.sums_of-before.result c.self.invariant.totals c.rows.result.now c.rows.ensures c.sums_of-before.ensures (map step (between from until xs)) c.sums_of-after.result own));
       settled = subst (AreSettled c.settled_from-self-inside.result) c.rows-3.ensures c.settled_from-self-inside.ensures.settled;
       greatest = subst (λ (rows : List Row). IsPriorityBound rows c.self.inside.greatest) (sym is) (greatest-step c.args.moment t c.args.what xs c.self.inside.greatest c.self.invariant.greatest);
       text = same-room (kept_text xs) (kept_text new) c.self.inside.room (ap kept_text is ∙ text-step c.args.moment t c.args.what xs) c.self.invariant.text;
       members = subst (λ (rows : List Row). AreSpanned rows c.self.inside.spans) (sym is) (spanned-step c.args.moment t c.args.what xs c.self.inside.spans c.self.invariant.members);
+      used = subst (λ (rows : List Row). AreUsed rows c.self.inside.usage) (sym is)
+          (used-step c.args.moment t c.args.what xs c.self.inside.usage (subst (λ (w : Vec Row). AllByRecursion (λ (row : Row). IsSound row.wants row.course) w.items) (sym c.self.view_is) c.requires.sound) c.self.invariant.used);
     }
 
 pub returns : goal.returns

@@ -14,9 +14,11 @@ use Rattle.plan_book.specs.Settled.{AreSettled}
 use Rattle.plan_book.specs.Spans.{AreSpanned}
 use Rattle.plan_book.specs.Sums.{AreSums}
 use Rattle.plan_book.specs.Texts.{IsRoomBeside}
+use Rattle.plan_book.specs.Usage.{AreUsed}
 use Rattle.plan_book.proofs.OpenLaws.{greatest-filter}
 use Rattle.plan_book.proofs.PartLaws.{among-within, room-part, settled-left, sums-left}
 use Rattle.plan_book.proofs.SpanLaws.{spanned-filter}
+use Rattle.plan_book.proofs.UsageLaws.{used-left}
 use Rattle.plan_book.proofs.summed_rows.Rows.drop_done_members.Goals as goal
 
 pub room_beside-self-inside-requires : goal.room_beside-self-inside-requires
@@ -67,4 +69,5 @@ invariant_of-self c =
       greatest = subst (IsPriorityBound c.drop_done.new.self.items) (sym (to_z-of_z fits))
           (subst (λ (rows : List Row). IsPriorityBound rows c.greatest_under-self-inside.result) c.rows-4.ensures c.greatest_under-self-inside.ensures);
       members = subst (λ (rows : List Row). AreSpanned rows c.prune.new.self) c.rows-5.ensures c.prune.ensures;
+      used = subst (λ (rows : List Row). AreUsed rows c.self.inside.usage) (sym c.drop_done.ensures) (used-left (is_meant t) c.self.inside.list.items c.self.inside.usage sound c.self.invariant.used);
     }

@@ -12,9 +12,11 @@ use Rattle.plan_book.specs.Settled.{AreSettled}
 use Rattle.plan_book.specs.Spans.{AreSpanned}
 use Rattle.plan_book.specs.Sums.{AreSums}
 use Rattle.plan_book.specs.Texts.{IsRoomBeside}
+use Rattle.plan_book.specs.Usage.{AreUsed}
 use Rattle.plan_book.proofs.OpenLaws.{greatest-filter}
 use Rattle.plan_book.proofs.PartLaws.{sums-left}
 use Rattle.plan_book.proofs.SpanLaws.{spanned-filter}
+use Rattle.plan_book.proofs.UsageLaws.{used-left}
 use Rattle.plan_book.proofs.summed_rows.Rows.drop_forgotten.Goals as goal
 
 pub prune-requires : goal.prune-requires
@@ -34,6 +36,8 @@ invariant_of-self c =
       greatest = subst (IsPriorityBound c.drop_forgotten.new.self.items) (sym (to_z-of_z fits))
           (subst (λ (rows : List Row). IsPriorityBound rows c.greatest_under-self-inside.result) c.rows-4.ensures c.greatest_under-self-inside.ensures);
       members = subst (λ (rows : List Row). AreSpanned rows c.prune.new.self) c.rows-5.ensures c.prune.ensures;
+      used = subst (λ (rows : List Row). AreUsed rows c.self.inside.usage) (sym c.drop_forgotten.ensures)
+          (used-left (λ (row : Row). is_same_home (Some c.args.home) row.home) c.self.inside.list.items c.self.inside.usage sound c.self.invariant.used);
     }
 
 pub greatest_under-self-inside-requires : goal.greatest_under-self-inside-requires

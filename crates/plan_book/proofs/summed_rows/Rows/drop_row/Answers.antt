@@ -7,10 +7,12 @@ use Rattle.plan_book.specs.Open.{IsPriorityBound}
 use Rattle.plan_book.specs.Settled.{AreSettled}
 use Rattle.plan_book.specs.Spans.{AreSpanned}
 use Rattle.plan_book.specs.Texts.{IsRoomBeside}
+use Rattle.plan_book.specs.Usage.{AreUsed}
 use Rattle.plan_book.proofs.OpenLaws.{greatest-removed}
 use Rattle.plan_book.proofs.SpanLaws.{spanned-removed}
 use Rattle.plan_book.proofs.SumLaws.{sums-few, removed-parts, sums-removed}
 use Rattle.plan_book.proofs.TextLaws.{room-removed}
+use Rattle.plan_book.proofs.UsageLaws.{used-removed}
 use Rattle.plan_book.proofs.summed_rows.Rows.drop_row.Goals as goal
 
 inside : (v w : Vec Row) (place : ℕ) → v ≡ w → place < length w.items → place < length v.items
@@ -63,5 +65,6 @@ invariant_of-self c =
       text = subst (λ (rows : List Row). IsRoomBeside (kept_text rows) c.room_beside-self-inside.result) c.rows-2.ensures c.room_beside-self-inside.ensures;
       settled = subst (AreSettled c.settled_without-self-inside.result) (sym c.remove.ensures) (c.settled_without-self-inside.ensures xs within c.self.invariant.settled);
       members = subst (λ (rows : List Row). AreSpanned rows c.prune.new.self) c.rows-4.ensures c.prune.ensures;
+      used = subst (λ (rows : List Row). AreUsed rows c.exchange.new.self) (sym c.remove.ensures) (used-removed xs c.args.place row c.self.inside.usage c.exchange.new.self within is c.exchange.ensures c.self.invariant.used);
       greatest = subst (IsPriorityBound left) (sym (to_z-of_z fits)) (subst (λ (rows : List Row). IsPriorityBound rows c.greatest_without-self-inside.result) c.rows-3.ensures c.greatest_without-self-inside.ensures);
     }

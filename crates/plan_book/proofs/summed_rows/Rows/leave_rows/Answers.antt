@@ -6,10 +6,12 @@ use Rattle.plan_book.specs.Open.{IsPriorityBound}
 use Rattle.plan_book.specs.Settled.{AreSettled}
 use Rattle.plan_book.specs.Spans.{AreSpanned}
 use Rattle.plan_book.specs.Sums.{AreSums}
+use Rattle.plan_book.specs.Usage.{AreUsed}
 use Rattle.plan_book.proofs.OpenLaws.{settled-map, greatest-map}
 use Rattle.plan_book.proofs.SpanLaws.{spanned-left}
 use Rattle.plan_book.proofs.SumLaws.{sums-map}
 use Rattle.plan_book.proofs.TextLaws.{same-room, text-map}
+use Rattle.plan_book.proofs.UsageLaws.{used-homeless}
 use Rattle.plan_book.proofs.summed_rows.Rows.leave_rows.Goals as goal
 
 pub invariant_of-self : goal.invariant_of-self
@@ -22,4 +24,5 @@ invariant_of-self c =
       greatest = subst (λ (rows : List Row). IsPriorityBound rows c.self.inside.greatest) (sym c.leave_rows.ensures) (greatest-map left (λ row. refl) was c.self.inside.greatest c.self.invariant.greatest);
       text = same-room (kept_text was) (kept_text c.leave_rows.new.self.items) c.self.inside.room (ap kept_text c.leave_rows.ensures ∙ text-map left (λ row. refl) was) c.self.invariant.text;
       members = subst (λ (rows : List Row). AreSpanned rows c.self.inside.spans) (sym c.leave_rows.ensures) (spanned-left c.args.home was c.self.inside.spans c.self.invariant.members);
+      used = subst (λ (rows : List Row). AreUsed rows c.self.inside.usage) (sym c.leave_rows.ensures) (used-homeless c.args.home was c.self.inside.usage c.self.invariant.used);
     }

@@ -5,6 +5,7 @@ use Rattle.drmaa_types.specs.declared.identifiers.JobId.{JobId}
 use Rattle.drmaa_model.specs.Fit.{IsRising, number_of}
 use Rattle.drmaa_model.specs.Rows.{row_of, with_course}
 use Rattle.drmaa_model.specs.Submitting.{kept_text}
+use Rattle.plan_book.specs.Usage.{AreUsed}
 use Rattle.plan_book.specs.declared.sums.Sums.{Sums}
 use Rattle.plan_book.specs.Open.{IsPriorityBound}
 use Rattle.plan_book.specs.Places.{IsAt}
@@ -16,6 +17,7 @@ use Rattle.plan_book.proofs.Searched.{find-at, set-at, map-absent}
 use Rattle.plan_book.proofs.SpanLaws.{spanned-course}
 use Rattle.plan_book.proofs.SumLaws.{sums-few, sums-parts, sums-change}
 use Rattle.plan_book.proofs.TextLaws.{same-room, text-course}
+use Rattle.plan_book.proofs.UsageLaws.{used-course}
 use Rattle.plan_book.proofs.summed_rows.Rows.put_course.Goals as goal
 
 ordered : (v w : Vec Row) → v ≡ w → IsRising number_of w.items → IsRising number_of v.items
@@ -36,11 +38,10 @@ going_on-self-inside-requires-clause-few c =
 pub going_on-self-inside-requires-clause-parts : goal.going_on-self-inside-requires-clause-parts
 going_on-self-inside-requires-clause-parts c =
     let xs = c.self.inside.list.items in
-    let row = get_or c.rows-in-Ok.result.now c.in-Ok.place c.index-rows-place.result in
-    let own : row ≡ get_or c.rows-in-Ok.result.now c.in-Ok.place row = ap (λ (r : Row). get_or c.rows-in-Ok.result.now c.in-Ok.place r) c.index-rows-place.is in
+    let row = c.index-rows-place.result in
     let rising = ordered c.self.inside.list c.args.self.now c.self.view_is c.requires in
     let at = standing c.args.job c.in-Ok.place c.rows.result.now xs c.rows.ensures (c.in-Ok.ensures {u = tt}).found in
-    sums-parts c.args.job c.args.course.now xs row c.self.inside.sums rising (found c.args.job c.in-Ok.place row c.rows-in-Ok.result.now xs c.rows-in-Ok.ensures own rising at) c.self.invariant.totals
+    sums-parts c.args.job c.args.course.now xs row c.self.inside.sums rising (found c.args.job c.in-Ok.place row c.rows-in-Ok.result.now xs c.rows-in-Ok.ensures c.index-rows-place.is rising at) c.self.invariant.totals
 
 pub settled_from-self-inside-requires : goal.settled_from-self-inside-requires
 settled_from-self-inside-requires c =
@@ -52,14 +53,13 @@ settled_from-self-inside-requires c =
 pub invariant_of-self : goal.invariant_of-self
 invariant_of-self c =
     let xs = c.self.inside.list.items in
-    let row = get_or c.rows-in-Ok.result.now c.in-Ok.place c.index-rows-place.result in
-    let own : row ≡ get_or c.rows-in-Ok.result.now c.in-Ok.place row = ap (λ (r : Row). get_or c.rows-in-Ok.result.now c.in-Ok.place r) c.index-rows-place.is in
+    let row = c.index-rows-place.result in
     let course = c.args.course.now in
     let new = c.put_course.new.self.items in
     let give : Row → Row = λ (r : Row). record r { course = course } in
     let rising = ordered c.self.inside.list c.args.self.now c.self.view_is c.requires in
     let at = standing c.args.job c.in-Ok.place c.rows.result.now xs c.rows.ensures (c.in-Ok.ensures {u = tt}).found in
-    let there = found c.args.job c.in-Ok.place row c.rows-in-Ok.result.now xs c.rows-in-Ok.ensures own rising at in
+    let there = found c.args.job c.in-Ok.place row c.rows-in-Ok.result.now xs c.rows-in-Ok.ensures c.index-rows-place.is rising at in
     let is : new ≡ map (with_course c.args.job course) xs = c.put_course.ensures row ∙ set-at number_of c.args.job.0 give xs c.in-Ok.place row rising at in
     record {
       totals = subst (λ (rows : List Row). AreSums rows c.going_on-self-inside.result) (sym is)
@@ -67,6 +67,7 @@ invariant_of-self c =
           (sums-change c.args.job course xs row c.self.inside.sums rising there c.self.invariant.totals c.going_on-self-inside.ensures.small));
       settled = subst (AreSettled c.settled_from-self-inside.result) c.rows-in-Ok-2.ensures c.settled_from-self-inside.ensures.settled;
       members = subst (λ (rows : List Row). AreSpanned rows c.self.inside.spans) (sym is) (spanned-course c.args.job course xs c.self.inside.spans c.self.invariant.members);
+      used = subst (λ (rows : List Row). AreUsed rows c.exchange.new.self) (sym is) (used-course c.args.job course xs row c.self.inside.usage c.exchange.new.self rising there c.exchange.ensures c.self.invariant.used);
       greatest = subst (λ (rows : List Row). IsPriorityBound rows c.self.inside.greatest) (sym is) (greatest-course c.args.job course xs c.self.inside.greatest c.self.invariant.greatest);
       text = same-room (kept_text xs) (kept_text new) c.self.inside.room (ap kept_text is ∙ text-course c.args.job course xs) c.self.invariant.text;
     }

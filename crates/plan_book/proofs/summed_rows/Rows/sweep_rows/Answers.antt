@@ -2,33 +2,32 @@ use Rattle.std.proofs.Common.{◌≡◌, ◌≤◌, ◌<◌, ◌-◌, ◌++◌, 
 use Rattle.std.specs.Global.{Vec}
 use Rattle.std.specs.List.{AllByRecursion, flat_map}
 use Rattle.std.proofs.lemmas.List.{length-map}
-use Rattle.std.proofs.lemmas.List.Edits.{split_between}
 use Rattle.drmaa_types.specs.declared.changes.Change.{Change}
 use Rattle.drmaa_types.specs.declared.moments.End.{End}
+use Rattle.drmaa_model.specs.Fit.{IsSound}
 use Rattle.drmaa_model.specs.declared.courses.Order.{Order}
 use Rattle.drmaa_model.specs.declared.reservations.Accepted.{Accepted}
 use Rattle.drmaa_model.specs.declared.rows.Row.{Row}
 use Rattle.drmaa_model.specs.RowLaws.{all-implied}
 use Rattle.drmaa_model.specs.Submitting.{kept_text}
 use Rattle.drmaa_model.specs.TimeLaws.{timed}
+use Rattle.plan_book.specs.Usage.{AreUsed}
 use Rattle.plan_book.specs.declared.sums.Sums.{Sums}
 use Rattle.plan_book.specs.Open.{IsPriorityBound}
 use Rattle.plan_book.specs.Lapses.{ends, kills_then}
 use Rattle.plan_book.specs.Quiet.{block_of, AreCovered, IsAlarmed, IsOutside, IsSpared}
 use Rattle.plan_book.specs.Settled.{AreSettled}
 use Rattle.plan_book.specs.Spans.{AreSpanned}
-use Rattle.plan_book.specs.Sums.{AreSums, AreAmong, AreFew, with_others, without_others}
+use Rattle.plan_book.specs.Sums.{AreSums, AreFew, with_others}
 use Rattle.plan_book.proofs.BlockLaws.{Left, Outside, spared-front, spared-back, alarmed-part, ends-part, kills-part, timed-part}
 use Rattle.plan_book.proofs.OpenLaws.{all-take, all-drop, settled-timed, greatest-timed}
-use Rattle.plan_book.proofs.PartLaws.{part-among, part-exchanged, few-without}
+use Rattle.plan_book.proofs.PartLaws.{among, between, exchanged, few-without, split}
 use Rattle.plan_book.proofs.SpanLaws.{spanned-timed}
 use Rattle.plan_book.proofs.SumLaws.{sums-few}
 use Rattle.plan_book.proofs.TextLaws.{same-room, text-timed}
 use Rattle.plan_book.proofs.summed_rows.Rows.sweep_rows.Goals as goal
+use Rattle.plan_book.proofs.UsageLaws.{used-timed}
 use Rattle.plan_book.proofs.summed_rows.Rows.sweep_rows.Goals.{After-max-until}
-
-abbrev part : ℕ → ℕ → List Row → List Row
-part from until list = take (until - from) (drop from list)
 
 -- what is known once the places are
 record Known (m : ℕ) (es : List End) (rs : List Accepted) (xs : List Row) (from until : ℕ) : Type 0 where
@@ -67,23 +66,6 @@ known c =
       covered = covered;
     }
 
-module _ (xs : List Row) (from until : ℕ) (order : from ≤ until) where
-  split : xs ≡ take from xs ++ (part from until xs ++ drop until xs)
-  split = split_between xs from until order
-
-  module _ (sums of_part : Sums) (are : AreSums xs sums) (list : List Row) (same : list ≡ xs) (own : AreSums (part from until list) of_part) where
-    whole : AreSums (take from xs ++ (part from until xs ++ drop until xs)) sums
-    whole = subst (λ (rows : List Row). AreSums rows sums) split are
-
-    inner : AreSums (part from until xs) of_part
-    inner = subst (λ (rows : List Row). AreSums (part from until rows) of_part) same own
-
-    among : AreAmong of_part sums
-    among = part-among (take from xs) (part from until xs) (drop until xs) sums of_part whole inner
-
-    exchanged : (next : List Row) (of_next : Sums) → AreSums next of_next → AreSums (take from xs ++ (next ++ drop until xs)) (with_others (without_others sums of_part) of_next)
-    exchanged = part-exchanged (take from xs) (part from until xs) (drop until xs) sums of_part whole inner
-
 module _ (m : ℕ) (es : List End) (rs : List Accepted) (xs : List Row) (from until : ℕ) (is : Known m es rs xs from until) where
   front : AllByRecursion (Left m rs) (take from xs)
   front = left-of m es rs (take from xs) is.front
@@ -91,14 +73,14 @@ module _ (m : ℕ) (es : List End) (rs : List Accepted) (xs : List Row) (from un
   back : AllByRecursion (Left m rs) (drop until xs)
   back = left-of m es rs (drop until xs) is.back
 
-  ends-all : (entry : ℕ) → flat_map (ends entry m rs) (part from until xs) ≡ flat_map (ends entry m rs) xs
-  ends-all entry = ends-part m rs xs (take from xs) (part from until xs) (drop until xs) (split xs from until is.order) front back entry
+  ends-all : (entry : ℕ) → flat_map (ends entry m rs) (between from until xs) ≡ flat_map (ends entry m rs) xs
+  ends-all entry = ends-part m rs xs (take from xs) (between from until xs) (drop until xs) (split xs from until is.order) front back entry
 
-  kills-all : flat_map (kills_then m rs) (part from until xs) ≡ flat_map (kills_then m rs) xs
-  kills-all = kills-part m rs xs (take from xs) (part from until xs) (drop until xs) (split xs from until is.order) front back
+  kills-all : flat_map (kills_then m rs) (between from until xs) ≡ flat_map (kills_then m rs) xs
+  kills-all = kills-part m rs xs (take from xs) (between from until xs) (drop until xs) (split xs from until is.order) front back
 
-  timed-all : take from xs ++ (map (timed m rs) (part from until xs) ++ drop until xs) ≡ map (timed m rs) xs
-  timed-all = timed-part m rs xs (take from xs) (part from until xs) (drop until xs) (split xs from until is.order) front back
+  timed-all : take from xs ++ (map (timed m rs) (between from until xs) ++ drop until xs) ≡ map (timed m rs) xs
+  timed-all = timed-part m rs xs (take from xs) (between from until xs) (drop until xs) (split xs from until is.order) front back
 
 pub sweep_rows-after-requires-clause-within : goal.sweep_rows-after-requires-clause-within
 sweep_rows-after-requires-clause-within c = (known (goal.at.sweep_rows-after-requires-clause-within c).After-max-until).within
@@ -154,8 +136,8 @@ with_others-self-inside-requires-clause-few_others c =
     let from = c.max-from.result in
     let until = c.max-until.result in
     let f = timed c.args.moment c.args.rs.now.items in
-    sums-few (map f (part from until v.items)) c.sweep_rows-after.result
-    (omega (arith, length-map (part from until v.items) f, length-take (until - from) (drop from v.items), is.within, v.ok.0, v.ok.1, v.small)) c.sweep_rows-after.ensures.sums
+    sums-few (map f (between from until v.items)) c.sweep_rows-after.result
+    (omega (arith, length-map (between from until v.items) f, length-take (until - from) (drop from v.items), is.within, v.ok.0, v.ok.1, v.small)) c.sweep_rows-after.ensures.sums
 
 pub settled_from-self-inside-requires : goal.settled_from-self-inside-requires
 settled_from-self-inside-requires c =
@@ -177,7 +159,7 @@ invariant_of-self c =
     let rs = c.args.rs.now.items in
     let swept = c.sweep_rows-after in
     let new = swept.new.self.items in
-    let next = map (timed m rs) (part from until xs) in
+    let next = map (timed m rs) (between from until xs) in
     let all : new ≡ map (timed m rs) xs = swept.ensures.items ∙ timed-all m c.args.alarm.now.ends.items rs xs from until is in
     record {
       totals = subst (λ (rows : List Row). AreSums rows c.with_others-self-inside.result) (sym swept.ensures.items)
@@ -187,6 +169,7 @@ invariant_of-self c =
       greatest = subst (λ (rows : List Row). IsPriorityBound rows c.self.inside.greatest) (sym all) (greatest-timed m rs xs c.self.inside.greatest c.self.invariant.greatest);
       text = same-room (kept_text xs) (kept_text new) c.self.inside.room (ap kept_text all ∙ text-timed m rs xs) c.self.invariant.text;
       members = subst (λ (rows : List Row). AreSpanned rows c.self.inside.spans) (sym all) (spanned-timed m rs xs c.self.inside.spans c.self.invariant.members);
+      used = subst (λ (rows : List Row). AreUsed rows c.self.inside.usage) (sym all) (used-timed m rs xs c.self.inside.usage (subst (λ (v : Vec Row). AllByRecursion (λ (row : Row). IsSound row.wants row.course) v.items) (sym c.self.view_is) c.requires.sound) c.self.invariant.used);
     }
 
 pub returns-clause-items : goal.returns-clause-items
@@ -256,5 +239,5 @@ returns-clause-alarmed c =
     let new = swept.new.alarm.ends.items in
     let P : Row → Type 0 = λ row. block_of row.job.0 < length es in
     subst (AllByRecursion (IsAlarmed new rs)) (sym swept.ensures.items)
-    (alarmed-part m es new rs (take from xs) (map (timed m rs) (part from until xs)) (drop until xs) swept.ensures.kept
+    (alarmed-part m es new rs (take from xs) (map (timed m rs) (between from until xs)) (drop until xs) swept.ensures.kept
     (all-take P xs from is.covered) is.front (all-drop P xs until is.covered) is.back swept.ensures.alarmed)

@@ -1,7 +1,7 @@
 use Rattle.std.proofs.Common.{◌≡◌, drop, find}
 use Rattle.plan_book.specs.Book.{plan_of}
 use Rattle.scheduler_core.specs.Signals.{is_killed}
-use Rattle.scheduler_core.proofs.signals.first_kill.Given as goal
+use Rattle.scheduler_core.proofs.signals.kill_due.Given as goal
 
 -- what is left to look at decides
 abbrev pub invariant-loop-row : goal.invariant-loop-row
