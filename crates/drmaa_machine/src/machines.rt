@@ -19,6 +19,7 @@ ghost use Rattle.drmaa_model.specs.Steps.{answer, IsStep};
 ghost use Rattle.drmaa_model.specs.Time.{advance};
 ghost use Rattle.drmaa_model.specs.WaitLaws.{HandsOut, SendsOut};
 ghost use Rattle.drmaa_model.specs.World.{counted};
+ghost use Rattle.plan_book.specs.Blocks.{rows_in};
 ghost use Rattle.session_table.specs.Sessions.{name_of};
 ghost use Rattle.drmaa_machine.specs.Applying.{served, IsTooLarge, GoesByEdges, IsOver, IsRefusedFor, is_submission, is_foreseen, is_frugal, is_run_report};
 ghost use Rattle.drmaa_machine.specs.Looks.{IsAnswer};
@@ -235,11 +236,11 @@ impl Machine {
         self.store.core.moment()
     }
 
-    /// The kept jobs as they are now, in order of number. It takes no memory and makes no entry.
-    pub fn rows(&self) -> &[Row]
-        ensures { result.now ≡ (now_of self.now.ledger).plan.rows }
+    /// The kept jobs as they are now, in order of number, in blocks. It takes no memory and makes no entry.
+    pub fn blocks(&self) -> &[Vec<Row>]
+        ensures { rows_in result.now ≡ (now_of self.now.ledger).plan.rows }
     {
-        self.store.core.rows()
+        self.store.core.blocks()
     }
 
     /// The accepted reservations as they are now, in order of number. It takes no memory and makes no entry.

@@ -1,9 +1,9 @@
 -- The alarm, block by block.
-use Rattle.std.proofs.Common.{◌≡◌, ⊎_elim, ℕ, ◌+◌, ◌-◌, ◌<◌, ◌≤◌, ◌^◌, Bool, true, false, cond, not, ◌&&◌, max, filter, zero, suc, List, [], ◌∷◌, ◌++◌, map, take, drop, set, get_or, length, refl, sym, ◌∙◌, ap, subst, arith, length-set, get_or-set_other, get_or-set_same, length-append}
+use Rattle.std.proofs.Common.{◌≡◌, ⊎_elim, ℕ, ◌<◌, ◌≤◌, Bool, true, false, cond, not, ◌&&◌, max, filter, List, [], ◌∷◌, ◌++◌, map, set, get_or, length, refl, sym, ◌∙◌, ap, subst, arith, length-set, get_or-set_other, get_or-set_same}
 use Rattle.std.specs.List.{AllByRecursion, list_all, flat_map}
-use Rattle.std.proofs.lemmas.Bool.{cases_eq, cases_lt, and_parts}
+use Rattle.std.proofs.lemmas.Bool.{cases_eq, and_parts}
 use Rattle.std.proofs.lemmas.Grind.{flat_map-append}
-use Rattle.std.proofs.lemmas.List.{map-append, append-nil, drop-drop}
+use Rattle.std.proofs.lemmas.List.{map-append, append-nil}
 use Rattle.drmaa_types.specs.declared.moments.End.{End}
 use Rattle.drmaa_types.specs.declared.moments.End.TheVariants.{Never}
 use Rattle.drmaa_model.specs.declared.reservations.Accepted.{Accepted}
@@ -20,9 +20,8 @@ use Rattle.plan_book.specs.Book.{course_then}
 use Rattle.plan_book.specs.Lapses.{ends, kills, kills_then}
 use Rattle.plan_book.specs.Open.{is_over}
 use Rattle.plan_book.specs.Quiet.{block_of, end_of, is_left, IsLeftUntil, LastsUntil, IsOutside, IsAlarmed, IsSpared, IsQuiet, AreCovered}
-use Rattle.plan_book.specs.Settled.{is_settled, AreSettled}
+use Rattle.plan_book.specs.Settled.{is_settled}
 use Rattle.plan_book.proofs.MeantLaws.{flat-none, map-stays}
-use Rattle.plan_book.proofs.OpenLaws.{all-take, all-drop}
 use Rattle.plan_book.proofs.QuietLaws.{not-true, lapsed-same, called-same, left-first, lasting-first, lesser-first, lesser-second, lesser-both, quiet, gone-none, filter-each, all-last}
 use Rattle.plan_book.proofs.SettledLaws.{left-settled, over-left}
 
@@ -99,33 +98,7 @@ lasting-quiet old new end p are lasts soon quiet = record {
 
 -- ---- a block more
 
-more-end : (ends : List End) (k : ℕ) → get_or (ends ++ Never ∷ []) k Never ≡ get_or ends k Never
-more-end [] zero = refl
-more-end [] (suc k) = refl
-more-end (e ∷ ends) zero = refl
-more-end (e ∷ ends) (suc k) = more-end ends k
-
-pub more-quiet : (old new : Alarm) (p : Plan) → length old.ends.items < 2 ^ 56 → new.ends.items ≡ old.ends.items ++ Never ∷ [] → new.lasting ≡ old.lasting → new.soonest ≡ old.soonest → IsQuiet old p → IsQuiet new p
-more-quiet old new p room are lasts soon quiet =
-    let long : length new.ends.items ≡ length old.ends.items + 1 = ap (λ (es : List End). length es) are ∙ length-append old.ends.items (Never ∷ []) in
-    let same : (k : ℕ) → get_or new.ends.items k Never ≡ get_or old.ends.items k Never = λ k. ap (λ (es : List End). get_or es k Never) are ∙ more-end old.ends.items k in
-    record {
-      rows = all-implied (IsAlarmed old.ends.items p.reservations) (IsAlarmed new.ends.items p.reservations)
-          (λ (row : Row) (is : IsAlarmed old.ends.items p.reservations row). record {
-            covered = omega (arith, is.covered, long);
-            left = subst (λ (e : End). IsLeftUntil e p.reservations row) (sym (same (block_of row.job.0))) is.left;
-          }) p.rows quiet.rows;
-      reservations = subst (λ (e : End). AllByRecursion (LastsUntil e) p.reservations) (sym lasts) quiet.reservations;
-      soonest = λ m ahead.
-          (let was = quiet.soonest m (ap (is_past m) (sym soon) ∙ ahead) in
-          record { lasting = ap (is_past m) lasts ∙ was.lasting; ends = λ k. ap (is_past m) (same k) ∙ was.ends k });
-      few = omega (arith, long, room);
-    }
-
 -- ---- jobs that are spared
-
-pub spared-alarmed : (m : ℕ) (ends : List End) (rs : List Accepted) (row : Row) → is_past m (end_of ends row.job.0) ≡ false → IsAlarmed ends rs row → IsSpared m ends rs row
-spared-alarmed m ends rs row ahead is = record { now = is.left m ahead; left = is.left }
 
 pub covered-quiet : (alarm : Alarm) (p : Plan) → IsQuiet alarm p → AreCovered alarm.ends.items p.rows
 covered-quiet alarm p quiet = all-implied (IsAlarmed alarm.ends.items p.reservations) (λ (row : Row). block_of row.job.0 < length alarm.ends.items) (λ row own. own.covered) p.rows quiet.rows
@@ -224,35 +197,8 @@ over-course at p row over =
 
 -- ---- the jobs that it leaves out
 
-all-behind : (P : Row → Type 0) (rows : List Row) (n m : ℕ) → n ≤ m → AllByRecursion P (drop n rows) → AllByRecursion P (drop m rows)
-all-behind P rows n m less all =
-    subst (AllByRecursion P) (drop-drop (m - n) n rows ∙ ap (λ (k : ℕ). drop k rows) (omega (arith, less))) (all-drop P (drop n rows) (m - n) all)
-
-settled-spared : (m : ℕ) (es : List End) (rs : List Accepted) (row : Row) → is_settled row ≡ true → IsSpared m es rs row
+pub settled-spared : (m : ℕ) (es : List End) (rs : List Accepted) (row : Row) → is_settled row ≡ true → IsSpared m es rs row
 settled-spared m es rs row settled = record { now = left-settled Never rs row settled m refl; left = left-settled (end_of es row.job.0) rs row settled }
-
-abbrev pub Outside : Places → Row → Type 0
-Outside blocks row = IsOutside blocks (block_of row.job.0)
-
-module _ (m : ℕ) (es : List End) (rs : List Accepted) (blocks : Places) (rows : List Row) (outside : AllByRecursion (λ (row : Row). IsOutside blocks (block_of row.job.0) → IsSpared m es rs row) rows) where
-  spared-of : (some : List Row) → AllByRecursion (λ (row : Row). Outside blocks row → IsSpared m es rs row) some → AllByRecursion (Outside blocks) some → AllByRecursion (IsSpared m es rs) some
-  spared-of [] says are = tt
-  spared-of (row ∷ some) says are = (says.0 are.0, spared-of some says.1 are.1)
-
-  module _ (settled first last from until : ℕ) (ended : AreSettled settled rows) (before : AllByRecursion (Outside blocks) (take first rows)) (behind : AllByRecursion (Outside blocks) (drop last rows))
-      (from_is : from ≡ max first settled) (until_is : until ≡ max last from) where
-    pub spared-front : AllByRecursion (IsSpared m es rs) (take from rows)
-    spared-front = ⊎_elim
-        (λ (less : first < settled). subst (λ (n : ℕ). AllByRecursion (IsSpared m es rs) (take n rows)) (omega (arith, from_is, less))
-        (all-implied (λ (row : Row). is_settled row ≡ true) (IsSpared m es rs) (settled-spared m es rs) (take settled rows) ended.settled))
-        (λ (more : settled ≤ first). subst (λ (n : ℕ). AllByRecursion (IsSpared m es rs) (take n rows)) (omega (arith, from_is, more))
-        (spared-of (take first rows) (all-take (λ (row : Row). Outside blocks row → IsSpared m es rs row) rows first outside) before))
-        (cases_lt first settled)
-
-    pub spared-back : AllByRecursion (IsSpared m es rs) (drop until rows)
-    spared-back =
-        all-behind (IsSpared m es rs) rows last until (omega (arith, until_is))
-        (spared-of (drop last rows) (all-drop (λ (row : Row). Outside blocks row → IsSpared m es rs row) rows last outside) behind)
 
 -- they stay alarmed
 pub alarmed-part : (m : ℕ) (old new : List End) (rs : List Accepted) (before part behind : List Row) → ((row : Row) → IsAlarmed old rs row → IsAlarmed new rs row)

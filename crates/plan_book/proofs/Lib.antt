@@ -3,7 +3,6 @@ pub mod ArrivalLaws
 pub mod BlockLaws
 pub mod FirstOrder
 pub mod Flat
-pub mod GoneLaws
 pub mod MeantLaws
 pub mod MoveLaws
 pub mod OpenLaws
@@ -11,10 +10,13 @@ pub mod PartLaws
 pub mod LapseLaws
 pub mod QuietLaws
 pub mod RoomLaws
+pub mod RowsKept
 pub mod Searched
 pub mod SettledLaws
 pub mod SpanLaws
 pub mod SumLaws
 pub mod SweepLaws
+pub mod SweptBlocks
 pub mod TextLaws
 pub mod UsageLaws
+pub mod BlockRows

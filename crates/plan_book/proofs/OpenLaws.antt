@@ -1,11 +1,9 @@
 -- The jobs at the front that are settled, and the greatest priority, as rows come in, go on and leave.
-use Rattle.std.proofs.Common.{◌≡◌, ℕ, zero, suc, ◌+◌, ◌-◌, ◌<◌, ◌≤◌, Bool, true, false, cond, List, [], ◌∷◌, ◌++◌, map, filter, take, drop, length, get_or, set, refl, sym, ◌∙◌, ap, subst, arith, length-append}
+use Rattle.std.proofs.Common.{◌≡◌, ℕ, Bool, true, false, cond, List, [], ◌∷◌, ◌++◌, map, filter, refl, sym, ◌∙◌, ap, subst, arith}
 use Rattle.std.specs.Prelude.{int_lt, ℤ, pos, negsuc}
 use Rattle.std.specs.Int.{int_max}
-use Rattle.std.specs.List.{AllByRecursion, remove}
-use Rattle.std.proofs.lemmas.List.Edits.{length-remove}
+use Rattle.std.specs.List.{remove}
 use Rattle.std.proofs.lemmas.Bool.{ltb-true, ltb-false, le-ltb}
-use Rattle.std.proofs.lemmas.List.{take_more, take-map, take-append-drop, take-append-le, take-set-le, length-map, length-set}
 use Rattle.drmaa_types.specs.declared.identifiers.JobId.{JobId}
 use Rattle.drmaa_types.specs.declared.states.Control.{Control}
 use Rattle.drmaa_model.specs.declared.calls.Target.{Target}
@@ -20,10 +18,10 @@ use Rattle.drmaa_model.specs.RowLaws.{all-filter, all-implied, all-map, all-push
 use Rattle.drmaa_model.specs.Rows.{is_of, with_course}
 use Rattle.drmaa_model.specs.Time.{lapsed}
 use Rattle.drmaa_model.specs.TimeLaws.{timed, lapsed-wants, called-wants}
-use Rattle.plan_book.specs.Open.{is_over, AreOpen, IsPriorityBound}
-use Rattle.plan_book.specs.Settled.{is_settled, AreSettled}
+use Rattle.plan_book.specs.Open.{IsPriorityBound}
+use Rattle.plan_book.specs.Settled.{is_settled}
 use Rattle.plan_book.proofs.Searched.{all-removed}
-use Rattle.plan_book.proofs.SettledLaws.{settled-over, settled-parts, timed-stays}
+use Rattle.plan_book.proofs.SettledLaws.{settled-parts, timed-stays}
 use Rattle.plan_book.proofs.SweepLaws.{lives}
 
 abbrev Settled : Row → Type 0
@@ -31,103 +29,17 @@ Settled row = is_settled row ≡ true
 
 -- ---- the jobs at the front
 
-pub settled-none : (rows : List Row) → AreSettled 0 rows
-settled-none rows = record { within = omega arith; settled = tt }
-
--- one more is settled
-pub settled-more : (rows : List Row) (n : ℕ) (row : Row) → n < length rows → row ≡ get_or rows n row → is_settled row ≡ true → AreSettled n rows → AreSettled (n + 1) rows
-settled-more rows n row within is settled are = record {
-  within = omega (arith, within);
-  settled = subst (AllByRecursion Settled) (sym (take_more rows n row within ∙ ap (λ (r : Row). take n rows ++ r ∷ []) (sym is))) (all-push Settled (take n rows) row are.settled settled);
-}
-
--- what is said of the first n elements is said of fewer
-pub all-fewer : (P : Row → Type 0) (rows : List Row) (n m : ℕ) → m ≤ n → AllByRecursion P (take n rows) → AllByRecursion P (take m rows)
-all-fewer P rows n zero less all = tt
-all-fewer P rows zero (suc m) less all = absurd (omega (arith, less))
-all-fewer P [] (suc n) (suc m) less all = tt
-all-fewer P (row ∷ rows) (suc n) (suc m) less all = (all.0, all-fewer P rows n m (omega (arith, less)) all.1)
-
-pub all-take : (P : Row → Type 0) (rows : List Row) (n : ℕ) → AllByRecursion P rows → AllByRecursion P (take n rows)
-all-take P rows zero all = tt
-all-take P [] (suc n) all = tt
-all-take P (row ∷ rows) (suc n) all = (all.0, all-take P rows n all.1)
-
-pub all-drop : (P : Row → Type 0) (rows : List Row) (n : ℕ) → AllByRecursion P rows → AllByRecursion P (drop n rows)
-all-drop P rows zero all = all
-all-drop P [] (suc n) all = tt
-all-drop P (row ∷ rows) (suc n) all = all-drop P rows n all.1
-
-pub settled-fewer : (rows : List Row) (n m : ℕ) → m ≤ n → AreSettled n rows → AreSettled m rows
-settled-fewer rows n m less are = record { within = omega (arith, less, are.within); settled = all-fewer Settled rows n m less are.settled }
-
--- a row behind them is written
-pub settled-set : (rows : List Row) (n place : ℕ) (row : Row) → n ≤ place → AreSettled n rows → AreSettled n (set rows place row)
-settled-set rows n place row behind are = record {
-  within = omega (arith, are.within, length-set rows place row);
-  settled = subst (AllByRecursion Settled) (sym (take-set-le n rows place row behind)) are.settled;
-}
-
-pub settled-append : (rows more : List Row) (n : ℕ) → AreSettled n rows → AreSettled n (rows ++ more)
-settled-append rows more n are = record {
-  within = omega (arith, are.within, length-append rows more);
-  settled = subst (AllByRecursion Settled) (sym (take-append-le n rows more are.within)) are.settled;
-}
-
--- jobs that are settled stay so
-pub settled-map : (f : Row → Row) → ((row : Row) → is_settled row ≡ true → is_settled (f row) ≡ true) → (rows : List Row) (n : ℕ) → AreSettled n rows → AreSettled n (map f rows)
-settled-map f stays rows n are = record {
-  within = omega (arith, are.within, length-map rows f);
-  settled = subst (AllByRecursion Settled) (sym (take-map f n rows)) (all-map Settled f (take n rows) (all-implied Settled (λ (row : Row). Settled (f row)) stays (take n rows) are.settled));
-}
-
--- one of them leaves, or one behind them
-removed-low : (rows : List Row) (place n : ℕ) → place < length rows → place ≤ n → AllByRecursion Settled (take (suc n) rows) → AllByRecursion Settled (take n (remove rows place))
-removed-low [] place n within low settled = absurd (omega (arith, within))
-removed-low (row ∷ rows) zero n within low settled = settled.1
-removed-low (row ∷ rows) (suc place) zero within low settled = tt
-removed-low (row ∷ rows) (suc place) (suc n) within low settled = (settled.0, removed-low rows place n (omega (arith, within)) (omega (arith, low)) settled.1)
-
-removed-high : (rows : List Row) (place n : ℕ) → place < length rows → n ≤ place → AllByRecursion Settled (take n rows) → AllByRecursion Settled (take n (remove rows place))
-removed-high [] place n within high settled = absurd (omega (arith, within))
-removed-high (row ∷ rows) place zero within high settled = tt
-removed-high (row ∷ rows) zero (suc n) within high settled = absurd (omega (arith, high))
-removed-high (row ∷ rows) (suc place) (suc n) within high settled = (settled.0, removed-high rows place n (omega (arith, within)) (omega (arith, high)) settled.1)
-
-pub settled-low : (rows : List Row) (place n : ℕ) → place < length rows → place < n → AreSettled n rows → AreSettled (n - 1) (remove rows place)
-settled-low rows place zero within low are = absurd (omega (arith, low))
-settled-low rows place (suc n) within low are =
-    let one : suc n - 1 ≡ n = omega arith in
-    subst (λ (m : ℕ). AreSettled m (remove rows place)) (sym one) (record {
-      within = omega (arith, are.within, length-remove rows place within);
-      settled = removed-low rows place n within (omega (arith, low)) are.settled;
-    })
-
-pub settled-high : (rows : List Row) (place n : ℕ) → place < length rows → n ≤ place → AreSettled n rows → AreSettled n (remove rows place)
-settled-high rows place n within high are = record {
-  within = omega (arith, within, high, length-remove rows place within);
-  settled = removed-high rows place n within high are.settled;
-}
-
--- those behind them are the open ones
-pub settled-open : (rows rest : List Row) (n : ℕ) → rest ≡ drop n rows → AreSettled n rows → AreOpen rows rest
-settled-open rows rest n is are = record {
-  front = take n rows;
-  over = all-implied Settled (λ (row : Row). is_over row ≡ true) settled-over (take n rows) are.settled;
-  parts = sym (take-append-drop n rows) ∙ ap (λ (behind : List Row). take n rows ++ behind) (sym is);
-}
-
 -- ---- settled jobs go on
 
 -- time leaves them as they are
-pub settled-timed : (moment : ℕ) (rs : List Accepted) (rows : List Row) (n : ℕ) → AreSettled n rows → AreSettled n (map (timed moment rs) rows)
-settled-timed moment rs rows n are = settled-map (timed moment rs) (λ row settled. subst Settled (sym (timed-stays moment rs row settled)) settled) rows n are
+pub settled-timed-row : (moment : ℕ) (rs : List Accepted) (row : Row) → is_settled row ≡ true → is_settled (timed moment rs row) ≡ true
+settled-timed-row moment rs row settled = subst Settled (sym (timed-stays moment rs row settled)) settled
 
 -- no call acts on them
-pub settled-step : (moment : ℕ) (t : Target) (what : Control) (rows : List Row) (n : ℕ) → AreSettled n rows → AreSettled n (map (control_step moment t what) rows)
-settled-step moment t what rows n are =
-    settled-map (control_step moment t what) (λ row settled. control-cases (λ (p q : Row). is_settled q ≡ true) moment t what row settled
-    (λ state e. (let parts = settled-parts row settled in absurd (lives what row.course.state state e parts.waits parts.starts)))) rows n are
+pub settled-step-row : (moment : ℕ) (t : Target) (what : Control) (row : Row) → is_settled row ≡ true → is_settled (control_step moment t what row) ≡ true
+settled-step-row moment t what row settled =
+    control-cases (λ (p q : Row). is_settled q ≡ true) moment t what row settled
+    (λ state e. (let parts = settled-parts row settled in absurd (lives what row.course.state state e parts.waits parts.starts)))
 
 -- ---- the greatest priority
 

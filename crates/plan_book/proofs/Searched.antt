@@ -168,14 +168,6 @@ module _ {X : Type 0} (number : X → ℕ) where
       ap (λ ys. x ∷ ys) (set-at n f xs i d rising.1 (at-tail n x xs i at))
       ∙ sym (ap (λ b. cond b (f x) x ∷ map (λ y. cond (eqb (number y) n) (f y) y) xs) (ne_eqb (number x) n (λ e. omega (arith, less, e)))))
 
-  pub map-absent : (n : ℕ) (f : X → X) (xs : List X) → find (λ x. eqb (number x) n) xs ≡ None → map (λ x. cond (eqb (number x) n) (f x) x) xs ≡ xs
-  map-absent n f [] none = refl
-  map-absent n f (x ∷ xs) none =
-      (elim (eqb (number x) n) as (λ b. cond b (Some x) (find (λ y. eqb (number y) n) xs) ≡ None → cond b (f x) x ∷ map (λ y. cond (eqb (number y) n) (f y) y) xs ≡ x ∷ xs) [
-        | true ↦ λ e. absurd (cc)
-        | false ↦ λ e. ap (λ ys. x ∷ ys) (map-absent n f xs e)
-      ]) none
-
   -- ---- the others
 
   -- all but the element at the place have other numbers

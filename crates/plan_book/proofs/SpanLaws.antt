@@ -8,7 +8,6 @@ use Rattle.drmaa_types.specs.declared.identifiers.ArrayId.{ArrayId}
 use Rattle.drmaa_types.specs.declared.identifiers.JobId.{JobId}
 use Rattle.drmaa_types.specs.declared.states.Control.{Control}
 use Rattle.drmaa_model.specs.declared.calls.Target.{Target}
-use Rattle.drmaa_model.specs.declared.calls.Target.TheVariants as target
 use Rattle.drmaa_model.specs.declared.courses.Course.{Course}
 use Rattle.drmaa_model.specs.declared.reservations.Accepted.{Accepted}
 use Rattle.drmaa_model.specs.declared.rows.Row.{Row}
@@ -20,13 +19,12 @@ use Rattle.drmaa_model.specs.Fit.{IsRising, number_of}
 use Rattle.drmaa_model.specs.FitLaws.{with_course-wants}
 use Rattle.drmaa_model.specs.Homes.{is_same_home}
 use Rattle.drmaa_model.specs.Load.{is_member}
-use Rattle.drmaa_model.specs.RowLaws.{all-both, all-each, all-filter, all-implied, all-map}
+use Rattle.drmaa_model.specs.RowLaws.{all-each, all-filter, all-implied, all-map}
 use Rattle.drmaa_model.specs.Rows.{is_of, with_course}
 use Rattle.drmaa_model.specs.TimeLaws.{timed, timed-only, timed-wants}
 use Rattle.plan_book.specs.declared.spans.NumberRange.{NumberRange}
 use Rattle.plan_book.specs.declared.spans.Span.{Span}
 use Rattle.plan_book.specs.declared.spans.Spans.{Spans}
-use Rattle.plan_book.specs.Meant.{NoneMeant}
 use Rattle.plan_book.specs.Numbers.{HasNumbersOf}
 use Rattle.plan_book.specs.Places.{IsAt}
 use Rattle.plan_book.specs.Spans.{AreBothSorted, AreSpanned, IsInSpan, IsSpanned, IsWithin, Keeps, span_number, span_of, widened}
@@ -148,7 +146,7 @@ spanned-map f job wants homes rows spans are = record {
       }) rows are.members);
 }
 
-with-job : (job : JobId) (course : Course) (row : Row) → (with_course job course row).job ≡ row.job
+pub with-job : (job : JobId) (course : Course) (row : Row) → (with_course job course row).job ≡ row.job
 with-job job course row = elim (is_of job row) as (λ b. (let r : Row = cond b (record row { course = course }) row in r).job ≡ row.job) [ true ↦ refl | false ↦ refl ]
 
 with-home : (job : JobId) (course : Course) (row : Row) → (with_course job course row).home ≡ row.home
@@ -186,7 +184,7 @@ spanned-removed rows place spans are = record { sorted = are.sorted; members = a
 
 -- ---- no member stands outside
 
-none-at : (array : ArrayId) (spans : Spans) (row : Row) → (IsWithin array.0 row.job.0 spans.arrays → ⊥) → IsSpanned spans row → is_member array row ≡ false
+pub none-at : (array : ArrayId) (spans : Spans) (row : Row) → (IsWithin array.0 row.job.0 spans.arrays → ⊥) → IsSpanned spans row → is_member array row ≡ false
 none-at array spans row outside spanned =
     (elim row.wants.array as (λ (o : Option ArrayId). row.wants.array ≡ o → option_map_or (λ (a : ArrayId). eqb a.0 array.0) o false ≡ false) [
       | None ↦ λ e. refl
@@ -196,19 +194,6 @@ none-at array spans row outside spanned =
             | true ↦ λ is. absurd (outside (subst (λ (n : ℕ). IsWithin n row.job.0 spans.arrays) (eqb-true own.0 array.0 is) (spanned.array own e)))
           ]) refl)
     ]) refl
-
-module _ (array : ArrayId) (spans : Spans) (first last : ℕ) (inside : (job : ℕ) → IsWithin array.0 job spans.arrays → (first ≤ job) × (job ≤ last)) (rows : List Row) (all : AllByRecursion (IsSpanned spans) rows) where
-  pub none-before : AllByRecursion (λ (row : Row). row.job.0 < first) rows → NoneMeant (target.Array array) rows
-  none-before before =
-      all-implied (λ (row : Row). IsSpanned spans row × (row.job.0 < first)) (λ (row : Row). is_member array row ≡ false)
-      (λ row both. none-at array spans row (λ within. (let bounds = inside row.job.0 within in let low = both.1 in omega (arith, bounds.0, low))) both.0) rows
-      (all-both (IsSpanned spans) (λ (row : Row). row.job.0 < first) rows all before)
-
-  pub none-behind : AllByRecursion (λ (row : Row). last < row.job.0) rows → NoneMeant (target.Array array) rows
-  none-behind behind =
-      all-implied (λ (row : Row). IsSpanned spans row × (last < row.job.0)) (λ (row : Row). is_member array row ≡ false)
-      (λ row both. none-at array spans row (λ within. (let bounds = inside row.job.0 within in let high = both.1 in omega (arith, bounds.1, high))) both.0) rows
-      (all-both (IsSpanned spans) (λ (row : Row). last < row.job.0) rows all behind)
 
 -- ---- between which numbers they stand
 

@@ -1,6 +1,8 @@
 -- What rows come to as rows come in and go on.
-use Rattle.std.proofs.Common.{◌≡◌, ℕ, suc, ◌+◌, ◌*◌, ◌<◌, ◌≤◌, ◌^◌, ◌&&◌, Bool, true, false, cond, List, [], ◌∷◌, ◌++◌, map, length, get_or, sum_by, Some, sym, ◌∙◌, ap, subst, arith}
+use Rattle.std.proofs.Common.{◌≡◌, ℕ, suc, ◌+◌, ◌*◌, ◌<◌, ◌≤◌, ◌^◌, ◌&&◌, Bool, true, false, cond, List, [], ◌∷◌, ◌++◌, map, length, get_or, sum_by, Some, refl, sym, ◌∙◌, ap, subst, arith, length-append}
 use Rattle.std.specs.List.{AllByRecursion, remove}
+use Rattle.std.proofs.lemmas.List.{length-map}
+use Rattle.std.proofs.lemmas.List.Edits.{length-remove}
 use Rattle.std.proofs.lemmas.List.Sums.{sum_by-cons, sum_by-append, sum_by_push, sum_by-remove}
 use Rattle.drmaa_types.specs.States.{is_waiting, is_started}
 use Rattle.drmaa_types.specs.declared.identifiers.JobId.{JobId}
@@ -52,7 +54,7 @@ asks-most : (asks : Bool) → cond {A = ℕ} asks 1 0 ≤ 1
 asks-most true = omega arith
 asks-most false = omega arith
 
-pub sums-few : (rows : List Row) (sums : Sums) → length rows < 2 ^ 63 → AreSums rows sums → AreFew sums
+pub sums-few : (rows : List Row) (sums : Sums) → length rows < 2 ^ 72 → AreSums rows sums → AreFew sums
 sums-few rows sums few are =
     let room = sum-most (λ (row : Row). room_of row.course) 4 rows (all-are (λ row. room_of row.course ≤ 4) (λ row. phase-most (is_waiting row.course.state) row.course.phase) rows) in
     let changes = sum-most (λ (row : Row). owes row.course) 2 rows (all-are (λ row. owes row.course ≤ 2) (λ row. owes-most (is_waiting row.course.state) (is_started row.course.state)) rows) in
@@ -65,7 +67,12 @@ sums-few rows sums few are =
       owed_kills = omega (arith, few, orders, are.owed_kills);
       held = omega (arith, few, slots, are.held);
       reports = omega (arith, few, reports, are.reports);
+      count = omega (arith, few, are.count);
     }
+
+one-each : (rows : List Row) → sum_by (λ (row : Row). 1) rows ≡ length rows
+one-each [] = refl
+one-each (row ∷ rows) = omega (arith, one-each rows, sum_by-cons (λ (r : Row). 1) row rows)
 
 -- ---- rows come in
 
@@ -76,6 +83,7 @@ sums-push rows row sums small are = record {
   owed_kills = ap (λ n. n + owes_kill row.course) are.owed_kills ∙ sym (sum_by_push (λ (r : Row). owes_kill r.course) rows row);
   held = ap (λ n. n + row.course.held) are.held ∙ sym (sum_by_push (λ (r : Row). r.course.held) rows row);
   reports = ap (λ n. n + reports_due row.course.phase) are.reports ∙ sym (sum_by_push (λ (r : Row). reports_due r.course.phase) rows row);
+  count = omega (arith, are.count, length-append rows (row ∷ []));
   small = all-push (λ r. r.course.held < 2 ^ 32) rows row are.small small;
 }
 
@@ -90,6 +98,7 @@ sums-append rows more sums added are others = record {
   owed_kills = omega (arith, are.owed_kills, others.owed_kills, sum_by-append (λ (r : Row). owes_kill r.course) rows more);
   held = omega (arith, are.held, others.held, sum_by-append (λ (r : Row). r.course.held) rows more);
   reports = omega (arith, are.reports, others.reports, sum_by-append (λ (r : Row). reports_due r.course.phase) rows more);
+  count = omega (arith, are.count, others.count, length-append rows more);
   small = all-append (λ r. r.course.held < 2 ^ 32) rows more are.small others.small;
 }
 
@@ -102,6 +111,7 @@ sums-map f same rows sums are = record {
   owed_kills = are.owed_kills ∙ sym (sum-kept (λ (r : Row). owes_kill r.course) f (λ row. ap owes_kill (same row)) rows);
   held = are.held ∙ sym (sum-kept (λ (r : Row). r.course.held) f (λ row. ap (λ (c : Course). c.held) (same row)) rows);
   reports = are.reports ∙ sym (sum-kept (λ (r : Row). reports_due r.course.phase) f (λ row. ap (λ (c : Course). reports_due c.phase) (same row)) rows);
+  count = are.count ∙ sym (length-map rows f);
   small = all-map (λ r. r.course.held < 2 ^ 32) f rows (all-implied (λ (r : Row). r.course.held < 2 ^ 32) (λ (r : Row). (f r).course.held < 2 ^ 32) (λ r less. subst (λ (c : Course). c.held < 2 ^ 32) (sym (same r)) less) rows are.small);
 }
 
@@ -121,6 +131,7 @@ module _ (job : JobId) (course : Course) (rows : List Row) (row : Row) (sums : S
     owed_kills = omega (arith, part owes_kill, are.owed_kills);
     held = omega (arith, part (λ c. c.held), are.held);
     reports = omega (arith, part (λ c. reports_due c.phase), are.reports);
+    count = omega (arith, sum-found (λ (r : Row). 1) job rows row found, one-each rows, are.count);
   }
 
   pub sums-change : course.held < 2 ^ 32 → AreSums (map (with_course job course) rows) (with_job (without_job row.course sums) course)
@@ -130,6 +141,7 @@ module _ (job : JobId) (course : Course) (rows : List Row) (row : Row) (sums : S
     owed_kills = omega (arith, part owes_kill, sum-then owes_kill, are.owed_kills);
     held = omega (arith, part (λ c. c.held), sum-then (λ c. c.held), are.held);
     reports = omega (arith, part (λ c. reports_due c.phase), sum-then (λ c. reports_due c.phase), are.reports);
+    count = omega (arith, sum-found (λ (r : Row). 1) job rows row found, one-each rows, are.count, length-map rows (with_course job course));
     small = all_with_course job course (λ r. r.course.held < 2 ^ 32) rows row rising found are.small small;
   }
 
@@ -146,6 +158,7 @@ module _ (rows : List Row) (place : ℕ) (row : Row) (sums : Sums) (within : pla
     owed_kills = omega (arith, sum-without owes_kill, are.owed_kills);
     held = omega (arith, sum-without (λ c. c.held), are.held);
     reports = omega (arith, sum-without (λ c. reports_due c.phase), are.reports);
+    count = omega (arith, length-remove rows place within, are.count);
   }
 
   without : AreSums (remove rows place) (without_job row.course sums)
@@ -155,6 +168,7 @@ module _ (rows : List Row) (place : ℕ) (row : Row) (sums : Sums) (within : pla
     owed_kills = omega (arith, sum-without owes_kill, are.owed_kills);
     held = omega (arith, sum-without (λ c. c.held), are.held);
     reports = omega (arith, sum-without (λ c. reports_due c.phase), are.reports);
+    count = omega (arith, length-remove rows place within, are.count);
     small = all-removed number_of (λ r. r.course.held < 2 ^ 32) rows place are.small;
   }
 

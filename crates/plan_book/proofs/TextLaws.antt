@@ -1,7 +1,6 @@
 -- The text of the templates of rows as rows go on and leave.
-use Rattle.std.proofs.Common.{◌≡◌, ℕ, ◌+◌, ◌-◌, ◌<◌, ◌≤◌, Bool, true, false, cond, not, List, ◌∷◌, map, filter, drop, length, get_or, Option, Some, refl, sym, ◌∙◌, ap, subst, arith}
+use Rattle.std.proofs.Common.{◌≡◌, ℕ, ◌+◌, ◌<◌, Bool, true, false, cond, not, List, ◌∷◌, map, filter, drop, length, get_or, Option, refl, sym, ◌∙◌, ap, subst, arith}
 use Rattle.std.specs.List.{remove}
-use Rattle.std.proofs.Math.ListN.{drop_of_length-le}
 use Rattle.std.proofs.lemmas.List.Filters.{sum_by-filter_both}
 use Rattle.std.proofs.lemmas.List.{drop_more}
 use Rattle.std.proofs.lemmas.List.Sums.{sum_by-cons, sum_by-remove}
@@ -15,7 +14,7 @@ use Rattle.drmaa_model.specs.declared.rows.Row.{Row}
 use Rattle.drmaa_model.specs.Controlling.{control_step}
 use Rattle.drmaa_model.specs.ControlLaws.{control-cases}
 use Rattle.drmaa_model.specs.Rows.{is_of, with_course}
-use Rattle.drmaa_model.specs.Submitting.{kept_text, most_kept_text}
+use Rattle.drmaa_model.specs.Submitting.{kept_text}
 use Rattle.drmaa_model.specs.TimeLaws.{sum-kept, timed, timed-only}
 use Rattle.plan_book.specs.Texts.{IsRoomBeside}
 
@@ -66,13 +65,3 @@ pub room-removed : (rows left : List Row) (place : ℕ) (row : Row) (room : Opti
 room-removed rows left place row room within is gone beside =
     same-room (kept_text rows) (kept_text left + text_length row.template) room
     (omega (arith, ap kept_text gone, sum_by-remove (λ (r : Row). text_length r.template) rows place row within, ap (λ (r : Row). text_length r.template) is)) beside
-
--- the room after all rows
-pub room-stays : (leaves : Row → Bool) (rows seen : List Row) (i text : ℕ) → seen ≡ rows → length seen ≤ i → text + kept_text (filter leaves seen) ≡ kept_text seen + kept_text (filter leaves (drop i seen))
-    → kept_text seen ≤ most_kept_text → IsRoomBeside (kept_text (filter (λ row. not (leaves row)) rows)) (Some (most_kept_text - text))
-room-stays leaves rows seen i text same all left few =
-    let none : kept_text (filter leaves (drop i seen)) ≡ 0 = ap (λ (rs : List Row). kept_text (filter leaves rs)) (drop_of_length-le seen all) in
-    let both = text-both leaves seen in
-    let is : kept_text (filter (λ row. not (leaves row)) seen) ≡ text = omega arith in
-    subst (λ (rs : List Row). IsRoomBeside (kept_text (filter (λ row. not (leaves row)) rs)) (Some (most_kept_text - text))) same
-    (omega arith, ap (λ (n : ℕ). most_kept_text - n) (sym is))

@@ -1,5 +1,5 @@
 -- How a book is read: the plan that it keeps, and the room that it has.
-use Rattle.std.specs.Prelude.{◌≡◌, ℕ, max, filter, ◌+◌, ◌-◌, ◌<◌, ◌≤◌, ◌&&◌, ◌==◌, not, true, false, Bool, List, ◌++◌, Option, Some, None, length, vec_len, vec_capacity, if◌then◌else◌}
+use Rattle.std.specs.Prelude.{◌≡◌, ℕ, max, filter, ◌+◌, ◌-◌, ◌<◌, ◌≤◌, ◌&&◌, ◌==◌, not, true, false, Bool, List, ◌++◌, Some, length, vec_len, vec_capacity, if◌then◌else◌}
 use Rattle.drmaa_types.specs.Queues.{most_queues}
 use Rattle.drmaa_types.specs.States.{is_state}
 use Rattle.drmaa_types.specs.declared.identifiers.JobId.{JobId}
@@ -51,10 +51,6 @@ course_then at p row = (timed (max p.moment at) (filter (lasts (max p.moment at)
 pub record HasRoom (b : Book) : Type 0 where
   pub changes : vec_len b.changes + owed b.rows.items ≤ vec_capacity b.changes
   pub orders : vec_len b.orders + owed_kills b.rows.items ≤ vec_capacity b.orders
-
--- for how many jobs more there is memory
-abbrev pub spare_rows : Book → ℕ
-spare_rows b = vec_capacity b.rows - vec_len b.rows
 
 -- there is memory for one more reservation
 abbrev pub HasPlace : Book → Type 0
@@ -122,10 +118,6 @@ grows m = (owes m.after + changed m) - owes m.before
 
 abbrev pub more_orders : Move → ℕ
 more_orders m = (owes_kill m.after + added_orders m.orders) - owes_kill m.before
-
-abbrev pub edit_of : Option SignalKind → Edit
-edit_of None = Keep
-edit_of (Some kind) = Add kind
 
 -- Jobs come in, and so many array numbers are used.
 abbrev pub joined : List Row → ℕ → Plan → Plan

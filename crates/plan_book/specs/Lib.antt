@@ -1,9 +1,9 @@
+pub mod BlockWalks
+pub mod Blocks
 pub mod Book
 pub mod Due
 pub mod FactLaws
 pub mod Facts
-pub mod Gone
-pub mod GoneLaws
 pub mod Meant
 pub mod MeetLaws
 pub mod Numbers

@@ -28,7 +28,7 @@ LastsUntil end r = (moment : ℕ) → is_past moment end ≡ false → lasts mom
 -- ---- the alarm, of jobs in blocks of so many numbers
 
 abbrev pub block_of : ℕ → ℕ
-block_of number = number / 256
+block_of number = number / 64
 
 -- the end of the block that a number is of
 abbrev pub end_of : List End → ℕ → End
@@ -63,7 +63,7 @@ pub record IsQuiet (alarm : Alarm) (p : Plan) : Type 0 where
   pub rows : AllByRecursion (IsAlarmed alarm.ends.items p.reservations) p.rows
   pub reservations : AllByRecursion (LastsUntil alarm.lasting) p.reservations
   pub soonest : (moment : ℕ) → is_past moment alarm.soonest ≡ false → IsAhead moment alarm
-  pub few : length alarm.ends.items ≤ 2 ^ 56
+  pub few : length alarm.ends.items ≤ 2 ^ 58
 
 -- time acts at once where the job names a reservation that is gone
 abbrev pub unless_stranded : Bool → End → End

@@ -5,7 +5,7 @@ ghost use Rattle.drmaa_types.specs.declared.moments.End.TheVariants.{Never};
 ghost use Rattle.drmaa_model.specs.declared.rows.Row.{Row};
 ghost use Rattle.drmaa_model.specs.Fit.{IsRising, IsSound, number_of};
 ghost use Rattle.drmaa_model.specs.Time.{advance_plan, come_to, let_go, expire, call_in, is_past};
-ghost use Rattle.plan_book.specs.Book.{plan_of, HasPlace, HasRoom, spare, spare_orders, spare_rows};
+ghost use Rattle.plan_book.specs.Book.{plan_of, HasPlace, HasRoom, spare, spare_orders};
 ghost use Rattle.plan_book.specs.Places.{AreSorted};
 ghost use Rattle.plan_book.specs.Quiet.{block_of, AreCovered, IsOutside, IsQuiet, IsSpared, LastsUntil};
 ghost use Rattle.plan_book.specs.Ties.{let_go_of};
@@ -27,7 +27,7 @@ impl Book {
         ensures spare { spare self.new ≡ spare self.old }
         ensures spare_orders { spare_orders self.new ≡ spare_orders self.old }
         ensures place { HasPlace self.old → HasPlace self.new }
-        ensures spare_rows { spare_rows self.new ≡ spare_rows self.old }
+        ensures seats { self.new.rows.seats ≡ self.old.rows.seats }
         ensures alarm { self.new.alarm ≡ self.old.alarm }
     {
         self.moment = self.moment_at(at);
@@ -47,7 +47,7 @@ impl Book {
     }
 
     /// The blocks outside of which no end has come by this moment. Before what is soonest there are none.
-    pub(crate) fn due_blocks(&self, moment: Moment) -> Places
+    pub(crate) fn due_places(&self, moment: Moment) -> Places
         requires quiet { IsQuiet self.now.alarm (plan_of self.now) }
         ensures within { result.until ≤ length self.now.alarm.ends.items }
         ensures outside { (k : ℕ) → IsOutside result k → is_past moment (get_or self.now.alarm.ends.items k Never) ≡ false }
@@ -66,7 +66,7 @@ impl Book {
         requires sorted { AreSorted self.old.reservations.items }
         requires rising { IsRising number_of self.old.rows.items }
         requires sound { AllByRecursion (λ (row : Row). IsSound row.wants row.course) self.old.rows.items }
-        requires few { length self.old.alarm.ends.items ≤ 2 ^ 56 }
+        requires few { length self.old.alarm.ends.items ≤ 2 ^ 58 }
         requires within { blocks.until ≤ length self.old.alarm.ends.items }
         requires covered { AreCovered self.old.alarm.ends.items self.old.rows.items }
         requires outside { AllByRecursion (λ (row : Row). IsOutside blocks (block_of row.job.0) → IsSpared self.old.moment self.old.alarm.ends.items self.old.reservations.items row) self.old.rows.items }
@@ -78,7 +78,7 @@ impl Book {
         ensures spare { spare self.new ≡ spare self.old }
         ensures spare_orders { spare_orders self.new ≡ spare_orders self.old }
         ensures place { HasPlace self.old → HasPlace self.new }
-        ensures spare_rows { spare_rows self.new ≡ spare_rows self.old }
+        ensures seats { self.new.rows.seats ≡ self.old.rows.seats }
         ensures quiet { IsQuiet self.new.alarm (plan_of self.new) }
         ensures blocks { length self.new.alarm.ends.items ≡ length self.old.alarm.ends.items }
     {
@@ -110,7 +110,7 @@ impl Book {
         ensures spare { spare self.new ≡ spare self.old }
         ensures spare_orders { spare_orders self.new ≡ spare_orders self.old }
         ensures place { HasPlace self.old → HasPlace self.new }
-        ensures spare_rows { spare_rows self.new ≡ spare_rows self.old }
+        ensures seats { self.new.rows.seats ≡ self.old.rows.seats }
         ensures quiet { IsQuiet self.new.alarm (plan_of self.new) }
         ensures blocks { length self.new.alarm.ends.items ≡ length self.old.alarm.ends.items }
     {
@@ -125,7 +125,7 @@ impl Book {
             self.sweep(self.all_blocks(), lasting, entry);
         } else {
             self.moment = moment;
-            self.sweep(self.due_blocks(moment), self.alarm.lasting, entry);
+            self.sweep(self.due_places(moment), self.alarm.lasting, entry);
         }
     }
 }

@@ -12,14 +12,14 @@ ghost use Rattle.drmaa_model.specs.Time.{is_past};
 ghost use Rattle.plan_book.specs.Quiet.{block_of, end_of, IsOutside, IsAhead, IsQuiet};
 
 use crate::courses::lesser_end;
-use crate::rows::{Places, places_within};
+use crate::rows::Places;
 use crate::time::is_past;
 use drmaa_model::Row;
 use drmaa_types::{End, JobId, Moment};
 use std::alloc::{AllocError, Global};
 
 /// So many numbers of jobs are a block.
-const BLOCK: u64 = 256;
+const BLOCK: u64 = 64;
 
 /// Before which moments time does nothing.
 #[derive(Drop)]
@@ -70,7 +70,7 @@ impl Alarm {
 
     /// Takes the memory for the next block, of which no end is known yet.
     fn add_block(&mut self) -> Result<(), AllocError>
-        requires { length self.old.ends.items < 2 ^ 56 }
+        requires { length self.old.ends.items < 2 ^ 58 }
         ensures ok { OnOk result (length self.new.ends.items ≡ length self.old.ends.items + 1) }
         ensures quiet { (p : Plan) → IsQuiet self.old p → IsQuiet self.new p }
     {
@@ -175,21 +175,4 @@ fn least_of(ends: &[End], end: &End) -> End
         least = lesser_end(least, ends[place]);
     }
     least
-}
-
-/// Where the rows stand that are of these blocks. They are found by halves.
-pub fn places_of(rows: &[Row], blocks: Places) -> Places
-    requires rising { IsRising number_of rows.now }
-    requires few { blocks.until ≤ 2 ^ 56 }
-    ensures span { result.from ≤ result.until }
-    ensures within { result.until ≤ length rows.now }
-    ensures before { AllByRecursion (λ (row : Row). IsOutside blocks (block_of row.job.0)) (take result.from rows.now) }
-    ensures behind { AllByRecursion (λ (row : Row). IsOutside blocks (block_of row.job.0)) (drop result.until rows.now) }
-{
-    if blocks.from >= blocks.until {
-        return Places { from: 0, until: 0 };
-    }
-    let first = blocks.from as u64 * BLOCK;
-    let last = (blocks.until - 1) as u64 * BLOCK + (BLOCK - 1);
-    places_within(rows, first, last)
 }

@@ -1,10 +1,12 @@
 //! Jobs that come in, and ended ones that are forgotten.
 ghost use Rattle.std.specs.Prelude.{◌≡◌, ◌≢◌, ◌+◌, ◌^◌, ◌<◌, ◌≤◌, ◌&&◌, ◌++◌, not, true, filter, length, vec_len, vec_capacity, Err, OnOk, OnErr};
+ghost use Rattle.std.specs.List.{AllByRecursion};
 ghost use Rattle.drmaa_model.specs.declared.rows.Row.{Row};
 ghost use Rattle.drmaa_model.specs.Controlling.{reap, is_done};
-ghost use Rattle.drmaa_model.specs.Fit.{IsFit};
+ghost use Rattle.drmaa_model.specs.Fit.{IsFit, IsRising, number_of};
 ghost use Rattle.drmaa_model.specs.Targets.{is_meant};
-ghost use Rattle.plan_book.specs.Book.{plan_of, HasRoom, IsBook, joined, spare, spare_rows};
+ghost use Rattle.plan_book.specs.Blocks.{IsInside};
+ghost use Rattle.plan_book.specs.Book.{plan_of, HasRoom, IsBook, joined, spare};
 ghost use Rattle.plan_book.specs.Occasions.{plan_at, StepsAt};
 ghost use Rattle.plan_book.specs.Places.{AreSorted};
 ghost use Rattle.plan_book.specs.Quiet.{block_of, AreCovered, IsQuiet};
@@ -41,14 +43,14 @@ impl Book {
         ensures err { OnErr result (spare self.old ≤ spare self.new) }
     {
         occasion.admit(self.weight() + rows.len() as u64)?;
-        self.make_seats(rows.len())?;
+        self.make_seats(lowest_number(self.next_job, &rows[..]), rows.len())?;
         self.advance(occasion.at, occasion.entry);
         self.put_rows(rows, arrays);
         Ok(())
     }
 
-    /// Takes the memory for so many waiting jobs.
-    fn make_seats(&mut self, n: usize) -> Result<(), AllocError>
+    /// Takes the memory for so many waiting jobs, none of which has a lower number than this one.
+    fn make_seats(&mut self, first: u64, n: usize) -> Result<(), AllocError>
         requires room { HasRoom self.old }
         requires few { n < 2 ^ 32 }
         requires next { self.old.next_job + n < 2 ^ 64 }
@@ -56,20 +58,23 @@ impl Book {
         ensures calendar { self.new.calendar ≡ self.old.calendar }
         ensures room { HasRoom self.new }
         ensures more { spare self.old ≤ spare self.new }
-        ensures rows { OnOk result (n ≤ spare_rows self.new) }
+        ensures first_seat { OnOk result (self.new.rows.seats.from ≤ block_of first) }
+        ensures seats { OnOk result (block_of (self.new.next_job + n) < self.new.rows.seats.until) }
         ensures changes { OnOk result (n ≤ spare self.new) }
         ensures blocks { OnOk result (block_of (self.new.next_job + n) < length self.new.alarm.ends.items) }
         ensures quiet { IsQuiet self.old.alarm (plan_of self.old) → IsQuiet self.new.alarm (plan_of self.new) }
     {
         self.changes.reserve(self.rows.owed() + n)?;
-        self.alarm.reach(self.next_job + n as u64)?;
-        self.rows.reserve(n)
+        let last = self.next_job + n as u64;
+        self.alarm.reach(last)?;
+        self.rows.reach(first, last)
     }
 
     fn put_rows(&mut self, rows: Vec<Row>, arrays: u64)
         requires room { HasRoom self.old }
         requires waits { AreWaiting rows.items }
-        requires seats { length rows.items ≤ spare_rows self.old }
+        requires seats { AllByRecursion (λ (row : Row). IsInside self.old.rows.seats (block_of row.job.0)) rows.items }
+        requires rising { IsRising number_of (self.old.rows.items ++ rows.items) }
         requires changes { length rows.items ≤ spare self.old }
         requires next_job { self.old.next_job + length rows.items < 2 ^ 64 }
         requires next_array { self.old.next_array + arrays < 2 ^ 64 }
@@ -107,6 +112,18 @@ impl Book {
     }
 }
 
+/// The lowest one of this number and of those of the jobs.
+fn lowest_number(next: u64, rows: &[Row]) -> u64
+    ensures less { result ≤ next }
+    ensures before { AllByRecursion (λ (row : Row). result ≤ row.job.0) rows.now }
+{
+    let mut first = next;
+    for row in rows {
+        first = first.min(row.job.0);
+    }
+    first
+}
+
 /// Puts rows behind the others. There is memory for them.
 pub fn append_rows(rows: &mut Vec<Row>, more: Vec<Row>)
     requires { vec_len rows.old + vec_len more ≤ vec_capacity rows.old }
@@ -126,7 +143,8 @@ pub fn is_reaped(target: &Target, row: &Row) -> bool
 
 /// Forgets the ended ones of the jobs that are meant.
 pub fn drop_done(rows: &mut Vec<Row>, target: &Target)
-    ensures { rows.new.items ≡ filter (λ (row : Row). not (is_meant target.now row && is_done row)) rows.old.items }
+    ensures items { rows.new.items ≡ filter (λ (row : Row). not (is_meant target.now row && is_done row)) rows.old.items }
+    ensures capacity { vec_capacity rows.new ≡ vec_capacity rows.old }
 {
     rows.retain(|row| !is_reaped(target, row));
 }

@@ -1,5 +1,5 @@
 //! The plan as it is kept, and what is read of it.
-ghost use Rattle.std.specs.Prelude.{◌≡◌, ◌-◌, ◌<◌, ◌≤◌, ◌^◌, true, Bool, length, max, filter, SomeIff, IfSome, OnOk, IfErr};
+ghost use Rattle.std.specs.Prelude.{◌≡◌, ◌-◌, ◌<◌, ◌≤◌, ◌^◌, Bool, length, max, filter, SomeIff, IfSome, OnOk, IfErr};
 ghost use Rattle.std.specs.List.{AllByRecursion};
 ghost use Rattle.std.specs.Option.{option_copied, option_map};
 ghost use Rattle.drmaa_types.specs.Queues.{most_queues};
@@ -13,15 +13,17 @@ ghost use Rattle.drmaa_model.specs.Submitting.{kept_text, most_kept_text};
 ghost use Rattle.drmaa_model.specs.Time.{advance_plan, is_accepted, rows_at, lasts, lapsed, called_in};
 ghost use Rattle.drmaa_model.specs.Load.{in_array, in_queue, in_reservation, is_member, reservation_of};
 ghost use Rattle.plan_book.specs.Book.{plan_of, calendar_of, IsBook, spare, course_then};
+ghost use Rattle.plan_book.specs.Blocks.{rows_in};
 ghost use Rattle.plan_book.specs.Due.{HasAllDue};
 ghost use Rattle.plan_book.specs.Facts.{facts_of};
-ghost use Rattle.plan_book.specs.Meant.{HasAllMeant};
-ghost use Rattle.plan_book.specs.Numbers.{HasNumbersOf};
+ghost use Rattle.plan_book.specs.Meant.{HasAllMeant, rows_of};
+ghost use Rattle.plan_book.specs.Numbers.{HasAllFrom, HasNumbersOf};
 ghost use Rattle.plan_book.specs.Open.{AreOpen, IsPriorityBound};
 ghost use Rattle.plan_book.specs.Owed.{reports_to_come};
 ghost use Rattle.plan_book.specs.Places.{AreSorted};
 
 use crate::alarm_blocks::Alarm;
+use crate::meant::MeantRows;
 use crate::reservations::{is_lasting, reservation_of};
 use crate::rows::Facts;
 use crate::spans::{NumberRange, no_numbers};
@@ -162,38 +164,53 @@ impl Book {
         self.moment
     }
 
-    /// The kept jobs, in order of number.
-    pub fn rows(&self) -> &[Row]
-        ensures { result.now ≡ (plan_of self.now).rows }
+    /// The kept jobs, in order of number, block by block.
+    pub fn blocks(&self) -> &[Vec<Row>]
+        ensures { rows_in result.now ≡ (plan_of self.now).rows }
     {
-        self.rows.list()
+        self.rows.blocks()
     }
 
-    /// The kept jobs from the first on that is not over, in order of number. Before it none waits or is started.
-    pub fn open_rows(&self) -> &[Row]
-        ensures { AreOpen (plan_of self.now).rows result.now }
+    /// How many jobs are kept.
+    pub fn count(&self) -> u128
+        ensures { result ≡ length (plan_of self.now).rows }
     {
-        self.rows.open_rows()
+        self.rows.count()
     }
 
-    /// The kept jobs, but for some at the front and at the end which time leaves as they are on its way to this moment: those of the
-    /// blocks of which the end has come, or where a reservation ends, all from the first on that is not over.
-    pub fn due_rows(&self, at: Moment) -> &[Row]
+    /// The kept jobs from the block of this number on, in order of number. Before it all numbers are lower.
+    pub fn blocks_from(&self, number: u64) -> &[Vec<Row>]
+        ensures { HasAllFrom number (plan_of self.now).rows (rows_in result.now) }
+    {
+        self.rows.blocks_from(number)
+    }
+
+    /// The kept jobs from the block of the first on that is not over, in order of number. Before it none waits or is started.
+    pub fn open_blocks(&self) -> &[Vec<Row>]
+        ensures { AreOpen (plan_of self.now).rows (rows_in result.now) }
+    {
+        self.rows.open_blocks()
+    }
+
+    /// The kept jobs, but for some at the front and at the end which time leaves as they are on its way to this moment: those from the
+    /// first to the last block of which the end has come, or where a reservation ends, all from the block of the first on that is not
+    /// over.
+    pub fn due_blocks(&self, at: Moment) -> &[Vec<Row>]
         requires book { IsBook self.now }
-        ensures { HasAllDue at (plan_of self.now) result.now }
+        ensures { HasAllDue at (plan_of self.now) (rows_in result.now) }
     {
         let moment = self.moment_at(at);
         if is_past(self.alarm.lasting, moment) {
-            return self.rows.open_rows();
+            return self.rows.open_blocks();
         }
-        self.rows.rows_of(self.due_blocks(moment))
+        self.rows.blocks_of(self.due_places(moment))
     }
 
-    /// The kept jobs, but for some at the front and at the end of which none is meant: that of one job alone, or those between the first
-    /// and the last member of an array, or all where the array's span found no memory.
-    pub fn meant_rows(&self, target: Target) -> &[Row]
+    /// The kept jobs, but for some at the front and at the end of which none is meant: that of one job alone, or those of the blocks from
+    /// the first member of an array to the last, or all where the array's span found no memory.
+    pub fn meant_rows(&self, target: Target) -> MeantRows<'_>
         requires book { IsBook self.now }
-        ensures { HasAllMeant target (plan_of self.now).rows result.now }
+        ensures { HasAllMeant target (plan_of self.now).rows (rows_of result) }
     {
         self.rows.meant_rows(target)
     }
@@ -240,21 +257,21 @@ impl Book {
         self.rows.priority_bound()
     }
 
-    /// How many members of the array hold slots. None where it isn't known, since memory for it was wanting.
+    /// How many members of the array hold slots. None where it isn't known, since memory was wanting or it doesn't fit.
     pub fn in_array(&self, array: ArrayId) -> Option<u32>
         ensures { IfSome result (λ n. n ≡ in_array array (plan_of self.now).rows) }
     {
         self.rows.in_array(array)
     }
 
-    /// The slots held by the ordinary jobs of the queue at this place. None where it isn't known, since memory for it was wanting.
+    /// The slots held by the ordinary jobs of the queue at this place. None where it isn't known, since memory was wanting or it doesn't fit.
     pub fn in_queue(&self, place: u32) -> Option<u32>
         ensures { IfSome result (λ n. n ≡ in_queue place (plan_of self.now).rows) }
     {
         self.rows.in_queue(place)
     }
 
-    /// The slots held by the jobs that name the reservation. None where it isn't known, since memory for it was wanting.
+    /// The slots held by the jobs that name the reservation. None where it isn't known, since memory was wanting or it doesn't fit.
     pub fn in_reservation(&self, number: ReservationId) -> Option<u32>
         ensures { IfSome result (λ n. n ≡ in_reservation number (plan_of self.now).rows) }
     {

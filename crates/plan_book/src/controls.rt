@@ -11,8 +11,9 @@ ghost use Rattle.plan_book.specs.Quiet.{IsQuiet};
 ghost use Rattle.plan_book.specs.Sweeps.{acted, growth, most_orders, may_add_order};
 
 use crate::book::Book;
+use crate::meant::{acted_among, note_among, order_among};
 use crate::occasions::Occasion;
-use crate::sweeps::{add_orders, is_controlled, note_controls};
+use crate::sweeps::is_controlled;
 use crate::time::course_at;
 use drmaa_model::{Accepted, NoEntry, Row, Target};
 use drmaa_types::{Control, Moment};
@@ -52,7 +53,7 @@ impl Book {
         ensures value { result ≡ acted target.now what (rows_at at (plan_of self.now)) }
         ensures few { result ≤ 4_000_000 }
     {
-        acted_then(
+        acted_among(
             &self.reservations,
             self.meant_rows(*target),
             self.moment_at(at),
@@ -91,7 +92,7 @@ impl Book {
         ensures spare { spare self.old ≤ spare self.new + growth what (acted target.now what self.old.rows.items) }
         ensures quiet { IsQuiet self.old.alarm (plan_of self.old) → IsQuiet self.new.alarm (plan_of self.new) }
     {
-        note_controls(
+        note_among(
             self.rows.meant_rows(*target),
             &mut self.changes,
             self.moment,
@@ -99,7 +100,7 @@ impl Book {
             target,
             what,
         );
-        add_orders(
+        order_among(
             self.rows.meant_rows(*target),
             &mut self.orders,
             target,
@@ -130,7 +131,7 @@ fn most_orders(what: Control, n: usize) -> usize
 }
 
 /// On how many of these jobs the call will act, once time has come to this moment.
-fn acted_then(
+pub fn acted_then(
     rs: &Vec<Accepted>,
     rows: &[Row],
     moment: Moment,

@@ -1,5 +1,5 @@
 //! The homes of jobs and reservations: named sessions, which may be destroyed.
-ghost use Rattle.std.specs.Prelude.{◌≡◌, not, map, filter, Some};
+ghost use Rattle.std.specs.Prelude.{◌≡◌, not, map, filter, Some, vec_capacity};
 ghost use Rattle.drmaa_model.specs.declared.reservations.Accepted.{Accepted};
 ghost use Rattle.drmaa_model.specs.declared.rows.Row.{Row};
 ghost use Rattle.drmaa_model.specs.Effects.{left_by, is_forgotten, forget_home};
@@ -55,7 +55,8 @@ pub fn is_forgotten(row: &Row, home: u64) -> bool
 
 /// Forgets the ended jobs of the home.
 pub fn drop_forgotten(rows: &mut Vec<Row>, home: u64)
-    ensures { rows.new.items ≡ filter (λ (row : Row). not (is_forgotten home row)) rows.old.items }
+    ensures items { rows.new.items ≡ filter (λ (row : Row). not (is_forgotten home row)) rows.old.items }
+    ensures capacity { vec_capacity rows.new ≡ vec_capacity rows.old }
 {
     rows.retain(|row| !is_forgotten(row, home));
 }
@@ -74,7 +75,8 @@ fn leave_reservation(r: &mut Accepted, home: u64)
 
 /// The jobs of the home are left without one.
 pub fn leave_rows(rows: &mut Vec<Row>, home: u64)
-    ensures { rows.new.items ≡ map (λ (row : Row). record row { home = left_by home row.home }) rows.old.items }
+    ensures items { rows.new.items ≡ map (λ (row : Row). record row { home = left_by home row.home }) rows.old.items }
+    ensures capacity { vec_capacity rows.new ≡ vec_capacity rows.old }
 {
     for row in rows.iter_mut() {
         leave_row(row, home);

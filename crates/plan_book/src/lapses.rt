@@ -102,3 +102,33 @@ pub fn sweep_rows(
     }
     sums
 }
+
+/// The same of a block.
+pub fn sweep_block(
+    rs: &Vec<Accepted>,
+    rows: &mut Vec<Row>,
+    changes: &mut Vec<Change>,
+    orders: &mut Vec<Order>,
+    alarm: &mut Alarm,
+    moment: Moment,
+    entry: u64,
+) -> Sums
+    requires sorted { AreSorted rs.now.items }
+    requires covered { AreCovered alarm.old.ends.items rows.old.items }
+    requires changes { vec_len changes.old + length (flat_map (ends entry moment rs.now.items) rows.old.items) ≤ vec_capacity changes.old }
+    requires orders { vec_len orders.old + length (flat_map (kills_then moment rs.now.items) rows.old.items) ≤ vec_capacity orders.old }
+    ensures items { rows.new.items ≡ map (timed moment rs.now.items) rows.old.items }
+    ensures capacity { vec_capacity rows.new ≡ vec_capacity rows.old }
+    ensures changes { changes.new.items ≡ changes.old.items ++ flat_map (ends entry moment rs.now.items) rows.old.items }
+    ensures changes_len { vec_len changes.new ≡ vec_len changes.old + length (flat_map (ends entry moment rs.now.items) rows.old.items) }
+    ensures changes_capacity { vec_capacity changes.new ≡ vec_capacity changes.old }
+    ensures orders { orders.new.items ≡ orders.old.items ++ flat_map (kills_then moment rs.now.items) rows.old.items }
+    ensures orders_len { vec_len orders.new ≡ vec_len orders.old + length (flat_map (kills_then moment rs.now.items) rows.old.items) }
+    ensures orders_capacity { vec_capacity orders.new ≡ vec_capacity orders.old }
+    ensures sums { AreSums rows.new.items result }
+    ensures alarmed { AllByRecursion (IsAlarmed alarm.new.ends.items rs.now.items) rows.new.items }
+    ensures kept { (row : Row) → IsAlarmed alarm.old.ends.items rs.now.items row → IsAlarmed alarm.new.ends.items rs.now.items row }
+    ensures blocks { length alarm.new.ends.items ≡ length alarm.old.ends.items }
+{
+    sweep_rows(rs, &mut rows[..], changes, orders, alarm, moment, entry)
+}

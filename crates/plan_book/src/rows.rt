@@ -45,35 +45,3 @@ pub struct Places {
     pub from: usize,
     pub until: usize,
 }
-
-/// Where the rows stand that have the numbers from the first to the last. They are found by halves.
-pub fn places_within(rows: &[Row], first: u64, last: u64) -> Places
-    requires rising { IsRising number_of rows.now }
-    ensures span { result.from ≤ result.until }
-    ensures within { result.until ≤ length rows.now }
-    ensures before { AllByRecursion (λ (row : Row). row.job.0 < first) (take result.from rows.now) }
-    ensures behind { AllByRecursion (λ (row : Row). last < row.job.0) (drop result.until rows.now) }
-{
-    let until = count_through(rows, last);
-    Places {
-        from: count_below(rows, first).min(until),
-        until,
-    }
-}
-
-/// How many rows have lesser numbers.
-fn count_below(rows: &[Row], number: u64) -> usize
-    requires rising { IsRising number_of rows.now }
-    ensures { AllByRecursion (λ (row : Row). row.job.0 < number) (take result rows.now) }
-{
-    rows.partition_point(|row| row.job.0 < number)
-}
-
-/// How many rows have this number or lesser ones.
-fn count_through(rows: &[Row], number: u64) -> usize
-    requires rising { IsRising number_of rows.now }
-    ensures few { result ≤ length rows.now }
-    ensures behind { AllByRecursion (λ (row : Row). number < row.job.0) (drop result rows.now) }
-{
-    rows.partition_point(|row| row.job.0 <= number)
-}

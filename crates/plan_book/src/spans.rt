@@ -4,6 +4,7 @@
 ghost use Rattle.std.specs.Prelude.{◌≡◌, ◌<◌, ◌≤◌, ℕ, true, None, IfSome, IfOk, IfErr, take, drop, length, []};
 ghost use Rattle.std.specs.List.{AllByRecursion};
 ghost use Rattle.drmaa_model.specs.Fit.{IsRising};
+ghost use Rattle.plan_book.specs.Blocks.{rows_in};
 ghost use Rattle.plan_book.specs.Places.{IsAt};
 ghost use Rattle.plan_book.specs.Spans.{AreBothSorted, AreSpanned, IsInArraySpan, IsInHomeSpan, IsInSpan, IsSorted, IsSpanned, IsWithin, Keeps, span_number, span_of, widened};
 
@@ -123,24 +124,26 @@ impl Spans {
         put_in_home(&mut self.homes, row);
     }
 
-    /// The spans of these jobs alone.
-    fn count_anew(&mut self, rows: &[Row])
-        ensures { AreSpanned rows.now self.new }
+    /// The spans of the jobs of these blocks alone.
+    fn count_anew(&mut self, blocks: &[Vec<Row>])
+        ensures { AreSpanned (rows_in blocks.now) self.new }
     {
         self.arrays.clear();
         self.homes.clear();
-        self.put_rows(rows);
+        for block in blocks {
+            self.put_rows(&block[..]);
+        }
     }
 
-    /// Jobs have left: once there are more than twice as many spans of arrays or of homes as jobs, and one, they are counted anew, so
-    /// that those of groups of which no job is left don't grow without bound.
-    pub fn prune(&mut self, rows: &[Row])
-        requires { AreSpanned rows.now self.old }
-        ensures { AreSpanned rows.now self.new }
+    /// Jobs have left: once there are more than twice as many spans of arrays or of homes as these jobs, and one, they are counted anew,
+    /// so that those of groups of which no job is left don't grow without bound.
+    pub fn prune(&mut self, count: u128, blocks: &[Vec<Row>])
+        requires { AreSpanned (rows_in blocks.now) self.old }
+        ensures { AreSpanned (rows_in blocks.now) self.new }
     {
         let most = self.arrays.list.len().max(self.homes.list.len());
-        if most / 2 > rows.len() {
-            self.count_anew(rows);
+        if (most / 2) as u128 > count {
+            self.count_anew(blocks);
         }
     }
 }

@@ -18,6 +18,8 @@ pub struct Sums {
     pub held: u128,
     /// The reports of starts and ends that their processes may still bring.
     pub reports: u128,
+    /// How many jobs there are.
+    pub count: u128,
 }
 
 /// What no jobs come to.
@@ -30,6 +32,7 @@ pub fn no_sums() -> Sums
         owed_kills: 0,
         held: 0,
         reports: 0,
+        count: 0,
     }
 }
 
@@ -57,6 +60,7 @@ pub fn with_job(sums: &Sums, course: &Course) -> Sums
         owed_kills: sums.owed_kills + owes_kill(course) as u128,
         held: sums.held + wide(course.held),
         reports: sums.reports + u128::from(reports_due(course.phase)),
+        count: sums.count + 1,
     }
 }
 
@@ -72,6 +76,7 @@ pub fn with_others(sums: &Sums, others: &Sums) -> Sums
         owed_kills: sums.owed_kills + others.owed_kills,
         held: sums.held + others.held,
         reports: sums.reports + others.reports,
+        count: sums.count + others.count,
     }
 }
 
@@ -86,6 +91,7 @@ pub fn without_others(sums: &Sums, others: &Sums) -> Sums
         owed_kills: sums.owed_kills - others.owed_kills,
         held: sums.held - others.held,
         reports: sums.reports - others.reports,
+        count: sums.count - others.count,
     }
 }
 
@@ -112,6 +118,7 @@ pub fn without_job(sums: &Sums, course: &Course) -> Sums
         owed_kills: sums.owed_kills - owes_kill(course) as u128,
         held: sums.held - wide(course.held),
         reports: sums.reports - u128::from(reports_due(course.phase)),
+        count: sums.count - 1,
     }
 }
 

@@ -14,7 +14,7 @@ use drmaa_model::{Row, Target};
 use job_template::without_template;
 
 /// The most text of the templates of all kept jobs, in bytes.
-const MOST_KEPT_TEXT: usize = 67_108_864;
+pub const MOST_KEPT_TEXT: usize = 67_108_864;
 
 /// The room where no job is kept.
 pub fn whole_room() -> Option<usize>
@@ -24,7 +24,7 @@ pub fn whole_room() -> Option<usize>
 }
 
 /// The room that the templates of jobs leave. None exactly where they need more.
-fn without_rows(room: usize, rows: &[Row]) -> Option<usize>
+pub fn without_rows(room: usize, rows: &[Row]) -> Option<usize>
     ensures { SomeIff result (kept_text rows.now ≤ room) (room - kept_text rows.now) }
 {
     let mut room = room;
@@ -45,7 +45,8 @@ pub fn room_with(room: Option<usize>, more: &Vec<Row>) -> Option<usize>
 /// looks. None where there was none: then it has to be counted anew.
 pub fn room_without_done(room: Option<usize>, rows: &[Row], target: &Target) -> Option<usize>
     requires { IfSome room (λ room. room ≤ most_kept_text) }
-    ensures { (text : ℕ) → IsRoomBeside (text + kept_text (filter (λ (row : Row). is_meant target.now row && is_done row) rows.now)) room → IfSome result (λ room. IsRoomBeside text (Some room)) }
+    ensures most { IfSome result (λ room. room ≤ most_kept_text) }
+    ensures room { (text : ℕ) → IsRoomBeside (text + kept_text (filter (λ (row : Row). is_meant target.now row && is_done row) rows.now)) room → IfSome result (λ room. IsRoomBeside text (Some room)) }
 {
     let mut text = MOST_KEPT_TEXT - room?;
     for row in rows {
@@ -63,30 +64,4 @@ pub fn room_without_job(room: Option<usize>, row: &Row) -> Option<usize>
 {
     let text = without_template(MOST_KEPT_TEXT - room?, row.template.get())?;
     Some(MOST_KEPT_TEXT - text)
-}
-
-/// The room once the ended jobs of a home are forgotten, at whose templates alone it looks. None where there was none: then it has
-/// to be counted anew.
-pub fn room_without_forgotten(room: Option<usize>, rows: &[Row], home: u64) -> Option<usize>
-    requires { IsRoomBeside (kept_text rows.now) room }
-    ensures { IfSome result (λ room. IsRoomBeside (kept_text (filter (λ (row : Row). not (is_forgotten home row)) rows.now)) (Some room)) }
-{
-    let mut text = MOST_KEPT_TEXT - room?;
-    for row in rows {
-        if is_forgotten(row, home) {
-            text = without_template(text, row.template.get())?;
-        }
-    }
-    Some(MOST_KEPT_TEXT - text)
-}
-
-/// The room that the kept jobs leave, which is counted where it isn't known.
-pub fn room_beside(known: Option<usize>, rows: &[Row]) -> Option<usize>
-    requires { IfSome known (λ room. IsRoomBeside (kept_text rows.now) (Some room)) }
-    ensures { IsRoomBeside (kept_text rows.now) result }
-{
-    match known {
-        Some(room) => Some(room),
-        None => without_rows(MOST_KEPT_TEXT, rows),
-    }
 }

@@ -46,7 +46,7 @@ impl GroupUsage {
     }
 
     /// What the group has in use. None where it isn't known.
-    fn used_by(&self, group: u64) -> Option<u32>
+    fn known_use(&self, group: u64) -> Option<u32>
         ensures { IfSome result (λ n. (self.now.is_whole ≡ true) × (n ≡ used_by self.now.used group)) }
     {
         if !self.is_whole {
@@ -63,7 +63,7 @@ impl GroupUsage {
             return;
         };
         if self.is_whole && before != after {
-            self.is_whole = exchange(&mut self.used, group, before, after);
+            self.is_whole = put_exchanged(&mut self.used, group, before, after);
         }
     }
 }
@@ -84,33 +84,35 @@ impl Usage {
     pub fn in_array(&self, array: ArrayId) -> Option<u32>
         ensures { (rows : List Row) → AreUsed rows self.now → IfSome result (λ n. n ≡ in_array array rows) }
     {
-        self.arrays.used_by(array.0)
+        self.arrays.known_use(array.0)
     }
 
     /// The slots held by the ordinary jobs of the queue at this place. None where it isn't known.
     pub fn in_queue(&self, place: u32) -> Option<u32>
         ensures { (rows : List Row) → AreUsed rows self.now → IfSome result (λ n. n ≡ in_queue place rows) }
     {
-        self.queues.used_by(u64::from(place))
+        self.queues.known_use(u64::from(place))
     }
 
     /// The slots held by the jobs that name the reservation. None where it isn't known.
     pub fn in_reservation(&self, number: ReservationId) -> Option<u32>
         ensures { (rows : List Row) → AreUsed rows self.now → IfSome result (λ n. n ≡ in_reservation number rows) }
     {
-        self.reservations.used_by(number.0)
+        self.reservations.known_use(number.0)
     }
 
     /// A job holds so many slots after it held so many before.
     pub fn exchange(&mut self, row: &Row, before: u32, after: u32)
         ensures { Passes (holding before row.now) (holding after row.now) self.old self.new }
     {
-        self.arrays
-            .exchange(array_of(row), is_holding(before), is_holding(after));
+        self.arrays.exchange(
+            array_number(row),
+            members_holding(before),
+            members_holding(after),
+        );
         self.queues
-            .exchange(queue_of(row), u64::from(before), u64::from(after));
-        self.reservations
-            .exchange(reservation_of(row), u64::from(before), u64::from(after));
+            .exchange(queue_number(row), u64::from(before), u64::from(after));
+        self.reservations.exchange(reservation_number(row), u64::from(before), u64::from(after));
     }
 
     /// Jobs come in.
@@ -123,18 +125,15 @@ impl Usage {
     }
 }
 
-/// The array that the job is a member of.
-fn array_of(row: &Row) -> Option<u64>
+/// The number of the array that the job is a member of.
+fn array_number(row: &Row) -> Option<u64>
     ensures { result ≡ option_map (λ (array : ArrayId). array.0) row.now.wants.array }
 {
-    match row.wants.array {
-        Some(array) => Some(array.0),
-        None => None,
-    }
+    row.wants.array.map(|array| array.0)
 }
 
-/// The queue of an ordinary job.
-fn queue_of(row: &Row) -> Option<u64>
+/// The place of an ordinary job's queue.
+fn queue_number(row: &Row) -> Option<u64>
     ensures { result ≡ (if is_some row.now.wants.reservation then None else row.now.wants.queue) }
 {
     if row.wants.reservation.is_some() {
@@ -146,18 +145,15 @@ fn queue_of(row: &Row) -> Option<u64>
     }
 }
 
-/// The reservation that the job names.
-fn reservation_of(row: &Row) -> Option<u64>
+/// The number of the reservation that the job names.
+fn reservation_number(row: &Row) -> Option<u64>
     ensures { result ≡ option_map (λ (number : ReservationId). number.0) row.now.wants.reservation }
 {
-    match row.wants.reservation {
-        Some(number) => Some(number.0),
-        None => None,
-    }
+    row.wants.reservation.map(|number| number.0)
 }
 
-/// 1 where slots are held.
-fn is_holding(slots: u32) -> u64
+/// How many members an array has holding slots by one that holds so many: 1 where it holds any.
+fn members_holding(slots: u32) -> u64
     ensures { result ≡ (if nat_lt 0 slots then 1 else 0) }
 {
     if slots > 0 { 1 } else { 0 }
@@ -174,7 +170,7 @@ fn used_by(used: &BTreeMap<u64, u64>, group: u64) -> u64
 }
 
 /// One job has so much of the group in use after it had so much before. Whether that is known then.
-fn exchange(used: &mut BTreeMap<u64, u64>, group: u64, before: u64, after: u64) -> bool
+fn put_exchanged(used: &mut BTreeMap<u64, u64>, group: u64, before: u64, after: u64) -> bool
     ensures { result ≡ true → (other : ℕ) → used_by used.new other + (if group == other then before else 0) ≡ used_by used.old other + (if group == other then after else 0) }
 {
     match exchanged(used_by(used, group), before, after) {

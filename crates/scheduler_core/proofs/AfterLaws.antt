@@ -4,6 +4,7 @@ use Rattle.std.specs.Prelude.{min}
 use Rattle.std.proofs.Math.Seq.{take-suc}
 use Rattle.std.specs.List.{list_any}
 use Rattle.std.proofs.lemmas.Bool.{cases_lt, or_from, or_left, or_right, eq-eqb, ne_eqb, lt-ltb, le-ltb}
+use Rattle.std.proofs.lemmas.List.Folds.{list_any-append}
 use Rattle.drmaa_types.specs.Moments.{greatest}
 use Rattle.drmaa_model.specs.Load.{first_from}
 use Rattle.drmaa_model.specs.MomentLaws.{first-none, first-some, none-first, some-first, first_from-same}
@@ -103,3 +104,8 @@ seen-more {X} after t xs i x best next o low is e f g =
     let grown : take (i + 1) xs ≡ take i xs ++ x ∷ [] = ap (λ (n : ℕ). take n xs) one ∙ take-suc xs i x low ∙ ap (λ (y : X). take i xs ++ y ∷ []) (sym is) in
     g ∙ ap (λ b. earlier b next) e ∙ ap (earlier (first_after after (λ n. list_any (t n) (take i xs)))) f
     ∙ sym (after-push after t (take i xs) x) ∙ ap (λ (ys : List X). first_after after (λ n. list_any (t n) ys)) (sym grown)
+
+-- two lists
+pub after-append : {X : Type 0} (after : ℕ) (t : ℕ → X → Bool) (xs ys : List X)
+    → first_after after (λ n. list_any (t n) (xs ++ ys)) ≡ earlier (first_after after (λ n. list_any (t n) xs)) (first_after after (λ n. list_any (t n) ys))
+after-append after t xs ys = after-same after (λ n. list_any (t n) (xs ++ ys)) (λ n. list_any (t n) xs || list_any (t n) ys) (λ n. list_any-append (t n) xs ys) ∙ after-or after (λ n. list_any (t n) xs) (λ n. list_any (t n) ys)

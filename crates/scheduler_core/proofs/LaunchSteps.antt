@@ -33,7 +33,7 @@ use Rattle.drmaa_model.specs.FitLaws.{advance-fit, not-using}
 use Rattle.drmaa_model.specs.Launching.{launch, launch_of}
 use Rattle.drmaa_model.specs.LaunchFit.{launch-effect, launch-keeps}
 use Rattle.drmaa_model.specs.NextLaunch.{held, is_ready, may_come, has_slots, slots_for, better, best_of, next_launch, has_room_in, has_slots_in, is_within_bound, is_queued, is_reached}
-use Rattle.drmaa_model.specs.NextLaunchLaws.{IsNextLaunch, next_launch-is, ready-parts, ready-from, queued-may_launch}
+use Rattle.drmaa_model.specs.NextLaunchLaws.{IsNextLaunch, next_launch-is, ready-parts, ready-from}
 use Rattle.drmaa_model.specs.Plan.{Plan}
 use Rattle.drmaa_model.specs.RowLaws.{row_of-all}
 use Rattle.drmaa_model.specs.Time.{come_to, let_go, lasts, called_in, lapsed, advance_plan}
@@ -47,7 +47,7 @@ use Rattle.scheduler_core.specs.declared.launches.NextLaunch.{NextLaunch}
 use Rattle.plan_book.specs.declared.moves.Move.{Move}
 use Rattle.plan_book.specs.Book.{IsBook, IsMove, plan_of, moved, grows, owes}
 use Rattle.scheduler_core.specs.Launches.{may_launch, launch-move, IsLaunchOf, IsNext, IsNextIn, handed_out, seen, seen_row, room_of, free_of, slots_of, queue_left, capped, IsMost, launch_booking}
-use Rattle.scheduler_core.proofs.Priorities.{first_of}
+use Rattle.scheduler_core.specs.Firsts.{first_of}
 use Rattle.scheduler_core.proofs.SeenLaws.{tied-seen}
 
 -- whether a job that asks for this, in this state, is ready
@@ -200,9 +200,6 @@ most-inside p m wants number n most used left named used_is free order most_is l
                 ]) refl;
           })
     ]) refl (sym (of wants.min) ∙ has) left_is
-
-queued-waits : (s : JobState) → is_queued s ≡ true → is_waiting s ≡ true
-queued-waits s is = (queued-may_launch s is).waits
 
 -- the booking of a launch may be made
 launch-may : (s : Schedule) (p : Plan) (m : ℕ) (row : Row) (n : ℕ) → IsFit p → IsTied s p → p.moment ≤ m → ends_after m (planned_end row.wants m) ≡ true

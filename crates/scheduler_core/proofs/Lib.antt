@@ -1,6 +1,8 @@
 pub mod AfterLaws
 pub mod Among
 pub mod BatchLaws
+pub mod BlockLaws
+pub mod BlockSearches
 pub mod CalendarLaws
 pub mod ControlLaws
 pub mod DemandLaws
@@ -14,7 +16,6 @@ pub mod OpenLaws
 pub mod PartLaws
 pub mod PhaseLaws
 pub mod PhaseSteps
-pub mod Priorities
 pub mod QueuedLaws
 pub mod ReportSteps
 pub mod RunningLaws

@@ -1,7 +1,7 @@
 -- Jobs that are over: none may be launched, and none has an event at any moment. So the first in order and the first event are those of the jobs behind them.
-use Rattle.std.proofs.Common.{◌≡◌, ℕ, Bool, true, false, cond, not, ◌&&◌, ◌||◌, ◌+◌, List, [], ◌∷◌, ◌++◌, drop, length, ◌≤◌, zero, suc, map, filter, Option, Some, None, refl, sym, ◌∙◌, ap, subst, arith}
+use Rattle.std.proofs.Common.{◌≡◌, ℕ, Bool, true, false, cond, not, ◌&&◌, ◌||◌, ◌+◌, ◌<◌, List, [], ◌∷◌, ◌++◌, drop, take, length, get_or, zero, suc, map, filter, Option, Some, None, refl, sym, ◌∙◌, ap, subst, arith}
 use Rattle.std.specs.Prelude.{ℤ, int_lt, is_none, nat_le}
-use Rattle.std.proofs.Math.ListN.{drop_of_length-le}
+use Rattle.std.specs.Global.{Vec}
 use Rattle.std.specs.List.{AllByRecursion, list_any}
 use Rattle.std.specs.Option.{option_map, option_map_or}
 use Rattle.std.proofs.lemmas.Bool.{and_parts, not-true}
@@ -16,12 +16,15 @@ use Rattle.drmaa_model.specs.NextLaunch.{better, best_of, has_slots, is_within_b
 use Rattle.drmaa_model.specs.Plan.{Plan}
 use Rattle.drmaa_model.specs.Time.{called_in, lapsed, lasts}
 use Rattle.drmaa_model.specs.TimeLaws.{timed, lapsed-cases, called-cases}
+use Rattle.plan_book.specs.BlockWalks.{back-more, both-parts}
+use Rattle.plan_book.specs.Blocks.{rows_in}
 use Rattle.plan_book.specs.Open.{AreOpen, IsPriorityBound, is_over}
 use Rattle.scheduler_core.specs.Afters.{first_row_event}
 use Rattle.scheduler_core.specs.Launches.{may_launch, seen, seen_row}
 use Rattle.scheduler_core.proofs.AfterLaws.{after-same}
+use Rattle.scheduler_core.proofs.BlockLaws.{all-front}
 use Rattle.scheduler_core.proofs.LaunchSteps.{chosen, passed}
-use Rattle.scheduler_core.proofs.Priorities.{first_of}
+use Rattle.scheduler_core.specs.Firsts.{first_of}
 
 -- ---- what is known of a job that is over
 
@@ -101,16 +104,26 @@ all-behind : {X : Type 0} (P : X → Type 0) (front xs : List X) → AllByRecurs
 all-behind P [] xs all = all
 all-behind P (x ∷ front) xs all = all-behind P front xs all.1
 
-all-drop : {X : Type 0} (P : X → Type 0) (xs : List X) (i : ℕ) → AllByRecursion P xs → AllByRecursion P (drop i xs)
+pub all-drop : {X : Type 0} (P : X → Type 0) (xs : List X) (i : ℕ) → AllByRecursion P xs → AllByRecursion P (drop i xs)
 all-drop P xs zero all = all
 all-drop P [] (suc i) all = tt
 all-drop P (x ∷ xs) (suc i) all = all-drop P xs i all.1
 
--- those behind it, of the jobs that are open
-greatest-left : (greatest : ℤ) (all rows : List Row) (i : ℕ) → IsPriorityBound all greatest → AreOpen all rows → IsPriorityBound (drop i rows) greatest
-greatest-left greatest all rows i most are =
-    all-drop (λ (row : Row). int_lt greatest row.wants.priority ≡ false) rows i
-    (all-behind (λ (row : Row). int_lt greatest row.wants.priority ≡ false) are.front rows (subst (λ (rs : List Row). IsPriorityBound rs greatest) are.parts most))
+-- the jobs that are open
+pub greatest-open : (greatest : ℤ) (all rows : List Row) → IsPriorityBound all greatest → AreOpen all rows → IsPriorityBound rows greatest
+greatest-open greatest all rows most are =
+    all-behind (λ (row : Row). int_lt greatest row.wants.priority ≡ false) are.front rows (subst (λ (rs : List Row). IsPriorityBound rs greatest) are.parts most)
+
+-- those of the blocks from one on
+pub greatest-back : (greatest : ℤ) (blocks : List (Vec Row)) (i : ℕ) → IsPriorityBound (rows_in blocks) greatest → IsPriorityBound (rows_in (drop i blocks)) greatest
+greatest-back greatest blocks i most =
+    all-behind (λ (row : Row). int_lt greatest row.wants.priority ≡ false) (rows_in (take i blocks)) (rows_in (drop i blocks)) (subst (λ (rs : List Row). IsPriorityBound rs greatest) (both-parts blocks i) most)
+
+-- those of one block
+pub greatest-block : (greatest : ℤ) (blocks : List (Vec Row)) (i : ℕ) (b : Vec Row) (rows : List Row) → i < length blocks → b ≡ get_or blocks i b → rows ≡ b.items → IsPriorityBound (rows_in blocks) greatest → IsPriorityBound rows greatest
+greatest-block greatest blocks i b rows within is same most =
+    all-front (λ (row : Row). int_lt greatest row.wants.priority ≡ false) rows (rows_in (drop (i + 1) blocks))
+    (subst (λ (rs : List Row). IsPriorityBound rs greatest) (back-more blocks i b within is ∙ ap (λ (rs : List Row). rs ++ rows_in (drop (i + 1) blocks)) (sym same)) (greatest-back greatest blocks i most))
 
 not-less : (a b c : ℤ) → int_lt a b ≡ false → int_lt b c ≡ false → int_lt a c ≡ false
 not-less a b c high low = grind arith
@@ -129,18 +142,16 @@ last-word at same test best greatest high (row ∷ rows) most =
       | false ↦ λ h. sym (passed at test (Some best) row rows h) ∙ last-word at same test best greatest high rows most.1
     ]) refl
 
--- no job that is left of those that are open stands before the best so far
+-- none of these jobs stands before the best so far
 pub none-better : (at : Row → Row) → ((r : Row) → (at r).wants ≡ r.wants) → (test : Row → Bool) (best : Option Row) (greatest : ℤ)
     → option_map_or (λ (first : Row). not (int_lt first.wants.priority greatest)) best false ≡ true
-    → (all rows : List Row) (i : ℕ) → IsPriorityBound all greatest → AreOpen all rows
-    → option_map at best ≡ first_of (option_map at best) (best_of (filter test (map at (drop i rows))))
-none-better at same test None greatest high all rows i most are = absurd (cc)
-none-better at same test (Some best) greatest high all rows i most are =
-    sym (last-word at same test best greatest (not-true (int_lt best.wants.priority greatest) high) (drop i rows) (greatest-left greatest all rows i most are))
+    → (rows : List Row) → IsPriorityBound rows greatest → option_map at best ≡ first_of (option_map at best) (best_of (filter test (map at rows)))
+none-better at same test None greatest high rows most = absurd (cc)
+none-better at same test (Some best) greatest high rows most =
+    sym (last-word at same test best greatest (not-true (int_lt best.wants.priority greatest) high) rows most)
 
--- none is left
-pub over-of : (at : Row → Row) (test : Row → Bool) (best : Option Row) (rows : List Row) (i : ℕ) → length rows ≤ i
-    → option_map at best ≡ first_of (option_map at best) (best_of (filter test (map at (drop i rows))))
-over-of at test best rows i past =
+-- there are none
+pub none-left : (at : Row → Row) (test : Row → Bool) (best : Option Row) (rows : List Row) → rows ≡ [] → option_map at best ≡ first_of (option_map at best) (best_of (filter test (map at rows)))
+none-left at test best rows none =
     (elim (option_map at best) as (λ o. o ≡ first_of o None) [ None ↦ refl | Some first ↦ refl ])
-    ∙ ap (λ (rs : List Row). first_of (option_map at best) (best_of (filter test (map at rs)))) (sym (drop_of_length-le rows past))
+    ∙ ap (λ (rs : List Row). first_of (option_map at best) (best_of (filter test (map at rs)))) (sym none)

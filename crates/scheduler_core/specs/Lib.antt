@@ -1,3 +1,4 @@
+pub mod Firsts
 pub mod Afters
 pub mod Batches
 pub mod Demands

@@ -12,6 +12,7 @@ ghost use Rattle.drmaa_model.specs.Load.{first_overfull, is_member};
 ghost use Rattle.drmaa_model.specs.Rows.{row_of};
 ghost use Rattle.drmaa_model.specs.Size.{weight};
 ghost use Rattle.drmaa_model.specs.Time.{advance_plan};
+ghost use Rattle.plan_book.specs.Blocks.{rows_in};
 ghost use Rattle.plan_book.specs.Numbers.{HasNumbersOf};
 
 use crate::starts::overfull_from;
@@ -106,11 +107,11 @@ impl Core {
         self.book.moment()
     }
 
-    /// The kept jobs, in order of number.
-    pub fn rows(&self) -> &[Row]
-        ensures { result.now ≡ self.now.plan.rows }
+    /// The kept jobs, in order of number, in blocks.
+    pub fn blocks(&self) -> &[Vec<Row>]
+        ensures { rows_in result.now ≡ self.now.plan.rows }
     {
-        self.book.rows()
+        self.book.blocks()
     }
 
     /// The accepted reservations, in order of number.

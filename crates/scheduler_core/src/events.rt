@@ -2,6 +2,7 @@
 ghost use Rattle.std.specs.Prelude.{◌≡◌, ◌==◌, false};
 ghost use Rattle.std.specs.Option.{option_map_or};
 ghost use Rattle.drmaa_model.specs.Events.{bounds_at, first_after, is_end_at, is_set_to, is_wanted_at, next_event, is_row_event};
+ghost use Rattle.plan_book.specs.Blocks.{rows_in};
 ghost use Rattle.scheduler_core.specs.Afters.{earlier, first_bound, first_row_event};
 
 use crate::cores::Core;
@@ -16,7 +17,7 @@ impl Core {
         ensures { result ≡ next_event self.now.plan after }
     {
         earlier(
-            next_row_event(after, self.book.open_rows()),
+            next_block_event(after, self.book.open_blocks()),
             next_bound(after, self.book.reservations()),
         )
     }
@@ -116,6 +117,17 @@ fn next_row_event(after: Moment, rows: &[Row]) -> Option<Moment>
     let mut best = None;
     for row in rows {
         best = earlier(best, next_of_row(after, row));
+    }
+    best
+}
+
+// The next moment at which time may change something for any of the jobs of these blocks.
+fn next_block_event(after: Moment, blocks: &[Vec<Row>]) -> Option<Moment>
+    ensures { result ≡ first_row_event after (rows_in blocks.now) }
+{
+    let mut best = None;
+    for block in blocks {
+        best = earlier(best, next_row_event(after, &block[..]));
     }
     best
 }

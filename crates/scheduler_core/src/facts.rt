@@ -1,10 +1,13 @@
 //! What is told of a kept job.
-ghost use Rattle.std.specs.Prelude.{◌≡◌, ◌&&◌};
+ghost use Rattle.std.specs.Prelude.{◌≡◌, ◌&&◌, find, nat_le};
 ghost use Rattle.std.specs.List.{list_any};
 ghost use Rattle.std.specs.Option.{option_map};
 ghost use Rattle.drmaa_types.specs.States.{is_waiting, is_state};
+ghost use Rattle.drmaa_model.specs.declared.rows.Row.{Row};
+ghost use Rattle.drmaa_model.specs.Fit.{IsRising, number_of};
 ghost use Rattle.drmaa_model.specs.Rows.{row_of};
 ghost use Rattle.drmaa_model.specs.Time.{rows_at};
+ghost use Rattle.plan_book.specs.Blocks.{rows_in};
 ghost use Rattle.scheduler_core.specs.Facts.{row_facts, job_from, is_own_member, lapses_at};
 
 use crate::cores::Core;
@@ -80,12 +83,7 @@ impl Core {
     pub fn next_row(&self, from: JobId) -> Option<JobId>
         ensures { result ≡ job_from from.0 self.now.plan }
     {
-        let rows = self.book.rows();
-        let first = rows.partition_point(|row| row.job.0 < from.0);
-        match rows.get(first) {
-            Some(row) => Some(row.job),
-            None => None,
-        }
+        first_in_blocks(self.book.blocks_from(from.0), from)
     }
 
     /// Whether a member of an array is kept that belongs to this home. Time makes no difference to it. It goes
@@ -93,7 +91,8 @@ impl Core {
     pub fn has_member(&self, home: Option<u64>, array: ArrayId) -> bool
         ensures { result ≡ list_any (is_own_member home array) self.now.plan.rows }
     {
-        is_any_own(self.book.meant_rows(Target::Array(array)), home, array)
+        let rows = self.book.meant_rows(Target::Array(array));
+        is_any_own(rows.alone, home, array) || is_any_own_in(rows.blocks, home, array)
     }
 
     /// Whether time would end a job that waits, when it comes to this moment.
@@ -144,6 +143,43 @@ fn is_any_own(rows: &[Row], home: Option<u64>, array: ArrayId) -> bool
     ensures { result ≡ list_any (is_own_member home array) rows.now }
 {
     rows.iter().any(|row| is_own_member(row, home, array))
+}
+
+/// The same of the jobs of these blocks.
+fn is_any_own_in(blocks: &[Vec<Row>], home: Option<u64>, array: ArrayId) -> bool
+    ensures { result ≡ list_any (is_own_member home array) (rows_in blocks.now) }
+{
+    for block in blocks {
+        if is_any_own(&block[..], home, array) {
+            return true;
+        }
+    }
+    false
+}
+
+/// The number of the first of these jobs that is this one or above it, which is found by halves.
+fn first_from(rows: &[Row], from: JobId) -> Option<JobId>
+    requires rising { IsRising number_of rows.now }
+    ensures { result ≡ option_map (λ (row : Row). row.job) (find (λ (row : Row). nat_le from.0 row.job.0) rows.now) }
+{
+    let first = rows.partition_point(|row| row.job.0 < from.0);
+    match rows.get(first) {
+        Some(row) => Some(row.job),
+        None => None,
+    }
+}
+
+/// The same of the jobs of these blocks.
+fn first_in_blocks(blocks: &[Vec<Row>], from: JobId) -> Option<JobId>
+    requires rising { IsRising number_of (rows_in blocks.now) }
+    ensures { result ≡ option_map (λ (row : Row). row.job) (find (λ (row : Row). nat_le from.0 row.job.0) (rows_in blocks.now)) }
+{
+    for block in blocks {
+        if let Some(job) = first_from(&block[..], from) {
+            return Some(job);
+        }
+    }
+    None
 }
 
 /// Whether a job is a member of an array, and belongs to this home.

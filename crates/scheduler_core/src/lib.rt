@@ -2,6 +2,7 @@
 #![tactic(auto)]
 
 mod batches;
+mod block_sums;
 mod bulks;
 mod controls;
 mod cores;

@@ -1,5 +1,5 @@
 //! Who may be launched at a moment, and with how many slots. None of it takes memory.
-ghost use Rattle.std.specs.Prelude.{◌≡◌, ◌+◌, ◌-◌, ◌^◌, ◌<◌, ◌≤◌, ◌&&◌, true, false, Some, map, filter, nat_le};
+ghost use Rattle.std.specs.Prelude.{◌≡◌, ◌+◌, ◌-◌, ◌^◌, ◌<◌, ◌≤◌, ◌++◌, ◌&&◌, List, true, false, Some, map, filter, nat_le};
 ghost use Rattle.std.specs.Option.{option_copied, option_map, option_map_or};
 ghost use Rattle.drmaa_model.specs.declared.reservations.Accepted.{Accepted};
 ghost use Rattle.drmaa_model.specs.declared.rows.Row.{Row};
@@ -7,7 +7,9 @@ ghost use Rattle.drmaa_model.specs.Load.{covers, in_reservation, in_array, holds
 ghost use Rattle.drmaa_model.specs.NextLaunch.{held, is_queued, is_reached, has_slots_in, better, best_of, settled, is_within_bound};
 ghost use Rattle.drmaa_model.specs.Time.{lasts, advance_plan};
 ghost use Rattle.plan_book.specs.Book.{plan_of, IsBook};
+ghost use Rattle.plan_book.specs.Open.{IsPriorityBound};
 ghost use Rattle.scheduler_core.specs.Demands.{IsUnmet};
+ghost use Rattle.scheduler_core.specs.Firsts.{first_of};
 ghost use Rattle.scheduler_core.specs.Launches.{seen, seen_row, may_launch, free_of, slots_of, IsMost};
 ghost use Rattle.scheduler_core.specs.Sums.{IsKnown};
 
@@ -55,11 +57,54 @@ pub fn first_ready_at<'a>(book: &'a Book, moment: Moment, used: u32) -> Option<&
     let mut best: Option<&Row> = None;
     let mut known = Known::new();
     let mut unmet = None;
-    for row in book.open_rows() {
+    for block in book.open_blocks() {
         if has_priority(best, greatest) {
             return best; // a later job of the same priority comes after it
         }
-        best = best_with(book, best, row, moment, used, &mut known, &mut unmet);
+        best = best_among(
+            book,
+            best,
+            &block[..],
+            moment,
+            used,
+            greatest,
+            &mut known,
+            &mut unmet,
+        );
+    }
+    best
+}
+
+/// The first in order of the best job before these and of those of these that may be launched. Where it finds one of a priority that no
+/// job's passes, it looks at none behind it.
+fn best_among<'a>(
+    book: &Book,
+    before: Option<&'a Row>,
+    rows: &'a [Row],
+    moment: Moment,
+    used: u32,
+    greatest: i32,
+    known: &mut Known,
+    unmet: &mut Option<Demand>,
+) -> Option<&'a Row>
+    requires book { IsBook book.now }
+    requires later { (plan_of book.now).moment ≤ moment }
+    requires used { used ≡ held (plan_of book.now).rows }
+    requires bound { IsPriorityBound rows.now greatest }
+    requires known { IsKnown (plan_of book.now).rows known.old }
+    requires unmet { IsUnmet moment (plan_of book.now) unmet.old }
+    ensures value { (rest : List Row) → IsPriorityBound rest greatest →
+        first_of (option_map (seen_row moment (plan_of book.now)) (option_copied result)) (best_of (filter (may_launch moment (plan_of book.now)) (map (seen_row moment (plan_of book.now)) rest)))
+        ≡ first_of (option_map (seen_row moment (plan_of book.now)) (option_copied before.entry)) (best_of (filter (may_launch moment (plan_of book.now)) (map (seen_row moment (plan_of book.now)) (rows.now ++ rest)))) }
+    ensures known { IsKnown (plan_of book.now).rows known.new }
+    ensures unmet { IsUnmet moment (plan_of book.now) unmet.new }
+{
+    let mut best = before;
+    for row in rows {
+        if has_priority(best, greatest) {
+            return best;
+        }
+        best = best_with(book, best, row, moment, used, known, unmet);
     }
     best
 }

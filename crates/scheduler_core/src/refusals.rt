@@ -43,7 +43,7 @@ fn jobs_refusal(book: &Book, indices: Option<Indices>) -> Option<Refusal>
     requires bulk { first_refusal (bulk_tests indices) ≡ None }
     ensures first { result ≡ first_refusal (jobs_tests indices (plan_of book.now)) }
 {
-    if book.rows().len() as u64 + u64::from(job_count(indices)) > MOST_JOBS {
+    if book.count().saturating_add(u128::from(job_count(indices))) > u128::from(MOST_JOBS) {
         Some(Refusal::OutOfResource(Limit::Jobs))
     } else {
         None

@@ -7,6 +7,7 @@ ghost use Rattle.drmaa_model.specs.Courses.{is_asked};
 ghost use Rattle.drmaa_model.specs.Events.{started_from, started_of};
 ghost use Rattle.drmaa_model.specs.Fit.{IsRising, number_of};
 ghost use Rattle.drmaa_model.specs.Time.{rows_at};
+ghost use Rattle.plan_book.specs.Blocks.{rows_in};
 ghost use Rattle.plan_book.specs.Book.{plan_of, IsBook};
 ghost use Rattle.scheduler_core.specs.Targets.{row_then};
 
@@ -21,7 +22,7 @@ impl Core {
     pub fn started(&self, at: Moment, from: JobId) -> Option<Started>
         ensures { result ≡ option_map started_of (started_from from.0 (rows_at at self.now.plan)) }
     {
-        match first_row(self.book.rows(), from) {
+        match first_in_blocks(self.book.blocks_from(from.0), from) {
             Some(row) => Some(started_then(&self.book, at, row)),
             None => None,
         }
@@ -71,4 +72,17 @@ fn first_row(rows: &[Row], from: JobId) -> Option<&Row>
     ensures { option_copied result ≡ started_from from.0 rows.now }
 {
     first_started(rows_from(rows, from))
+}
+
+/// The same of the jobs of these blocks.
+fn first_in_blocks(blocks: &[Vec<Row>], from: JobId) -> Option<&Row>
+    requires rising { IsRising number_of (rows_in blocks.now) }
+    ensures { option_copied result ≡ started_from from.0 (rows_in blocks.now) }
+{
+    for block in blocks {
+        if let Some(row) = first_row(&block[..], from) {
+            return Some(row);
+        }
+    }
+    None
 }

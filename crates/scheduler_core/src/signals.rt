@@ -3,6 +3,7 @@ ghost use Rattle.std.specs.Prelude.{◌≡◌, ◌≢◌, ◌≤◌, find, true,
 ghost use Rattle.std.specs.Option.{option_map};
 ghost use Rattle.drmaa_model.specs.Launching.{is_alive, is_due_now, next_signal, signal};
 ghost use Rattle.drmaa_model.specs.Time.{advance_plan, rows_at, kill_order};
+ghost use Rattle.plan_book.specs.Blocks.{rows_in};
 ghost use Rattle.plan_book.specs.Book.{plan_of, IsBook};
 ghost use Rattle.plan_book.specs.Occasions.{plan_at, StepsAt};
 ghost use Rattle.scheduler_core.specs.Signals.{IsNext, IsNextIn, is_killed, signal_for, take_move};
@@ -122,13 +123,34 @@ fn is_alive(phase: Phase) -> bool
     }
 }
 
-/// The first of the kills that time asks on its way to this moment that can be delivered. It looks at jobs alone on which time may act by
-/// then.
+/// The first of the kills that time asks on its way to this moment that can be delivered. It looks at the blocks of jobs alone from the
+/// first to the last on which time may act by then.
 fn kill_due(book: &Book, at: Moment) -> Option<Order>
     requires book { IsBook book.now }
     ensures { result ≡ option_map kill_order (find (is_killed at (plan_of book.now)) book.now.rows.items) }
 {
-    for row in book.due_rows(at) {
+    kill_in_blocks(book, at, book.due_blocks(at))
+}
+
+/// The first of those of the jobs of these blocks.
+fn kill_in_blocks(book: &Book, at: Moment, blocks: &[Vec<Row>]) -> Option<Order>
+    requires book { IsBook book.now }
+    ensures { result ≡ option_map kill_order (find (is_killed at (plan_of book.now)) (rows_in blocks.now)) }
+{
+    for block in blocks {
+        if let Some(kill) = kill_among(book, at, &block[..]) {
+            return Some(kill);
+        }
+    }
+    None
+}
+
+/// The first of those of these jobs.
+fn kill_among(book: &Book, at: Moment, rows: &[Row]) -> Option<Order>
+    requires book { IsBook book.now }
+    ensures { result ≡ option_map kill_order (find (is_killed at (plan_of book.now)) rows.now) }
+{
+    for row in rows {
         if is_killed(book, at, row) {
             return Some(kill_order(row));
         }

@@ -6,8 +6,7 @@ ghost use Rattle.drmaa_model.specs.Load.{in_array, in_queue, in_reservation};
 ghost use Rattle.plan_book.specs.Book.{plan_of, IsBook};
 ghost use Rattle.scheduler_core.specs.Sums.{IsMade, IsKnown};
 
-use crate::queues::in_queue;
-use crate::ready::{in_array, in_reservation};
+use crate::block_sums::{members_holding, queue_holding, reservation_holding};
 use drmaa_model::Target;
 use drmaa_types::{ArrayId, ReservationId};
 use plan_book::Book;
@@ -100,7 +99,7 @@ impl Known {
         if let Some(sum) = self.arrays.find(array.0) {
             return sum;
         }
-        let sum = in_array(book.meant_rows(Target::Array(array)), array);
+        let sum = members_holding(book.meant_rows(Target::Array(array)), array);
         self.arrays.note(array.0, sum);
         sum
     }
@@ -121,7 +120,7 @@ impl Known {
         if let Some(sum) = self.queues.find(number) {
             return sum;
         }
-        let sum = in_queue(book.open_rows(), place);
+        let sum = queue_holding(book.open_blocks(), place);
         self.queues.note(number, sum);
         sum
     }
@@ -141,7 +140,7 @@ impl Known {
         if let Some(sum) = self.reservations.find(number.0) {
             return sum;
         }
-        let sum = in_reservation(book.open_rows(), number);
+        let sum = reservation_holding(book.open_blocks(), number);
         self.reservations.note(number.0, sum);
         sum
     }

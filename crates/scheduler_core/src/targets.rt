@@ -5,6 +5,7 @@ ghost use Rattle.std.specs.Option.{option_copied, option_map};
 ghost use Rattle.drmaa_model.specs.declared.rows.Row.{Row};
 ghost use Rattle.drmaa_model.specs.Targets.{is_meant, argument_of};
 ghost use Rattle.drmaa_model.specs.Time.{rows_at};
+ghost use Rattle.plan_book.specs.Blocks.{rows_in};
 ghost use Rattle.plan_book.specs.Book.{plan_of, IsBook};
 ghost use Rattle.scheduler_core.specs.Targets.{may_act, refusal_of, row_then};
 
@@ -63,7 +64,11 @@ fn first_meant<'a>(book: &'a Book, target: &Target) -> Option<&'a Row>
     requires book { IsBook book.now }
     ensures { option_copied result ≡ find (is_meant target.now) book.now.rows.items }
 {
-    first_in(book.meant_rows(*target), target)
+    let rows = book.meant_rows(*target);
+    match first_in(rows.alone, target) {
+        Some(row) => Some(row),
+        None => first_in_blocks(rows.blocks, target),
+    }
 }
 
 /// The first of these jobs that is meant.
@@ -73,12 +78,26 @@ fn first_in<'a>(rows: &'a [Row], target: &Target) -> Option<&'a Row>
     rows.iter().find(|row| is_meant(target, row))
 }
 
+/// The same of the jobs of these blocks.
+fn first_in_blocks<'a>(blocks: &'a [Vec<Row>], target: &Target) -> Option<&'a Row>
+    ensures { option_copied result ≡ find (is_meant target.now) (rows_in blocks.now) }
+{
+    for block in blocks {
+        if let Some(row) = first_in(&block[..], target) {
+            return Some(row);
+        }
+    }
+    None
+}
+
 /// Whether the state of one of the jobs that are meant permits the call once time has come to this moment.
 fn is_any_permitted(book: &Book, at: Moment, target: &Target, act: Act) -> bool
     requires book { IsBook book.now }
     ensures { result ≡ list_any (λ (row : Row). is_meant target.now row && may_act act row.course.state) (rows_at at (plan_of book.now)) }
 {
-    is_any_among(book, at, book.meant_rows(*target), target, act)
+    let rows = book.meant_rows(*target);
+    is_any_among(book, at, rows.alone, target, act)
+        || is_any_in_blocks(book, at, rows.blocks, target, act)
 }
 
 /// The same of these jobs.
@@ -88,6 +107,19 @@ fn is_any_among(book: &Book, at: Moment, rows: &[Row], target: &Target, act: Act
 {
     for row in rows {
         if is_permitted(book, at, row, target, act) {
+            return true;
+        }
+    }
+    false
+}
+
+/// The same of the jobs of these blocks.
+fn is_any_in_blocks(book: &Book, at: Moment, blocks: &[Vec<Row>], target: &Target, act: Act) -> bool
+    requires book { IsBook book.now }
+    ensures { result ≡ list_any (λ (row : Row). is_meant target.now row && may_act act (row_then at (plan_of book.now) row).course.state) (rows_in blocks.now) }
+{
+    for block in blocks {
+        if is_any_among(book, at, &block[..], target, act) {
             return true;
         }
     }

@@ -34,7 +34,7 @@ fn push_array(
     let Some(array) = wants.array else {
         return Ok(());
     };
-    let holding = known.sum(machine.rows(), Share::Array(array));
+    let holding = known.sum(machine.blocks(), Share::Array(array));
     push_unless(list, holding < bound, Reason::ArrayFull { holding, bound })
 }
 
@@ -75,7 +75,7 @@ fn push_queue(
     let Some(queue) = queue_at(machine.queues(), place) else {
         return Ok(());
     };
-    let used = known.sum(machine.rows(), Share::Queue(place));
+    let used = known.sum(machine.blocks(), Share::Queue(place));
     push_unless(
         list,
         has_room(used, slots, queue.limit),
@@ -129,7 +129,7 @@ fn push_inside(
         until: a.until,
     };
     push_unless(list, covers(a, machine.moment()), outside)?;
-    let used = known.sum(machine.rows(), Share::Reservation(number));
+    let used = known.sum(machine.blocks(), Share::Reservation(number));
     let full = Reason::ReservationFull {
         reservation: number,
         used,

@@ -2,6 +2,7 @@
 ghost use Rattle.std.specs.Prelude.{◌≡◌, ◌^◌, ◌<◌, List, IfSome};
 ghost use Rattle.drmaa_model.specs.declared.rows.Row.{Row};
 ghost use Rattle.drmaa_model.specs.Load.{holds_in, held_in_queue, held_inside};
+ghost use Rattle.plan_book.specs.Blocks.{rows_in};
 ghost use Rattle.wait_reasons.specs.Sums.{adds, sum_of, IsKnown};
 
 use drmaa_model::Row;
@@ -106,6 +107,18 @@ fn sum_of(rows: &[Row], share: Share) -> u32
     sum
 }
 
+/// The sum over the jobs of these blocks.
+fn sum_in(blocks: &[Vec<Row>], share: Share) -> u32
+    requires few { sum_of share (rows_in blocks.now) < 2 ^ 32 }
+    ensures { result ≡ sum_of share (rows_in blocks.now) }
+{
+    let mut sum = 0;
+    for block in blocks {
+        sum += sum_of(&block[..], share);
+    }
+    sum
+}
+
 impl Known {
     /// Nothing is known yet.
     pub fn new() -> Known
@@ -135,17 +148,17 @@ impl Known {
         self.places[place_of(share)] = Some(Sum { share, sum });
     }
 
-    /// The sum over all rows.
-    pub fn sum(&mut self, rows: &[Row], share: Share) -> u32
-        requires few { sum_of share rows.now < 2 ^ 32 }
-        requires known { IsKnown rows.now self.old }
-        ensures value { result ≡ sum_of share rows.now }
-        ensures known { IsKnown rows.now self.new }
+    /// The sum over all rows, which stand in these blocks.
+    pub fn sum(&mut self, blocks: &[Vec<Row>], share: Share) -> u32
+        requires few { sum_of share (rows_in blocks.now) < 2 ^ 32 }
+        requires known { IsKnown (rows_in blocks.now) self.old }
+        ensures value { result ≡ sum_of share (rows_in blocks.now) }
+        ensures known { IsKnown (rows_in blocks.now) self.new }
     {
         if let Some(sum) = self.find(share) {
             return sum;
         }
-        let sum = sum_of(rows, share);
+        let sum = sum_in(blocks, share);
         self.note(share, sum);
         sum
     }

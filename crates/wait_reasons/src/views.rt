@@ -1,5 +1,6 @@
 //! Why each job that waits is not launched.
 ghost use Rattle.std.specs.Prelude.{◌≡◌, ◌++◌, IfOk, OnOk, string_bytes};
+ghost use Rattle.std.specs.List.{flat_map};
 ghost use Rattle.drmaa_model.specs.History.{now_of};
 ghost use Rattle.wait_reasons.specs.Sums.{IsKnown};
 ghost use Rattle.wait_reasons.specs.Texts as texts;
@@ -54,6 +55,24 @@ fn push_job(
     }
 }
 
+/// The same for each of these jobs.
+fn push_jobs(
+    out: &mut String,
+    alloc: Global,
+    machine: &Machine,
+    rows: &[Row],
+    known: &mut Known,
+) -> Result<(), AllocError>
+    requires known { IsKnown (now_of machine.now.ledger).plan.rows known.old }
+    ensures text { OnOk result (string_bytes out.new ≡ string_bytes out.old ++ flat_map (texts.job_line (now_of machine.now.ledger).plan) rows.now) }
+    ensures known { IsKnown (now_of machine.now.ledger).plan.rows known.new }
+{
+    for row in rows {
+        push_job(out, alloc, machine, row, known)?;
+    }
+    Ok(())
+}
+
 /// The text that tells why each job that waits is not launched, for the machine as it is: a line for each, by number, with its
 /// reasons or `ready`.
 ///
@@ -65,8 +84,8 @@ pub fn print_why(alloc: Global, machine: &Machine) -> Result<Text, AllocError>
 {
     let mut out = String::new(alloc);
     let mut known = Known::new();
-    for row in machine.rows() {
-        push_job(&mut out, alloc, machine, row, &mut known)?;
+    for block in machine.blocks() {
+        push_jobs(&mut out, alloc, machine, &block[..], &mut known)?;
     }
     Ok(Text::from_string(out))
 }

@@ -34,8 +34,8 @@ loop-row-preserved c =
           })
     ]
 
-pub returns : goal.returns
-returns c = λ text beside.
+pub returns-clause-room : goal.returns-clause-room
+returns-clause-room c = λ text beside.
     (let leaves : Row → Bool = λ (row : Row). is_meant c.args.target.now row && is_done row in
     let none : kept_text (filter leaves (drop c.loop-row.row-index c.args.rows.now)) ≡ 0 = ap (λ (rs : List Row). kept_text (filter leaves rs)) (drop_of_length-le c.args.rows.now c.loop-row-test.false) in
     let is : c.loop-row.text ≡ text = omega (arith, c.loop-row.invariant.text text beside, none) in

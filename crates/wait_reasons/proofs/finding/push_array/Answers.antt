@@ -10,5 +10,5 @@ sum-holding-requires-clause-few c =
     let p = (now_of c.args.machine.now.ledger).plan in
     let few : sum_of (Array c.in-Some-array.array) p.rows ≤ p.total = members-few c.in-Some-array.array p c.requires.sums.fit in
     let total = c.requires.sums.total in
-    let same = ap (sum_of (Array c.in-Some-array.array)) c.rows.ensures in
+    let same = ap (sum_of (Array c.in-Some-array.array)) c.blocks-2.ensures in
     omega arith

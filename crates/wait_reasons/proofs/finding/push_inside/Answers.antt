@@ -10,5 +10,5 @@ sum-used-requires-clause-few c =
     let p = (now_of c.args.machine.now.ledger).plan in
     let few : sum_of (Reservation c.args.number) p.rows ≤ p.total = inside-few c.args.number p c.requires.sums.fit in
     let total = c.requires.sums.total in
-    let same = ap (sum_of (Reservation c.args.number)) c.rows.ensures in
+    let same = ap (sum_of (Reservation c.args.number)) c.blocks-2.ensures in
     omega arith

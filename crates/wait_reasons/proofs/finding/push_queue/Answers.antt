@@ -10,5 +10,5 @@ sum-used-requires-clause-few c =
     let p = (now_of c.args.machine.now.ledger).plan in
     let few : sum_of (Queue c.args.place) p.rows ≤ p.total = queue-few c.args.place p c.requires.sums.fit in
     let total = c.requires.sums.total in
-    let same = ap (sum_of (Queue c.args.place)) c.rows.ensures in
+    let same = ap (sum_of (Queue c.args.place)) c.blocks-2.ensures in
     omega arith

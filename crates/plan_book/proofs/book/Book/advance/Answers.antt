@@ -9,7 +9,7 @@ use Rattle.plan_book.specs.Quiet.{AreCovered}
 use Rattle.plan_book.proofs.BlockLaws.{quiet-advance, covered-after, spared-none}
 use Rattle.plan_book.proofs.QuietLaws.{quiet-calendar, gone-none}
 use Rattle.plan_book.proofs.book.Book.advance.Goals as goal
-use Rattle.plan_book.proofs.book.Book.advance.Goals.{After-all_blocks, After-due_blocks}
+use Rattle.plan_book.proofs.book.Book.advance.Goals.{After-all_blocks, After-due_places}
 
 pub returns-then-not-is_past-clause-plan : goal.returns-then-not-is_past-clause-plan
 returns-then-not-is_past-clause-plan c =
@@ -54,7 +54,7 @@ sweep-requires-clause-outside c =
 
 -- ---- none ends: the other blocks are left
 
-lasting-ahead : (c : After-due_blocks) → is_past (max c.args.self.now.moment c.args.at) c.args.self.now.alarm.lasting ≡ false
+lasting-ahead : (c : After-due_places) → is_past (max c.args.self.now.moment c.args.at) c.args.self.now.alarm.lasting ≡ false
 lasting-ahead c = ap (λ (m : ℕ). is_past m c.args.self.now.alarm.lasting) (sym c.moment_at-moment.ensures) ∙ sym c.is_past-2.ensures ∙ c.if-is_past.false
 
 pub returns-else-is_past-clause-plan : goal.returns-else-is_past-clause-plan
@@ -63,10 +63,10 @@ returns-else-is_past-clause-plan c =
     let p = plan_of s in
     c.sweep-else-is_past.ensures.plan
     ∙ ap (λ (m : ℕ). let q : Plan = record p { moment = m } in call_in (expire c.args.entry q)) c.moment_at-moment.ensures
-    ∙ ap (λ (q : Plan). call_in (expire c.args.entry q)) (sym (gone-none s.alarm.lasting c.args.at p c.requires.quiet.reservations (lasting-ahead (goal.at.returns-else-is_past-clause-plan c).After-due_blocks)))
+    ∙ ap (λ (q : Plan). call_in (expire c.args.entry q)) (sym (gone-none s.alarm.lasting c.args.at p c.requires.quiet.reservations (lasting-ahead (goal.at.returns-else-is_past-clause-plan c).After-due_places)))
 
 pub returns-else-is_past-clause-calendar : goal.returns-else-is_past-clause-calendar
 returns-else-is_past-clause-calendar c =
     let s = c.args.self.now in
     c.sweep-else-is_past.ensures.calendar
-    ∙ sym (quiet-calendar s.alarm.lasting (max s.moment c.args.at) s.reservations.items s.calendar c.requires.quiet.reservations (lasting-ahead (goal.at.returns-else-is_past-clause-calendar c).After-due_blocks))
+    ∙ sym (quiet-calendar s.alarm.lasting (max s.moment c.args.at) s.reservations.items s.calendar c.requires.quiet.reservations (lasting-ahead (goal.at.returns-else-is_past-clause-calendar c).After-due_places))

@@ -30,7 +30,7 @@ after c = record (plan_of c.advance.new.self) { rows = c.drop_done.new.self.item
 
 plan : (c : After-drop_done) → after c ≡ left c
 plan c =
-    ap (λ (rs : List Row). let p : Plan = record (plan_of c.advance.new.self) { rows = rs } in p) c.drop_done.ensures
+    ap (λ (rs : List Row). let p : Plan = record (plan_of c.advance.new.self) { rows = rs } in p) c.drop_done.ensures.items
     ∙ ap (λ (p : Plan). let q : Plan = record p { rows = filter (λ (r : Row). not (is_meant c.args.target.now r && is_done r)) p.rows } in q) c.advance.ensures.plan
 
 fit : (c : After-drop_done) → IsFit (plan_at c.args.occasion (plan_of c.args.self.now))
@@ -66,8 +66,8 @@ returns-clause-book c =
     let same = size (goal.at.returns-clause-book c).After-weight in
     record {
       room = record {
-        changes = omega (arith, ap owed c.drop_done.ensures, left-owed (is_meant t) rows sound, c.advance.ensures.room.changes);
-        orders = omega (arith, ap owed_kills c.drop_done.ensures, left-owed_kills (is_meant t) rows sound, c.advance.ensures.room.orders);
+        changes = omega (arith, ap owed c.drop_done.ensures.items, left-owed (is_meant t) rows sound, c.advance.ensures.room.changes);
+        orders = omega (arith, ap owed_kills c.drop_done.ensures.items, left-owed_kills (is_meant t) rows sound, c.advance.ensures.room.orders);
       };
       fit = subst IsFit (sym (plan c)) (reap-fit t c.args.occasion.entry q (fit c));
       light = omega (arith, ap weight (plan c), same, c.weight.ensures, c.requires.book.light);
@@ -76,13 +76,13 @@ returns-clause-book c =
           (tied-reaped c.advance.new.self.calendar t q (fit c)
           (tied-then c.args.self.now.calendar c.advance.new.self.calendar c.args.occasion.entry c.args.occasion.at p q c.requires.book.fit c.requires.book.tied c.advance.ensures.calendar refl));
       quiet = (let was = c.advance.new.self in let left = quiet-left was.alarm (λ (r : Row). not (is_meant t r && is_done r)) (plan_of was) c.advance.ensures.quiet in
-          record { rows = subst (AllByRecursion (IsAlarmed was.alarm.ends.items was.reservations.items)) (sym c.drop_done.ensures) left.rows; reservations = left.reservations; soonest = left.soonest; few = left.few });
+          record { rows = subst (AllByRecursion (IsAlarmed was.alarm.ends.items was.reservations.items)) (sym c.drop_done.ensures.items) left.rows; reservations = left.reservations; soonest = left.soonest; few = left.few });
     }
 
 pub returns-clause-spare : goal.returns-clause-spare
 returns-clause-spare c =
     let same = left-owed (is_meant c.args.target.now) c.advance.new.self.rows.items (fit-then c).sound in
-    omega (arith, ap owed c.drop_done.ensures, same, c.advance.ensures.spare)
+    omega (arith, ap owed c.drop_done.ensures.items, same, c.advance.ensures.spare)
 
 pub returns-in_err-admit-clause-meets : goal.returns-in_err-admit-clause-meets
 returns-in_err-admit-clause-meets c =

@@ -21,7 +21,7 @@ use Rattle.plan_book.proofs.book.Book.forget_home.Goals.{After-leave_reservation
 
 rows : (c : After-leave_reservations) → c.leave_rows.new.self.items
     ≡ map (λ (row : Row). record row { home = left_by c.args.home row.home }) (filter (λ (row : Row). not (is_forgotten c.args.home row)) c.advance.new.self.rows.items)
-rows c = c.leave_rows.ensures ∙ ap (map (λ (row : Row). record row { home = left_by c.args.home row.home })) c.drop_forgotten.ensures
+rows c = c.leave_rows.ensures.items ∙ ap (map (λ (row : Row). record row { home = left_by c.args.home row.home })) c.drop_forgotten.ensures.items
 
 abbrev after : (c : After-leave_reservations) → Plan
 after c = record (plan_of c.advance.new.self) { rows = c.leave_rows.new.self.items; reservations = c.leave_reservations.new.rs.items }
@@ -41,7 +41,7 @@ fit-then c = subst IsFit (sym c.advance.ensures.plan) (fit c)
 pub drop_forgotten-requires : goal.drop_forgotten-requires
 drop_forgotten-requires c =
     (let then : IsFit (plan_of c.advance.new.self) = subst IsFit (sym c.advance.ensures.plan) (advance-fit c.args.entry c.args.at (plan_of c.args.self.now) c.requires.book.fit) in
-    record { sound = then.sound })
+    then.sound)
 
 pub returns-clause-plan : goal.returns-clause-plan
 returns-clause-plan c = plan c

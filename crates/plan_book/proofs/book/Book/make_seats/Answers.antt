@@ -11,7 +11,7 @@ returns-in_err-reach-clause-quiet c = λ quiet. (let then = c.reach.ensures.quie
 pub returns-clause-quiet : goal.returns-clause-quiet
 returns-clause-quiet c = λ quiet. (let then = c.reach.ensures.quiet (plan_of c.args.self.now) quiet in
     record {
-      rows = subst (AllByRecursion (IsAlarmed c.reach.new.self.ends.items c.args.self.now.reservations.items)) (sym c.reserve-2.ensures.items) then.rows;
+      rows = subst (AllByRecursion (IsAlarmed c.reach.new.self.ends.items c.args.self.now.reservations.items)) (sym c.reach-2.ensures.items) then.rows;
       reservations = then.reservations;
       soonest = then.soonest;
       few = then.few;

@@ -28,7 +28,7 @@ returns-clause-plan c =
     let p = plan_of c.args.self.now in
     let changes = c.push_change.ensures.items ∙ sym (moved-changes c.args.entry p c.args.m.now c.requires.fit c.requires.move_is) in
     ap (λ (cs : List Change). let q : Plan = record p { rows = c.put_course.new.self.items; orders = c.edit_orders.new.orders.items; changes = cs } in q) changes
-    ∙ ap (λ (rs : List Row). let q : Plan = record (moved c.args.entry c.args.m.now p) { rows = rs; orders = c.edit_orders.new.orders.items } in q) c.put_course.ensures
+    ∙ ap (λ (rs : List Row). let q : Plan = record (moved c.args.entry c.args.m.now p) { rows = rs; orders = c.edit_orders.new.orders.items } in q) c.put_course.ensures.items
     ∙ ap (λ (os : List Order). let q : Plan = record (moved c.args.entry c.args.m.now p) { orders = os } in q) c.edit_orders.ensures.items
 
 pub returns-clause-room : goal.returns-clause-room
@@ -36,7 +36,7 @@ returns-clause-room c =
     let p = plan_of c.args.self.now in
     let sum = moved-owed c.args.entry p c.args.m.now c.requires.fit c.requires.move_is in
     let asks = moved-owed_kills c.args.entry p c.args.m.now c.requires.fit c.requires.move_is in
-    let rows = c.put_course.ensures in
+    let rows = c.put_course.ensures.items in
     record {
       changes = omega (arith, ap owed rows, sum, c.requires.room.changes, c.requires.changes, c.push_change.ensures.len, c.push_change.ensures.capacity);
       orders = omega (arith, ap owed_kills rows, asks, c.requires.room.orders, c.requires.orders, c.edit_orders.ensures.len, c.edit_orders.ensures.capacity);
@@ -46,7 +46,7 @@ pub returns-clause-spare : goal.returns-clause-spare
 returns-clause-spare c =
     let p = plan_of c.args.self.now in
     let sum = moved-owed c.args.entry p c.args.m.now c.requires.fit c.requires.move_is in
-    omega (arith, ap owed c.put_course.ensures, sum, c.requires.room.changes, c.requires.changes, c.push_change.ensures.len, c.push_change.ensures.capacity)
+    omega (arith, ap owed c.put_course.ensures.items, sum, c.requires.room.changes, c.requires.changes, c.push_change.ensures.len, c.push_change.ensures.capacity)
 
 pub lower-requires : goal.lower-requires
 lower-requires c =
@@ -71,7 +71,7 @@ returns-clause-quiet c =
     let quiet : IsQuiet c.lower.new.self p = lowered-quiet s.alarm c.lower.new.self m.job.0 soon p within c.lower.ensures.ends c.lower.ensures.lasting c.lower.ensures.soonest c.requires.quiet in
     record {
       rows = subst (λ (ends : List End). AllByRecursion (IsAlarmed ends rs) c.put_course.new.self.items) (sym c.lower.ensures.ends)
-          (subst (AllByRecursion (IsAlarmed (lowered es m.job.0 soon) rs)) (sym c.put_course.ensures)
+          (subst (AllByRecursion (IsAlarmed (lowered es m.job.0 soon) rs)) (sym c.put_course.ensures.items)
           (alarmed-put es soon p m.job m.after row c.requires.quiet.rows c.requires.fit.jobs.rising found (c.soonest_with-soonest.ensures row found)));
       reservations = quiet.reservations;
       soonest = quiet.soonest;

@@ -1,12 +1,15 @@
-use Rattle.std.proofs.Common.{◌≡◌, ◌+◌, ◌<◌, length, max, refl, sym, ◌∙◌, ap, subst, arith}
+use Rattle.std.proofs.Common.{◌≡◌, ◌+◌, ◌<◌, ◌≤◌, length, max, refl, sym, ◌∙◌, ap, subst, arith}
 use Rattle.std.proofs.lemmas.Result.{err_from_is_err_and}
 use Rattle.drmaa_model.specs.declared.rows.Row.{Row}
 use Rattle.drmaa_model.specs.Fit.{IsFit}
 use Rattle.drmaa_model.specs.Plan.{Plan}
-use Rattle.drmaa_model.specs.RowLaws.{all-implied}
+use Rattle.drmaa_model.specs.RowLaws.{all-both, all-implied}
 use Rattle.drmaa_model.specs.Size.{weight}
 use Rattle.drmaa_model.specs.TimeLaws.{weight-advance}
 use Rattle.reservation_calendar.specs.Schedules.{Schedule}
+use Rattle.std.specs.List.{AllByRecursion}
+use Rattle.plan_book.specs.declared.rows.Places.{Places}
+use Rattle.plan_book.specs.Blocks.{IsInside}
 use Rattle.plan_book.specs.Book.{plan_of, joined, HasFewQueues}
 use Rattle.plan_book.specs.MeetLaws.{barred-meets}
 use Rattle.plan_book.specs.Occasions.{plan_at}
@@ -44,6 +47,26 @@ put_rows-requires-clause-covered c =
     all-implied (λ (row : Row). row.job.0 < p.next_job + length rows) (λ (row : Row). block_of row.job.0 < length c.advance.new.self.alarm.ends.items)
     (λ row below. omega (arith, below, reached, next, c.advance.ensures.blocks, c.len-2.ensures)) rows
     (all-right (λ (row : Row). row.job.0 < p.next_job + length rows) (plan_at at p).rows rows c.requires.fit.jobs.below)
+
+pub put_rows-requires-clause-seats : goal.put_rows-requires-clause-seats
+put_rows-requires-clause-seats c =
+    let p = plan_of c.args.self.now in
+    let at = c.args.occasion in
+    let rows = c.args.rows.items in
+    let made = c.in_ok-make_seats.ensures {u = tt} in
+    let reached = made.seats in
+    let lowest = made.first_seat in
+    let first = c.lowest_number.result in
+    let seats = c.advance.ensures.seats in
+    let next : c.make_seats.new.self.next_job ≡ p.next_job = ap (λ (x : Plan). x.next_job) c.make_seats.ensures.plan in
+    let Below : Row → Type 0 = λ row. row.job.0 < p.next_job + length rows in
+    let Above : Row → Type 0 = λ row. first ≤ row.job.0 in
+    all-implied (λ (row : Row). Below row × Above row) (λ (row : Row). IsInside c.advance.new.self.rows.seats (block_of row.job.0))
+    (λ row both.
+    (let below = both.0 in
+    let above = both.1 in
+    (omega (arith, above, lowest, ap (λ (s : Places). s.from) seats), omega (arith, below, reached, next, ap (λ (s : Places). s.until) seats, c.len-2.ensures)))) rows
+    (all-both Below Above rows (all-right Below (plan_at at p).rows rows c.requires.fit.jobs.below) (subst (AllByRecursion Above) c.deref.ensures.value c.lowest_number.ensures.before))
 
 tied : (c : After-put_rows) → IsTied c.put_rows.new.self.calendar (plan_of c.put_rows.new.self)
 tied c =

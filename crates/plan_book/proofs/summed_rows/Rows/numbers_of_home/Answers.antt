@@ -1,5 +1,5 @@
 use Rattle.std.proofs.Common.{Some, subst}
-use Rattle.std.specs.Global.{Vec}
+use Rattle.plan_book.specs.Blocks.{KeptRows, rows_in}
 use Rattle.std.specs.Prelude.{IfSome}
 use Rattle.drmaa_model.specs.declared.rows.Row.{Row}
 use Rattle.drmaa_model.specs.Homes.{is_same_home}
@@ -12,5 +12,5 @@ numbers_of-requires c = c.self.invariant.members.sorted.homes
 
 pub returns : goal.returns
 returns c =
-    subst (λ (v : Vec Row). IfSome c.numbers_of.result (HasNumbersOf (λ (row : Row). is_same_home (Some c.args.home) row.home) v.items)) c.self.view_is
-    (numbers-of_home c.args.home c.self.inside.spans c.numbers_of.result c.numbers_of.ensures c.self.inside.list.items c.self.invariant.members.members)
+    subst (λ (v : KeptRows). IfSome c.numbers_of.result (HasNumbersOf (λ (row : Row). is_same_home (Some c.args.home) row.home) v.items)) c.self.view_is
+    (numbers-of_home c.args.home c.self.inside.spans c.numbers_of.result c.numbers_of.ensures (rows_in c.self.inside.blocks.items) c.self.invariant.members.members)

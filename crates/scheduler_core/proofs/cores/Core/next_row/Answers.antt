@@ -1,45 +1,23 @@
-use Rattle.std.proofs.Common.{◌≡◌, rules, of_calls, ℕ, ◌<◌, ◌≤◌, nat_lt, nat_le, true, false, List, length, find, slice_index_or, Some, None, sym, ap, ◌∙◌, subst, arith}
+use Rattle.std.proofs.Common.{◌∙◌, nat_le, Bool, ap}
 use Rattle.std.specs.Option.{option_map}
-use Rattle.std.specs.Slice.{IsItemAt}
-use Rattle.std.specs.List.Sorted.{IsPartitionPoint}
-use Rattle.std.proofs.lemmas.Fn.{always_returns_same}
-use Rattle.std.proofs.lemmas.List.Sorted.{IsPartitionedBy-ltb}
+use Rattle.drmaa_types.specs.declared.identifiers.JobId.{JobId}
 use Rattle.drmaa_model.specs.declared.rows.Row.{Row}
-use Rattle.drmaa_model.specs.Fit.{IsRising, number_of}
+use Rattle.plan_book.specs.Blocks.{rows_in}
 use Rattle.plan_book.specs.Book.{plan_of}
 use Rattle.scheduler_core.specs.Facts.{job_from}
 use Rattle.scheduler_core.specs.View.{View}
-use Rattle.scheduler_core.proofs.FirstRows.{never_falls, find-first, find-past}
+use Rattle.scheduler_core.proofs.BlockLaws.{find-from, rising-from, too-low}
 use Rattle.scheduler_core.proofs.cores.Core.next_row.Goals as goal
 
--- the first row of a number or above it, where the list is cut
-first_is : (n : ℕ) (rows : List Row) (i : ℕ) (row : Row) → IsPartitionPoint (λ (r : Row). nat_lt r.job.0 n ≡ true) (λ (r : Row). nat_lt r.job.0 n ≡ false) rows i → i < length rows → row ≡ slice_index_or rows i row
-    → find (λ (r : Row). nat_le n r.job.0) rows ≡ Some row
-first_is n rows i row point within is = find-first number_of n rows i row (λ k e less. point.0 k e (omega arith) less) point.1 within ∙ ap (λ (r : Row). Some r) (sym is)
+pub first_in_blocks-requires : goal.first_in_blocks-requires
+first_in_blocks-requires c =
+    record { rising = rising-from c.args.from.0 (plan_of c.self.inside.book).rows (rows_in c.blocks_from.result.now) c.blocks_from.ensures c.self.invariant.fit.jobs.rising }
 
-none_is : (n : ℕ) (rows : List Row) (i : ℕ) → IsPartitionPoint (λ (r : Row). nat_lt r.job.0 n ≡ true) (λ (r : Row). nat_lt r.job.0 n ≡ false) rows i → length rows ≤ i → find (λ (r : Row). nat_le n r.job.0) rows ≡ None
-none_is n rows i point past = find-past number_of n rows (λ k e inside. point.0 k e (omega arith) (omega (arith, inside, past)))
-
-pub returns-in-Some : goal.returns-in-Some
-returns-in-Some c =
+pub returns : goal.returns
+returns c =
     let n = c.args.from.0 in
-    let rows = (plan_of c.self.inside.book).rows in
-    let list = c.rows-rows.result.now in
-    let same : list ≡ rows = c.rows-rows.ensures in
-    let rising : IsRising number_of list = subst (IsRising number_of) (sym same) c.self.invariant.fit.jobs.rising in
-    let point = c.partition_point-first.ensures.partitioned (λ (row : Row). nat_lt row.job.0 n) (always_returns_same _ _ _ (λ a r f k. search (rules, of_calls))) (IsPartitionedBy-ltb number_of list n (never_falls number_of list rising)) in
-    let found : IsItemAt list c.partition_point-first.result (Some c.in-Some.row) = c.in-Some.ensures.lookup in
-    ap (option_map (λ (row : Row). row.job)) (sym (first_is n list c.partition_point-first.result c.in-Some.row.now point found.3.0 found.1) ∙ ap (find (λ (r : Row). nat_le n r.job.0)) same)
-    ∙ ap (λ (v : View). job_from n v.plan) c.self.view_is
-
-pub returns-in-None : goal.returns-in-None
-returns-in-None c =
-    let n = c.args.from.0 in
-    let rows = (plan_of c.self.inside.book).rows in
-    let list = c.rows-rows.result.now in
-    let same : list ≡ rows = c.rows-rows.ensures in
-    let rising : IsRising number_of list = subst (IsRising number_of) (sym same) c.self.invariant.fit.jobs.rising in
-    let point = c.partition_point-first.ensures.partitioned (λ (row : Row). nat_lt row.job.0 n) (always_returns_same _ _ _ (λ a r f k. search (rules, of_calls))) (IsPartitionedBy-ltb number_of list n (never_falls number_of list rising)) in
-    let past : IsItemAt list c.partition_point-first.result None = c.in-None.ensures.lookup in
-    ap (option_map (λ (row : Row). row.job)) (sym (none_is n list c.partition_point-first.result point past.3) ∙ ap (find (λ (r : Row). nat_le n r.job.0)) same)
+    let test : Row → Bool = λ (row : Row). nat_le n row.job.0 in
+    let number : Row → JobId = λ (row : Row). row.job in
+    c.first_in_blocks.ensures
+    ∙ ap (option_map number) (find-from n (plan_of c.self.inside.book).rows (rows_in c.blocks_from.result.now) c.blocks_from.ensures test (λ row less. too-low n row.job.0 less))
     ∙ ap (λ (v : View). job_from n v.plan) c.self.view_is

@@ -1,0 +1,18 @@
+use Rattle.std.proofs.Common.{◌≤◌, take, arith}
+use Rattle.drmaa_model.specs.declared.rows.Row.{Row}
+use Rattle.drmaa_model.specs.RowLaws.{all-implied}
+use Rattle.plan_book.proofs.QuietLaws.{all-more}
+use Rattle.plan_book.proofs.arrivals.lowest_number.Goals as goal
+
+pub loop-row-preserved : goal.loop-row-preserved
+loop-row-preserved c =
+    let xs = c.args.rows.now in
+    let i = c.loop-row.row-index in
+    let was = c.loop-row.first in
+    let now = c.min-first.result in
+    record {
+      less = omega (arith, c.min-first.ensures, c.loop-row.invariant.less);
+      before = all-more (λ (row : Row). now ≤ row.job.0) xs i c.row-item.result c.loop-row-test.true c.row-item.is
+          (all-implied (λ (row : Row). was ≤ row.job.0) (λ (row : Row). now ≤ row.job.0) (λ row less. omega (arith, less, c.min-first.ensures)) (take i xs) c.loop-row.invariant.before)
+          (omega (arith, c.min-first.ensures));
+    }

@@ -1,0 +1,12 @@
+use Rattle.std.proofs.Common.{◌≡◌, ◌≤◌, ℕ, take, length}
+use Rattle.plan_book.specs.Blocks.{AreBlocks, rows_in}
+use Rattle.plan_book.proofs.RowsKept.{AreGone}
+use Rattle.plan_book.proofs.blocks.let_go.Given as goal
+
+abbrev pub invariant-loop-block : goal.invariant-loop-block
+invariant-loop-block l = record {
+  are : (from : ℕ) → l.fn.places.until ≤ from → AreBlocks from 0 l.fn.blocks.items → AreBlocks from 0 l.blocks.items;
+  rows : (n : ℕ) → rows_in (take n l.blocks.items) ≡ rows_in (take n l.fn.blocks.items);
+  gone : AreGone l.fn.places.from l.block l.blocks.items;
+  len : length l.blocks.items ≡ length l.fn.blocks.items;
+}

@@ -1,0 +1,6 @@
+use Rattle.std.proofs.Common.{length, arith}
+use Rattle.plan_book.proofs.BlockRows.{blocks-any}
+use Rattle.plan_book.proofs.summed_rows.Rows.row_of.Goals as goal
+
+pub row_of-requires : goal.row_of-requires
+row_of-requires c = blocks-any c.self.inside.first_seat (length c.self.inside.blocks.items) 0 c.self.inside.blocks.items c.self.invariant.ordered (omega arith)

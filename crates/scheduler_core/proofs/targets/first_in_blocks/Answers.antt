@@ -1,0 +1,17 @@
+use Rattle.std.proofs.Common.{◌∙◌, sym, arith}
+use Rattle.drmaa_model.specs.Targets.{is_meant}
+use Rattle.scheduler_core.proofs.BlockSearches.{find-behind, find-here, find-none}
+use Rattle.scheduler_core.proofs.targets.first_in_blocks.Goals as goal
+
+pub loop-block-preserved : goal.loop-block-preserved
+loop-block-preserved c =
+    c.loop-block.invariant
+    ∙ find-behind (is_meant c.args.target.now) c.args.blocks.now c.loop-block.block-index c.block-item.result c.deref.result.now c.loop-block-test.true c.block-item.is c.deref.ensures.value (sym (c.in_default.ensures {u = tt}))
+
+pub returns-in-Some : goal.returns-in-Some
+returns-in-Some c =
+    sym (c.loop-block.invariant
+    ∙ find-here (is_meant c.args.target.now) c.args.blocks.now c.loop-block.block-index c.block-item.result c.deref.result.now c.loop-block-test.true c.block-item.is c.deref.ensures.value c.in-Some.row.now (sym (c.in-Some.ensures {u = tt})))
+
+pub returns : goal.returns
+returns c = sym (c.loop-block.invariant ∙ find-none (is_meant c.args.target.now) c.args.blocks.now c.loop-block.block-index (omega (arith, c.loop-block-test.false)))
